@@ -1,0 +1,5 @@
+pub mod Tests
+pub mod Numbers
+pub mod Fill
+pub mod Words
+pub mod Counts

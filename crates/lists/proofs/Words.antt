@@ -1,0 +1,116 @@
+-- Laws of a word's bits, over its width. Assumes nothing.
+use Prim.Native.Nat.{ℕ, zero, suc, _+_, _-_, _*_, _/_, _%_, _^_, _≤_, _<_}
+use mathlib.Core.Bool.{Bool, true, false, not}
+use mathlib.Core.Path.{_≡_, refl, sym, ap, ap₂, _∙_, subst, subst⁻¹}
+use mathlib.Core.Logic.{_⊎_, inl, inr, ⊎-elim}
+use mathlib.Core.List.{List, [], _∷_}
+use native.Mathlib.Nat.{add-mul-div-right, one-mul, div-eq-of-lt, div-lt-iff-lt-mul, pow-suc, zero-div, mod-lt, mod-eq-of-lt, mod-one, le-of-suc-le-suc}
+use native.Mathlib.Decide.{decLt}
+use native.Mathlib.Numerals.{one-add}
+use native.Mathlib.Omega.{arith}
+use lib.Dec.{T, eqb}
+use lib.ListN.{length, getD}
+use lib.Pow.{pow-pos, pow-add, pow-mono, shr-shr, mod-pow-add}
+use borrow.Author.Tests.{eq-eqb, ne-eqb, eqb-true, eqb-false}
+use Rattle.lists.specs.Words.{bit, bitAt, inWord, wordOf}
+
+-- ---- one bit
+pub in-is-one : (w t : ℕ) → inWord w t ≡ true → bitAt w t ≡ 1
+in-is-one w t e = eqb-true (bitAt w t) 1 e
+
+pub out-is-zero : (w t : ℕ) → inWord w t ≡ false → bitAt w t ≡ 0
+out-is-zero w t e = omega (arith, eqb-false (bitAt w t) 1 e)
+
+pub one-is-in : (w t : ℕ) → bitAt w t ≡ 1 → inWord w t ≡ true
+one-is-in w t e = eq-eqb (bitAt w t) 1 e
+
+pub zero-is-out : (w t : ℕ) → bitAt w t ≡ 0 → inWord w t ≡ false
+zero-is-out w t e = ne-eqb (bitAt w t) 1 (λ p. omega arith)
+
+pub bit-zero : (w : ℕ) → bitAt w 0 ≡ w % 2
+bit-zero w = omega arith
+
+pub bit-suc : (w t : ℕ) → bitAt w (suc t) ≡ bitAt (w / 2) t
+bit-suc w t = ap (λ (x : ℕ). x % 2) (ap (λ (x : ℕ). w / 2 ^ x) (sym (one-add t)) ∙ sym (shr-shr w 1 t))
+
+-- the empty word, and places beyond the width
+pub none-in : (t : ℕ) → bitAt 0 t ≡ 0
+none-in t = ap (λ (x : ℕ). x % 2) (zero-div (2 ^ t))
+
+pub beyond : (k w t : ℕ) → w < 2 ^ k → k ≤ t → bitAt w t ≡ 0
+beyond k w t h l = ap (λ (x : ℕ). x % 2) (div-eq-of-lt (pow-room (pow-mono l)))
+  where
+    pow-room : 2 ^ k ≤ 2 ^ t → w < 2 ^ t
+    pow-room p = omega arith
+
+-- two words of one width with the same bits are equal
+pub word-ext : (k a b : ℕ) → a < 2 ^ k → b < 2 ^ k → ((t : ℕ) → t < k → bitAt a t ≡ bitAt b t) → a ≡ b
+word-ext zero a b ha hb f = omega arith
+word-ext (suc k) a b ha hb f =
+    let p : 2 ^ suc k ≡ 2 ^ k * 2 = pow-suc 2 k in
+    let ih : a / 2 ≡ b / 2 = word-ext k (a / 2) (b / 2) (omega arith) (omega arith) (λ t h. sym (bit-suc a t) ∙ f (suc t) (omega arith) ∙ bit-suc b t) in
+    let low : a % 2 ≡ b % 2 = sym (bit-zero a) ∙ f 0 (omega arith) ∙ bit-zero b in
+    omega arith
+
+-- ---- a bit put in
+below-of-div : (x k : ℕ) → x / 2 ^ k ≡ 0 → x < 2 ^ k
+below-of-div x k e = subst (λ (y : ℕ). x < y) (one-mul (2 ^ k)) (div-lt-iff-lt-mul (pow-pos k) .0 (omega arith))
+
+shift-add : (w t : ℕ) → (w + 2 ^ t) / 2 ^ t ≡ w / 2 ^ t + 1
+shift-add w t = ap (λ (x : ℕ). (w + x) / 2 ^ t) (sym (one-mul (2 ^ t))) ∙ add-mul-div-right w 1 (pow-pos t)
+
+pub put-same : (w t : ℕ) → bitAt w t ≡ 0 → bitAt (w + 2 ^ t) t ≡ 1
+put-same w t h = omega (arith, shift-add w t)
+
+-- above the bit that is put in nothing changes: u = t + 1 + d
+above : (w t d : ℕ) → bitAt w t ≡ 0 → (w + 2 ^ t) / 2 ^ (t + (1 + d)) ≡ w / 2 ^ (t + (1 + d))
+above w t d h =
+    sym (shr-shr (w + 2 ^ t) t (1 + d)) ∙ sym (shr-shr _ 1 d)
+    ∙ ap (λ (x : ℕ). x / 2 ^ 1 / 2 ^ d) (shift-add w t)
+    ∙ ap (λ (x : ℕ). x / 2 ^ d) (omega arith)
+    ∙ shr-shr _ 1 d ∙ shr-shr w t (1 + d)
+
+pub put-fits : (w t k : ℕ) → t < k → w < 2 ^ k → bitAt w t ≡ 0 → w + 2 ^ t < 2 ^ k
+put-fits w t k h f e =
+    let d : ℕ = k - (t + 1) in
+    let q : k ≡ t + (1 + d) = omega arith in
+    let z : w / 2 ^ k ≡ 0 = div-eq-of-lt f in
+    let n : (w + 2 ^ t) / 2 ^ k ≡ 0 = subst (λ (x : ℕ). (w + 2 ^ t) / 2 ^ x ≡ w / 2 ^ x) (sym q) (above w t d e) ∙ z in
+    below-of-div (w + 2 ^ t) k n
+
+pub put-other : (w t u : ℕ) → bitAt w t ≡ 0 → (u ≡ t → ⊥) → bitAt (w + 2 ^ t) u ≡ bitAt w u
+put-other w t u h ne = go (decLt t u)
+  where
+    go : Dec (t < u) → bitAt (w + 2 ^ t) u ≡ bitAt w u
+    go (yes lt) =
+        let d : ℕ = u - (t + 1) in
+        let q : u ≡ t + (1 + d) = omega arith in
+        ap (λ (x : ℕ). x % 2) (subst (λ (x : ℕ). (w + 2 ^ t) / 2 ^ x ≡ w / 2 ^ x) (sym q) (above w t d h))
+    go (no nlt) =
+        let d : ℕ = t - (u + 1) in
+        let q : t ≡ suc d + u = omega arith in
+        let p : 2 ^ t ≡ (2 ^ d * 2) * 2 ^ u = ap (λ (x : ℕ). 2 ^ x) q ∙ pow-add 2 (suc d) u ∙ ap (λ (x : ℕ). x * 2 ^ u) (pow-suc 2 d) in
+        let e : (w + 2 ^ t) / 2 ^ u ≡ w / 2 ^ u + 2 ^ d * 2 = ap (λ (x : ℕ). (w + x) / 2 ^ u) p ∙ add-mul-div-right w (2 ^ d * 2) (pow-pos u) in
+        omega arith
+
+-- ---- the word of a list of tests
+pub wordOf-lt : (bs : List Bool) → wordOf bs < 2 ^ length bs
+unfolding wordOf
+wordOf-lt [] = omega arith
+wordOf-lt (true ∷ bs) = omega (arith, wordOf-lt bs, pow-suc 2 (length bs))
+wordOf-lt (false ∷ bs) = omega (arith, wordOf-lt bs, pow-suc 2 (length bs))
+
+pub wordOf-at : (bs : List Bool) (t : ℕ) → bitAt (wordOf bs) t ≡ bit (getD bs t false)
+unfolding wordOf
+wordOf-at [] t = none-in t
+wordOf-at (true ∷ bs) zero = bit-zero _ ∙ omega arith
+wordOf-at (false ∷ bs) zero = bit-zero _ ∙ omega arith
+wordOf-at (true ∷ bs) (suc t) = bit-suc _ t ∙ ap (λ (x : ℕ). bitAt x t) (omega arith) ∙ wordOf-at bs t
+wordOf-at (false ∷ bs) (suc t) = bit-suc _ t ∙ ap (λ (x : ℕ). bitAt x t) (omega arith) ∙ wordOf-at bs t
+
+bit-test : (b : Bool) → eqb (bit b) 1 ≡ b
+bit-test true = refl
+bit-test false = refl
+
+pub in-wordOf : (bs : List Bool) (t : ℕ) → inWord (wordOf bs) t ≡ getD bs t false
+in-wordOf bs t = ap (λ (x : ℕ). eqb x 1) (wordOf-at bs t) ∙ bit-test (getD bs t false)

@@ -1,0 +1,108 @@
+use Prim.Native.Nat.{ℕ, _+_, _≤_, _-_}
+use mathlib.Core.Bool.{true, false}
+use mathlib.Core.Logic.{inl}
+use mathlib.Core.Path.{_≡_, refl, sym, ap, _∙_}
+use native.Mathlib.Omega.{arith}
+use borrow.Author.Needs.{needs}
+use borrow.Author.Tests.{not-true, not-false}
+use Rattle.lists.specs.Lists.{every, below}
+use Rattle.lists.proofs.Numbers.{all-more, all-fails}
+use Rattle.net.proofs.Sheet.{Before, before-more, placeHolds, place-seen, holds-places, few-stations, many-stations, many-links}
+use Rattle.net.proofs.keeps_sheet_rules.Statement.{statement}
+use Rattle.net.proofs.keeps_sheet_rules.Tie as tie
+use Rattle.net.proofs.keeps_sheet_rules.Reads as reads
+use Rattle.net.proofs.keeps_sheet_rules.Lts as lts
+use Rattle.net.proofs.place_holds.Reads as place-holds-reads
+
+abbrev Inv-loop : tie.InvT-loop
+Inv-loop net n m a₀ b₀ k₀ a b k = (k ≤ 64) × (every (placeHolds net) (below k) ≡ true) × Before net a b k
+
+abbrev μ-loop : tie.MeasureT-loop
+μ-loop net n m a₀ b₀ k₀ a b k = 64 - k
+
+-- src/lib.rt:56:9
+returns : tie.Need-returns Inv-loop μ-loop
+returns c = few-stations _ (c .if1 .taken)
+
+-- src/lib.rt:59:9
+returns-2 : tie.Need-returns-2 Inv-loop μ-loop
+returns-2 c = many-stations _ (c .if2 .taken)
+
+-- src/lib.rt:62:9
+returns-3 : tie.Need-returns-3 Inv-loop μ-loop
+returns-3 c = many-links _ (c .if3 .taken)
+
+-- src/lib.rt:66:5
+loop-holds : tie.Need-loop-holds Inv-loop μ-loop
+loop-holds c = (omega arith, refl, inl refl)
+
+-- src/lib.rt:67:17
+cast-i : tie.Need-cast-i Inv-loop μ-loop
+cast-i c = omega arith
+
+-- src/lib.rt:68:19
+element-copy-out-low : tie.Need-element-copy-out-low Inv-loop μ-loop
+element-copy-out-low c = omega arith
+
+-- src/lib.rt:69:20
+element-copy-out-high : tie.Need-element-copy-out-high Inv-loop μ-loop
+element-copy-out-high c = omega arith
+
+-- src/lib.rt:70:13
+place-holds-requires : tie.Need-place-holds-requires Inv-loop μ-loop
+place-holds-requires c κs = search needs
+
+-- src/lib.rt:71:13
+returns-4 : tie.Need-returns-4 Inv-loop μ-loop
+returns-4 c =
+    let net = c .before .before .before .before .before .before .before .before .before .args .t1 in
+    let l = c .before .before .before .before .before .loop in
+    sym (all-fails (placeHolds net) 64 (l .k) (omega arith)
+    (place-seen net (l .k) (l .a) (l .b) _ false (c .before .before .before .before .before .before .before .if2 .left) (c .before .before .before .before .before .before .if3 .left) (l .inv .2) (c .before .place-holds .ensures) (not-true _ (c .if4 .taken))))
+    ∙ holds-places net (c .before .before .before .before .before .before .before .before .if1 .left) (c .before .before .before .before .before .before .before .if2 .left) (c .before .before .before .before .before .before .if3 .left) (search needs) (search needs)
+
+-- src/lib.rt:66:9
+add-k : tie.Need-add-k Inv-loop μ-loop
+add-k c = omega arith
+
+-- src/lib.rt:66:5
+loop-less : tie.Need-loop-less Inv-loop μ-loop
+loop-less c = omega arith
+
+-- src/lib.rt:66:5
+loop-again : tie.Need-loop-again Inv-loop μ-loop
+loop-again c =
+    let net = c .before .before .before .before .before .before .before .before .before .args .t1 in
+    let l = c .before .before .before .before .before .loop in (
+      omega arith,
+      all-more (placeHolds net) (l .k) (l .inv .1)
+          (place-seen net (l .k) (l .a) (l .b) _ true (c .before .before .before .before .before .before .before .if2 .left) (c .before .before .before .before .before .before .if3 .left) (l .inv .2) (c .before .place-holds .ensures) (not-false _ (c .if4 .left))),
+      before-more net (l .k) _ _ refl refl,
+    )
+
+-- src/lib.rt:50:1
+returns-5 : tie.Need-returns-5 Inv-loop μ-loop
+returns-5 c =
+    let net = c .before .before .before .before .before .args .t1 in
+    let e : c .before .loop .k ≡ 64 = omega arith in
+    sym (c .before .loop .inv .1) ∙ ap (λ (n : ℕ). every (placeHolds net) (below n)) e ∙ holds-places net (c .before .before .before .before .if1 .left) (c .before .before .before .if2 .left) (c .before .before .if3 .left) (search needs) (search needs)
+
+pub keeps-sheet-rules-spec : {M : Type 1} → statement M
+keeps-sheet-rules-spec =
+    tie.close
+    (tie.spec
+    Inv-loop
+    μ-loop
+    returns
+    returns-2
+    returns-3
+    loop-holds
+    cast-i
+    element-copy-out-low
+    element-copy-out-high
+    place-holds-requires
+    returns-4
+    add-k
+    loop-less
+    loop-again
+    returns-5)

@@ -1,0 +1,35 @@
+-- Laws of the counter rules. Assumes nothing.
+use Prim.Native.Nat.{ℕ, _+_, _%_, _≤_, _<_, max}
+use mathlib.Core.Bool.{true, false}
+use mathlib.Core.Path.{_≡_, refl, sym, ap, _∙_}
+use mathlib.Core.List.{List, [], _∷_}
+use borrow.Author.Tests.{eq-eqb, ne-eqb, eqb-true, eqb-false, le-ltb, lt-ltb}
+use Rattle.reach.specs.Counters.{even, healed, healing, timedOut}
+
+pub even-is : (c : ℕ) → even c ≡ true → c % 2 ≡ 0
+even-is c e = eqb-true (c % 2) 0 e
+
+pub odd-is : (c : ℕ) → even c ≡ false → c % 2 ≡ 0 → ⊥
+odd-is c e = eqb-false (c % 2) 0 e
+
+pub timed-even : (c : ℕ) → c % 2 ≡ 0 → c + 1 ≡ timedOut c
+timed-even c h = simp (eq-eqb _ _ h)
+
+pub timed-odd : (c : ℕ) → (c % 2 ≡ 0 → ⊥) → c ≡ timedOut c
+timed-odd c h = simp (ne-eqb _ _ h)
+
+pub healed-even : (own carried : ℕ) → max own carried % 2 ≡ 0 → healed own carried ≡ max own carried
+unfolding healed
+healed-even own carried h = simp (eq-eqb _ _ h)
+
+pub healed-odd : (own carried : ℕ) → (max own carried % 2 ≡ 0 → ⊥) → healed own carried ≡ max own carried + 1
+unfolding healed
+healed-odd own carried h = simp (ne-eqb _ _ h)
+
+pub healing-fits : (own carried m : ℕ) → healed own carried ≡ m → m ≤ 65535 → 0 ∷ m ∷ [] ≡ healing own carried
+unfolding healing
+healing-fits own carried m e h = simp (e, le-ltb 65535 m h)
+
+pub healing-over : (own carried m : ℕ) → healed own carried ≡ m → 65535 < m → 8 ∷ [] ≡ healing own carried
+unfolding healing
+healing-over own carried m e h = simp (e, lt-ltb 65535 m h)

@@ -1,0 +1,6 @@
+pub mod CounterLaws
+pub mod ReachLaws
+pub mod Word
+pub mod Search
+pub mod Tables
+pub mod Cases

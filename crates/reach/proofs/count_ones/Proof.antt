@@ -1,0 +1,20 @@
+use native.Mathlib.Omega.{arith}
+use lib.Count.{ones-le}
+use Rattle.lists.proofs.Counts.{ones-bits}
+use Rattle.reach.specs.Values.{onesOf}
+use Rattle.reach.proofs.count_ones.Statement.{statement}
+use Rattle.reach.proofs.count_ones.Tie as tie
+use Rattle.reach.proofs.count_ones.Reads as reads
+use Rattle.reach.proofs.count_ones.Lts as lts
+
+-- src/lib.rt:172:5
+cast-result : tie.Need-cast-result
+cast-result c = omega (arith, ones-le 32 (c .args .word) (c .fits .word .fits))
+
+-- src/lib.rt:169:1
+returns : tie.Need-returns
+unfolding onesOf
+returns c = ones-bits 32 (c .args .word) (c .fits .word .fits)
+
+pub count-ones-spec : {M : Type 1} → statement M
+count-ones-spec = tie.close (tie.spec cast-result returns)

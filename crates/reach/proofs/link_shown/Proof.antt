@@ -1,0 +1,34 @@
+use mathlib.Core.Path.{sym, _∙_}
+use Rattle.reach.proofs.Tables.{shown-even, shown-odd, shown-none}
+use borrow.Author.Needs.{needs}
+use Rattle.reach.proofs.link_shown.Statement.{statement}
+use Rattle.reach.proofs.link_shown.Tie as tie
+use Rattle.reach.proofs.link_shown.Reads as reads
+use Rattle.reach.proofs.link_shown.Lts as lts
+use Rattle.reach.proofs.has_end.Reads as has-end-reads
+use Rattle.reach.proofs.is_even.Reads as is-even-reads
+
+-- src/lib.rt:231:8
+has-end-requires : tie.Need-has-end-requires
+has-end-requires c κs = search needs
+
+-- src/lib.rt:232:12
+is-even-requires : tie.Need-is-even-requires
+is-even-requires c κs = search needs
+
+-- src/lib.rt:228:1
+returns : tie.Need-returns
+returns c =
+    shown-even _ (c .before .before .before .before .args .counter) (sym (c .before .before .before .has-end .ensures) ∙ c .before .before .if1 .taken) (sym (c .before .is-even .ensures) ∙ c .if2 .taken)
+
+-- src/lib.rt:228:1
+returns-2 : tie.Need-returns-2
+returns-2 c =
+    shown-odd _ (c .before .before .before .before .args .counter) (sym (c .before .before .before .has-end .ensures) ∙ c .before .before .if1 .taken) (sym (c .before .is-even .ensures) ∙ c .if2 .left)
+
+-- src/lib.rt:228:1
+returns-3 : tie.Need-returns-3
+returns-3 c = shown-none _ (c .before .before .args .counter) (sym (c .before .has-end .ensures) ∙ c .if1 .left)
+
+pub link-shown-spec : {M : Type 1} → statement M
+link-shown-spec = tie.close (tie.spec has-end-requires is-even-requires returns returns-2 returns-3)

@@ -1,0 +1,31 @@
+use Rattle.reach.proofs.Word.{reached-is}
+use borrow.Author.Needs.{needs}
+use Rattle.reach.proofs.reach_of.Statement.{statement}
+use Rattle.reach.proofs.reach_of.Tie as tie
+use Rattle.reach.proofs.reach_of.Reads as reads
+use Rattle.reach.proofs.reach_of.Lts as lts
+use Rattle.reach.proofs.count_ones.Reads as count-ones-reads
+use Rattle.reach.proofs.lowest_missing.Reads as lowest-missing-reads
+use Rattle.reach.proofs.reach_word.Reads as reach-word-reads
+
+-- src/lib.rt:188:9
+reach-word-requires : tie.Need-reach-word-requires
+reach-word-requires c κs = search needs
+
+-- src/lib.rt:189:9
+count-ones-requires : tie.Need-count-ones-requires
+count-ones-requires c κs = search needs
+
+-- src/lib.rt:190:9
+lowest-missing-requires : tie.Need-lowest-missing-requires
+lowest-missing-requires c κs = search needs
+
+-- src/lib.rt:185:1
+returns : tie.Need-returns
+returns c =
+    let a = c .before .before .before .args in
+    reached-is (a .net) (a .counters) (a .s) _ _ _ (c .before .before .reach-word .ensures) (c .before .count-ones .ensures) (c .lowest-missing .ensures)
+
+pub reach-of-spec : {M : Type 1} → statement M
+reach-of-spec =
+    tie.close (tie.spec reach-word-requires count-ones-requires lowest-missing-requires returns)

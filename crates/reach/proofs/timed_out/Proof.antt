@@ -1,0 +1,28 @@
+use mathlib.Core.Path.{sym, _∙_}
+use native.Mathlib.Omega.{arith}
+use Rattle.reach.proofs.CounterLaws.{even-is, odd-is, timed-even, timed-odd}
+use borrow.Author.Needs.{needs}
+use Rattle.reach.proofs.timed_out.Statement.{statement}
+use Rattle.reach.proofs.timed_out.Tie as tie
+use Rattle.reach.proofs.timed_out.Reads as reads
+use Rattle.reach.proofs.timed_out.Lts as lts
+use Rattle.reach.proofs.is_even.Reads as is-even-reads
+
+-- src/lib.rt:39:8
+is-even-requires : tie.Need-is-even-requires
+is-even-requires c κs = search needs
+
+-- src/lib.rt:39:23
+add-result : tie.Need-add-result
+add-result c = omega (arith, even-is (c .before .before .args .own) (sym (c .before .is-even .ensures) ∙ c .if1 .taken), c .before .before .fits .own)
+
+-- src/lib.rt:36:1
+returns : tie.Need-returns
+returns c = timed-even _ (even-is _ (sym (c .before .is-even .ensures) ∙ c .if1 .taken))
+
+-- src/lib.rt:36:1
+returns-2 : tie.Need-returns-2
+returns-2 c = timed-odd _ (odd-is _ (sym (c .before .is-even .ensures) ∙ c .if1 .left))
+
+pub timed-out-spec : {M : Type 1} → statement M
+timed-out-spec = tie.close (tie.spec is-even-requires add-result returns returns-2)

@@ -1,0 +1,4 @@
+pub mod Counters
+pub mod Reach
+pub mod Values
+pub mod Steps

@@ -1,0 +1,25 @@
+-- What the private steps of the code answer: small tests that the laws of proofs/ join to Network and Reach. Assumes nothing.
+use Prim.Native.Nat.{ℕ, _+_, _^_, _<_}
+use mathlib.Core.Path.{_≡_}
+use mathlib.Core.Logic.{_⊎_}
+use mathlib.Core.Bool.{Bool, true, false, not, _&&_, _||_}
+use lib.Dec.{eqb, ltb}
+use Rattle.lists.specs.Lists.{if_then_else_}
+use Rattle.lists.specs.Words.{bitAt, inWord}
+use Rattle.reach.specs.Counters.{even}
+
+-- an even link between two of the n stations, of which the word has one and lacks the other
+abbrev pub crosses : ℕ → ℕ → ℕ → ℕ → ℕ → Bool
+crosses n a b c w = even c && (ltb a n && (ltb b n && not (eqb (bitAt w a) (bitAt w b))))
+
+-- r is the word w with one bit more: that of one of two ends of which w has the other
+pub record Apart (a b w r : ℕ) : Type 0 where
+  pub new : ℕ
+  pub small : new < 32
+  pub lacks : bitAt w new ≡ 0
+  pub more : r ≡ w + 2 ^ new
+  pub which : ((new ≡ a) × (bitAt w b ≡ 1)) ⊎ ((new ≡ b) × (bitAt w a ≡ 1))
+
+-- a link's counter after a purge, by its ends and the reach word
+abbrev pub purgedTo : ℕ → ℕ → ℕ → ℕ → ℕ
+purgedTo a b c w = if inWord w a || inWord w b then c else 1

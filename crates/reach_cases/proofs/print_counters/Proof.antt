@@ -1,0 +1,68 @@
+use Prim.Native.Nat.{_≤_, _-_, _+_, _*_}
+use mathlib.Core.Path.{_≡_}
+use native.Mathlib.Omega.{arith}
+use borrow.Author.Needs.{needs}
+use lib.ListN.{length}
+use Rattle.reach_cases.proofs.print_counters.Statement.{statement}
+use Rattle.reach_cases.proofs.print_counters.Tie as tie
+use Rattle.reach_cases.proofs.print_counters.Reads as reads
+use Rattle.reach_cases.proofs.print_counters.Lts as lts
+use Rattle.reach_cases.proofs.print_counter.Reads as print-counter-reads
+
+abbrev Inv-loop : tie.InvT-loop
+Inv-loop links counters k₀ k = k ≤ links
+
+abbrev μ-loop : tie.MeasureT-loop
+μ-loop links counters k₀ k = links - k
+
+-- src/main.rt:62:5
+loop-holds : tie.Need-loop-holds Inv-loop μ-loop
+loop-holds c = omega arith
+
+-- src/main.rt:63:17
+cast-i : tie.Need-cast-i Inv-loop μ-loop
+cast-i c = omega arith
+
+-- src/main.rt:64:23
+mul-print-counter : tie.Need-mul-print-counter Inv-loop μ-loop
+mul-print-counter c = omega arith
+
+-- src/main.rt:64:23
+array-read-print-counter : tie.Need-array-read-print-counter Inv-loop μ-loop
+array-read-print-counter c = omega arith
+
+-- src/main.rt:64:9
+print-counter-requires : tie.Need-print-counter-requires Inv-loop μ-loop
+print-counter-requires c κs = search needs
+
+-- src/main.rt:62:9
+add-k : tie.Need-add-k Inv-loop μ-loop
+add-k c = omega arith
+
+-- src/main.rt:62:5
+loop-less : tie.Need-loop-less Inv-loop μ-loop
+loop-less c = omega arith
+
+-- src/main.rt:62:5
+loop-again : tie.Need-loop-again Inv-loop μ-loop
+loop-again c = omega arith
+
+-- src/main.rt:59:1
+returns : tie.Need-returns Inv-loop μ-loop
+returns c = search needs
+
+pub print-counters-spec : {M : Type 1} → statement M
+print-counters-spec =
+    tie.close
+    (tie.spec
+    Inv-loop
+    μ-loop
+    loop-holds
+    cast-i
+    mul-print-counter
+    array-read-print-counter
+    print-counter-requires
+    add-k
+    loop-less
+    loop-again
+    returns)
