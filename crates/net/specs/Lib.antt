@@ -1,3 +1,4 @@
 pub mod Network
+pub mod Letters
 pub mod Values
 pub mod Steps

@@ -4,7 +4,7 @@ use mathlib.Core.Bool.{Bool, true, false, _&&_, _||_}
 use mathlib.Core.List.{List, [], _∷_}
 use lib.Dec.{eqb, leb, ltb}
 use lib.ListN.{length, getD}
-use Rattle.lists.specs.Lists.{every, below}
+use Rattle.lists.specs.Lists.{if_then_else_, keep, every, below}
 
 -- a link's two ends
 pub record Ends : Type 0 where
@@ -26,6 +26,18 @@ linkNumbers net = below (length (net .links))
 -- the link k joins u and t, whichever of them is its lower end
 abbrev pub ties : Network → ℕ → ℕ → ℕ → Bool
 ties net k u t = (eqb (ends net k .low) u && eqb (ends net k .high) t) || (eqb (ends net k .low) t && eqb (ends net k .high) u)
+
+-- s is an end of the link k
+abbrev pub isEnd : Network → ℕ → ℕ → Bool
+isEnd net k s = eqb (ends net k .low) s || eqb (ends net k .high) s
+
+-- the end of k that is not s
+abbrev pub other : Network → ℕ → ℕ → ℕ
+other net k s = if eqb (ends net k .low) s then ends net k .high else ends net k .low
+
+-- a station's own links, by number
+abbrev pub own : Network → ℕ → List ℕ
+own net s = keep (λ k. isEnd net k s) (linkNumbers net)
 
 -- ---- the sheet rules
 -- by first, then second end

@@ -1,4 +1,5 @@
-// The network as a value, and the sheet rules: what a sheet gives, and what every call that is given a network tests first.
+// The network and the letters that travel in it, as values, and the sheet rules: what every call that is given a network
+// tests first.
 ghost use mathlib.Core.Path.{_≡_};
 ghost use Rattle.net.specs.Values.{netHolds};
 ghost use Rattle.net.specs.Steps.{follows, placeTest};
@@ -9,6 +10,22 @@ pub struct Net {
     pub links: u8,
     pub low: [u8; 64],
     pub high: [u8; 64],
+}
+
+// What a letter says. The first variant is what an unused place holds.
+pub enum Body {
+    Request,
+    // with a counter
+    Reply(u16),
+    // with a subject link and its counter
+    Notice(u8, u16),
+}
+
+// A letter, with the link that it travels on and its sender.
+pub struct Letter {
+    pub link: u16,
+    pub sender: u16,
+    pub body: Body,
 }
 
 // Whether the link with the ends low and high is good and comes after the one with the ends a and b, if there is one.
