@@ -10,6 +10,7 @@ use native.Mathlib.Numerals.{one-add}
 use native.Mathlib.Omega.{arith}
 use lib.Dec.{T, eqb}
 use lib.ListN.{length, getD}
+use lib.Bits.{bitAnd, and-shr, and-mod}
 use lib.Pow.{pow-pos, pow-add, pow-mono, shr-shr, mod-pow-add}
 use borrow.Author.Tests.{eq-eqb, ne-eqb, eqb-true, eqb-false}
 use Rattle.lists.specs.Words.{bit, bitAt, inWord, wordOf}
@@ -92,6 +93,50 @@ put-other w t u h ne = go (decLt t u)
         let p : 2 ^ t ≡ (2 ^ d * 2) * 2 ^ u = ap (λ (x : ℕ). 2 ^ x) q ∙ pow-add 2 (suc d) u ∙ ap (λ (x : ℕ). x * 2 ^ u) (pow-suc 2 d) in
         let e : (w + 2 ^ t) / 2 ^ u ≡ w / 2 ^ u + 2 ^ d * 2 = ap (λ (x : ℕ). (w + x) / 2 ^ u) p ∙ add-mul-div-right w (2 ^ d * 2) (pow-pos u) in
         omega arith
+
+-- ---- a bit taken off
+pub off-room : (w t : ℕ) → bitAt w t ≡ 1 → 2 ^ t ≤ w
+off-room w t h = go (decLt w (2 ^ t))
+  where
+    go : Dec (w < 2 ^ t) → 2 ^ t ≤ w
+    go (yes l) = absurd (omega (arith, div-eq-of-lt l))
+    go (no l) = omega arith
+
+off-back : (w t : ℕ) → bitAt w t ≡ 1 → (w - 2 ^ t) + 2 ^ t ≡ w
+off-back w t h = omega (arith, off-room w t h)
+
+pub off-same : (w t : ℕ) → bitAt w t ≡ 1 → bitAt (w - 2 ^ t) t ≡ 0
+off-same w t h =
+    let e : w / 2 ^ t ≡ (w - 2 ^ t) / 2 ^ t + 1 = ap (λ (x : ℕ). x / 2 ^ t) (sym (off-back w t h)) ∙ shift-add (w - 2 ^ t) t in
+    omega arith
+
+pub off-other : (w t u : ℕ) → bitAt w t ≡ 1 → (u ≡ t → ⊥) → bitAt (w - 2 ^ t) u ≡ bitAt w u
+off-other w t u h ne = sym (put-other (w - 2 ^ t) t u (off-same w t h) ne) ∙ ap (λ (x : ℕ). bitAt x u) (off-back w t h)
+
+-- ---- the complement, and what two words share
+pub not-at : (k w t : ℕ) → t < k → w < 2 ^ k → bitAt ((2 ^ k - 1) - w) t ≡ 1 - bitAt w t
+not-at zero w t h l = absurd (omega arith)
+not-at (suc k) w zero h l =
+    let p : 2 ^ suc k ≡ 2 ^ k * 2 = pow-suc 2 k in
+    let o : ((2 ^ suc k - 1) - w) % 2 ≡ 1 - w % 2 = omega arith in
+    bit-zero ((2 ^ suc k - 1) - w) ∙ o ∙ ap (λ (x : ℕ). 1 - x) (sym (bit-zero w))
+not-at (suc k) w (suc t) h l =
+    let p : 2 ^ suc k ≡ 2 ^ k * 2 = pow-suc 2 k in
+    let q : ((2 ^ suc k - 1) - w) / 2 ≡ (2 ^ k - 1) - w / 2 = omega arith in
+    bit-suc ((2 ^ suc k - 1) - w) t ∙ ap (λ (x : ℕ). bitAt x t) q ∙ not-at k (w / 2) t (omega arith) (omega arith) ∙ ap (λ (x : ℕ). 1 - x) (sym (bit-suc w t))
+
+and-digits : (x y : ℕ) → x < 2 → y < 2 → bitAnd x y ≡ x * y
+and-digits zero zero h l = refl
+and-digits zero (suc zero) h l = refl
+and-digits (suc zero) zero h l = refl
+and-digits (suc zero) (suc zero) h l = refl
+and-digits zero (suc (suc y)) h l = absurd (omega arith)
+and-digits (suc zero) (suc (suc y)) h l = absurd (omega arith)
+and-digits (suc (suc x)) y h l = absurd (omega arith)
+
+pub and-at : (a b t : ℕ) → bitAt (bitAnd a b) t ≡ bitAt a t * bitAt b t
+and-at a b t =
+    ap (λ (x : ℕ). x % 2) (and-shr a b t) ∙ and-mod (a / 2 ^ t) (b / 2 ^ t) 1 ∙ and-digits (bitAt a t) (bitAt b t) (omega arith) (omega arith)
 
 -- ---- the word of a list of tests
 pub wordOf-lt : (bs : List Bool) → wordOf bs < 2 ^ length bs

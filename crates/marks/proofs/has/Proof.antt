@@ -1,0 +1,22 @@
+use mathlib.Core.Path.{sym}
+use Rattle.lists.proofs.Words.{beyond, zero-is-out}
+use borrow.Author.Needs.{needs}
+use Rattle.marks.proofs.has.Statement.{statement}
+use Rattle.marks.proofs.has.Tie as tie
+use Rattle.marks.proofs.has.Reads as reads
+use Rattle.marks.proofs.has.Lts as lts
+
+-- src/lib.rt:35:10
+shr-result : tie.Need-shr-result
+shr-result c = search needs
+
+-- src/lib.rt:31:1
+returns : tie.Need-returns
+returns c = search needs
+
+-- src/lib.rt:31:1
+returns-2 : tie.Need-returns-2
+returns-2 c = sym (zero-is-out _ _ (beyond 64 _ _ (c .before .fits .w .fits) (c .if1 .left)))
+
+pub has-spec : {M : Type 1} → statement M
+has-spec = tie.close (tie.spec shr-result returns returns-2)

@@ -1,0 +1,16 @@
+use borrow.Author.Tests.{eq-eqb, ne-eqb}
+use Rattle.marks.proofs.is_end.Statement.{statement}
+use Rattle.marks.proofs.is_end.Tie as tie
+use Rattle.marks.proofs.is_end.Reads as reads
+use Rattle.marks.proofs.is_end.Lts as lts
+
+-- src/lib.rt:94:9
+returns : tie.Need-returns
+returns c = simp (eq-eqb _ _ (c .if1 .taken))
+
+-- src/lib.rt:90:1
+returns-2 : tie.Need-returns-2
+returns-2 c = simp (ne-eqb _ _ (c .if1 .left))
+
+pub is-end-spec : {M : Type 1} → statement M
+is-end-spec = tie.close (tie.spec returns returns-2)

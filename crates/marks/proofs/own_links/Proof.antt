@@ -1,0 +1,89 @@
+use Prim.Native.Nat.{ℕ, _≤_, _<_, _-_, _+_}
+use mathlib.Core.Path.{_≡_, ap, _∙_}
+use native.Mathlib.Omega.{arith}
+use borrow.Author.Needs.{needs}
+use Rattle.net.specs.Values.{linkCount}
+use Rattle.marks.specs.Marks.{wordBy}
+use Rattle.marks.proofs.WordLaws.{ownUpTo, own-none, own-more}
+use Rattle.marks.proofs.own_links.Statement.{statement}
+use Rattle.marks.proofs.own_links.Tie as tie
+use Rattle.marks.proofs.own_links.Reads as reads
+use Rattle.marks.proofs.own_links.Lts as lts
+use Rattle.marks.proofs.at_most_64.Reads as at-most-64-reads
+use Rattle.marks.proofs.is_end.Reads as is-end-reads
+use Rattle.marks.proofs.put.Reads as put-reads
+
+abbrev Inv-loop : tie.InvT-loop
+Inv-loop s net m own₀ k₀ own k = (k ≤ m) × (own ≡ wordBy (ownUpTo net s k))
+
+abbrev μ-loop : tie.MeasureT-loop
+μ-loop s net m own₀ k₀ own k = m - k
+
+-- src/lib.rt:109:9
+at-most-64-requires : tie.Need-at-most-64-requires Inv-loop μ-loop
+at-most-64-requires c κs = search needs
+
+-- src/lib.rt:111:5
+loop-holds : tie.Need-loop-holds Inv-loop μ-loop
+loop-holds c = (omega arith, own-none _ _)
+
+-- src/lib.rt:112:17
+cast-i : tie.Need-cast-i Inv-loop μ-loop
+cast-i c = omega arith
+
+-- src/lib.rt:113:34
+element-copy-out-is-end : tie.Need-element-copy-out-is-end Inv-loop μ-loop
+element-copy-out-is-end c = omega arith
+
+-- src/lib.rt:113:46
+element-copy-out-is-end-2 : tie.Need-element-copy-out-is-end-2 Inv-loop μ-loop
+element-copy-out-is-end-2 c = omega arith
+
+-- src/lib.rt:113:27
+is-end-requires : tie.Need-is-end-requires Inv-loop μ-loop
+is-end-requires c κs = search needs
+
+-- src/lib.rt:113:9
+put-requires : tie.Need-put-requires Inv-loop μ-loop
+put-requires c κs = search needs
+
+-- src/lib.rt:111:9
+add-k : tie.Need-add-k Inv-loop μ-loop
+add-k c = omega arith
+
+-- src/lib.rt:111:5
+loop-less : tie.Need-loop-less Inv-loop μ-loop
+loop-less c = omega arith
+
+-- src/lib.rt:111:5
+loop-again : tie.Need-loop-again Inv-loop μ-loop
+loop-again c =
+    let a = c .before .before .before .before .before .before .before .args in
+    let l = c .before .before .before .before .before .loop in
+    let h : l .k < linkCount (a .t1) = omega (arith, c .before .before .before .before .before .before .at-most-64 .ensures) in
+    (omega arith, own-more (a .t1) (a .s) (l .k) (l .own) _ _ h (l .inv .1) (c .before .is-end .ensures) (c .put .ensures))
+
+-- src/lib.rt:106:1
+returns : tie.Need-returns Inv-loop μ-loop
+returns c =
+    let a = c .before .before .before .args in
+    let e : c .before .loop .k ≡ linkCount (a .t1) = omega (arith, c .before .before .at-most-64 .ensures) in
+    c .before .loop .inv .1 ∙ ap (λ (k : ℕ). wordBy (ownUpTo (a .t1) (a .s) k)) e
+
+pub own-links-spec : {M : Type 1} → statement M
+own-links-spec =
+    tie.close
+    (tie.spec
+    Inv-loop
+    μ-loop
+    at-most-64-requires
+    loop-holds
+    cast-i
+    element-copy-out-is-end
+    element-copy-out-is-end-2
+    is-end-requires
+    put-requires
+    add-k
+    loop-less
+    loop-again
+    returns)

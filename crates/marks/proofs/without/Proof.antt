@@ -1,0 +1,12 @@
+use Rattle.marks.proofs.WordLaws.{without-is}
+use Rattle.marks.proofs.without.Statement.{statement}
+use Rattle.marks.proofs.without.Tie as tie
+use Rattle.marks.proofs.without.Reads as reads
+use Rattle.marks.proofs.without.Lts as lts
+
+-- src/lib.rt:58:1
+returns : tie.Need-returns
+returns c = without-is (c .args .a) (c .args .b) (c .fits .a .fits) (c .fits .b .fits)
+
+pub without-spec : {M : Type 1} → statement M
+without-spec = tie.close (tie.spec returns)

@@ -1,0 +1,3 @@
+pub mod Holding
+pub mod Acts
+pub mod Values

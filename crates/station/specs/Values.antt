@@ -1,0 +1,66 @@
+-- What the code's values mean. Assumes nothing.
+use Prim.Native.Nat.{ℕ}
+use mathlib.Core.Bool.{Bool, true, false}
+use mathlib.Core.Path.{_≡_}
+use mathlib.Core.List.{List, [], _∷_, _++_, map}
+use lib.ListN.{length, getD, drop}
+use Rattle.lists.specs.Lists.{if_then_else_, keep, below}
+use Rattle.lists.specs.Words.{inWord, wordOf}
+use Rattle.net.specs.declared.Body.the-variants.{Request, Reply, Notice}
+use Rattle.net.specs.declared.Letter.{Letter}
+use Rattle.net.specs.declared.Net.{Net}
+use Rattle.net.specs.Values.{networkOf, linkCount}
+use Rattle.reach.specs.Values.{tableOf}
+use Rattle.marks.specs.Marks.{marksAt}
+use Rattle.marks.specs.declared.Marks.{Marks}
+use Rattle.marks.specs.declared.Words.{Words}
+use Rattle.station.specs.declared.Station.{Station}
+use Rattle.station.specs.declared.Sending.{Sending}
+use Rattle.station.specs.declared.Acted.{Acted}
+use Rattle.station.specs.Holding.{Holding}
+use Rattle.station.specs.Acts.{Done, letter, onEach, tell}
+
+-- what a station value holds
+unfoldable pub holdingOf : Net → Station → Holding
+holdingOf net st =
+    record { condition = st .condition; table = tableOf net (st .counters); marks = map (marksAt (st .marks)) (below (linkCount net)) }
+
+-- ---- a holding laid over the room of an old station value: the unused room stays
+abbrev pub bitsOf : ℕ → List Bool
+bitsOf w = map (inWord w) (below 64)
+
+abbrev pub laidWord : ℕ → ℕ → List Bool → ℕ
+laidWord n old bs = wordOf (bs ++ drop n (bitsOf old))
+
+abbrev pub laidWords : ℕ → Words → List Marks → Words
+laidWords n old ms =
+    record {
+      token = laidWord n (old .token) (map (λ m. m .token) ms);
+      turn = laidWord n (old .turn) (map (λ m. m .turn) ms);
+      testing = laidWord n (old .testing) (map (λ m. m .testing) ms);
+      asked = laidWord n (old .asked) (map (λ m. m .asked) ms);
+      quiet = laidWord n (old .quiet) (map (λ m. m .quiet) ms);
+    }
+
+unfoldable pub laid : Net → Station → Holding → Station
+laid net old h =
+    record {
+      condition = h .condition;
+      counters = h .table ++ drop (linkCount net) (old .counters);
+      marks = laidWords (linkCount net) (old .marks) (h .marks);
+    }
+
+-- ---- the letters that a sending means: requests by link; notices by subject, then by way; last the reply
+abbrev pub membersOf : ℕ → List ℕ
+membersOf w = keep (inWord w) (below 64)
+
+unfoldable pub lettersOf : ℕ → Sending → List Letter
+lettersOf s x =
+    onEach s Request (membersOf (x .requests))
+    ++ tell s (λ j. getD (x .told) j 0) (membersOf (x .subjects)) (membersOf (x .ways))
+    ++ (if x .replies then (letter s (x .link) (Reply (x .reply)) ∷ []) else [])
+
+-- what an act of the station s hands back: the holding laid over the old room, and a sending that means the letters
+pub record Does (net : Net) (s : ℕ) (old : Station) (d : Done) (r : Acted) : Type 0 where
+  pub station : r .station ≡ laid net old (d .holding)
+  pub sent : lettersOf s (r .send) ≡ d .sent
