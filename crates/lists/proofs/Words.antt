@@ -1,5 +1,5 @@
 -- Laws of a word's bits, over its width. Assumes nothing.
-use Prim.Native.Nat.{ℕ, zero, suc, _+_, _-_, _*_, _/_, _%_, _^_, _≤_, _<_}
+use Prim.Native.Nat.{ℕ, zero, suc, _+_, _-_, _*_, _/_, _%_, _^_, _≤_, _<_, max}
 use mathlib.Core.Bool.{Bool, true, false, not}
 use mathlib.Core.Path.{_≡_, refl, sym, ap, ap₂, _∙_, subst, subst⁻¹}
 use mathlib.Core.Logic.{_⊎_, inl, inr, ⊎-elim}
@@ -10,7 +10,7 @@ use native.Mathlib.Numerals.{one-add}
 use native.Mathlib.Omega.{arith}
 use lib.Dec.{T, eqb}
 use lib.ListN.{length, getD}
-use lib.Bits.{bitAnd, and-shr, and-mod}
+use lib.Bits.{bitAnd, and-shr, and-mod, bitOr, or-shr, or-mod}
 use lib.Pow.{pow-pos, pow-add, pow-mono, shr-shr, mod-pow-add}
 use borrow.Author.Tests.{eq-eqb, ne-eqb, eqb-true, eqb-false}
 use Rattle.lists.specs.Words.{bit, bitAt, inWord, wordOf}
@@ -137,6 +137,19 @@ and-digits (suc (suc x)) y h l = absurd (omega arith)
 pub and-at : (a b t : ℕ) → bitAt (bitAnd a b) t ≡ bitAt a t * bitAt b t
 and-at a b t =
     ap (λ (x : ℕ). x % 2) (and-shr a b t) ∙ and-mod (a / 2 ^ t) (b / 2 ^ t) 1 ∙ and-digits (bitAt a t) (bitAt b t) (omega arith) (omega arith)
+
+or-digits : (x y : ℕ) → x < 2 → y < 2 → bitOr x y ≡ max x y
+or-digits zero zero h l = refl
+or-digits zero (suc zero) h l = refl
+or-digits (suc zero) zero h l = refl
+or-digits (suc zero) (suc zero) h l = refl
+or-digits zero (suc (suc y)) h l = absurd (omega arith)
+or-digits (suc zero) (suc (suc y)) h l = absurd (omega arith)
+or-digits (suc (suc x)) y h l = absurd (omega arith)
+
+pub or-at : (a b t : ℕ) → bitAt (bitOr a b) t ≡ max (bitAt a t) (bitAt b t)
+or-at a b t =
+    ap (λ (x : ℕ). x % 2) (or-shr a b t) ∙ or-mod (a / 2 ^ t) (b / 2 ^ t) 1 ∙ or-digits (bitAt a t) (bitAt b t) (omega arith) (omega arith)
 
 -- ---- the word of a list of tests
 pub wordOf-lt : (bs : List Bool) → wordOf bs < 2 ^ length bs

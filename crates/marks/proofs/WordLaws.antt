@@ -1,12 +1,12 @@
 -- Laws of sets of links as words. Callers read a word by `in-by` and make one by `by-ext`. Assumes nothing.
-use Prim.Native.Nat.{ℕ, _+_, _-_, _*_, _%_, _^_, _≤_, _<_}
+use Prim.Native.Nat.{ℕ, _+_, _-_, _*_, _%_, _^_, _≤_, _<_, max}
 use mathlib.Core.Bool.{Bool, true, false, not, _&&_, _||_}
 use mathlib.Core.Path.{_≡_, refl, sym, ap, ap₂, _∙_, subst, subst⁻¹}
 use mathlib.Core.List.{List, map}
 use native.Mathlib.Nat.{one-mul, mod-eq-of-lt}
 use native.Mathlib.Decide.{decLt, ℕ-discrete}
 use native.Mathlib.Omega.{arith}
-use lib.Bits.{bitAnd, and-lt}
+use lib.Bits.{bitAnd, and-lt, bitOr, or-lt}
 use lib.Dec.{eqb, ltb}
 use lib.ListN.{length, getD}
 use lib.Pow.{pow-pos, pow-lt, ones-sub-lt}
@@ -14,12 +14,12 @@ use borrow.Author.Tests.{eq-eqb, ne-eqb, lt-ltb, le-ltb}
 use Rattle.lists.specs.Lists.{if_then_else_, below}
 use Rattle.lists.specs.Words.{bit, bitAt, inWord, wordOf}
 use Rattle.lists.proofs.Numbers.{getD-map-below, length-map-below}
-use Rattle.lists.proofs.Words.{in-is-one, out-is-zero, one-is-in, zero-is-out, beyond, none-in, word-ext, put-same, put-other, put-fits, off-room, off-same, off-other, not-at, and-at, wordOf-lt, wordOf-at, in-wordOf}
+use Rattle.lists.proofs.Words.{in-is-one, out-is-zero, one-is-in, zero-is-out, beyond, none-in, word-ext, put-same, put-other, put-fits, off-room, off-same, off-other, not-at, and-at, or-at, wordOf-lt, wordOf-at, in-wordOf}
 use Rattle.net.specs.declared.Net.{Net}
 use Rattle.net.specs.Network.{Ends, isEnd, ends}
 use Rattle.net.specs.Values.{networkOf, placeEnds, linkCount}
 use Rattle.net.proofs.ValueLaws.{ends-of}
-use Rattle.marks.specs.Marks.{wordBy, ownAt}
+use Rattle.marks.specs.Marks.{wordBy}
 
 module _ (f : ℕ → Bool) where
   pub by-lt : wordBy f < 2 ^ 64
@@ -121,29 +121,45 @@ without-is a b ha hb = by-ext (bitAnd a ((2 ^ 64 - 1) - b)) (λ t. inWord a t &&
         table false true = refl
         table false false = refl
 
--- ---- own links, one after the other
-module _ (net : Net) (s : ℕ) where
-  -- those among the first k links
-  abbrev pub ownUpTo : ℕ → ℕ → Bool
-  ownUpTo k t = ltb t k && isEnd (networkOf net) t s
+-- ---- a word made by a loop, one place after the other
+-- those among the first k that pass the test
+abbrev pub upTo : (ℕ → Bool) → ℕ → ℕ → Bool
+upTo q k t = ltb t k && q t
 
-  pub own-none : 0 ≡ wordBy (ownUpTo 0)
-  own-none = by-none (ownUpTo 0) (λ t h. ap (λ (b : Bool). b && isEnd (networkOf net) t s) (le-ltb t 0 (omega arith)))
+module _ (q : ℕ → Bool) where
+  pub upto-none : 0 ≡ wordBy (upTo q 0)
+  upto-none = by-none (upTo q 0) (λ t h. ap (λ (b : Bool). b && q t) (le-ltb t 0 (omega arith)))
 
-  pub own-more : (k w r : ℕ) (b : Bool) → k < linkCount net → w ≡ wordBy (ownUpTo k) → b ≡ (eqb (getD (net .low) k 0) s || eqb (getD (net .high) k 0) s)
-      → r ≡ wordBy (λ t. if eqb t k then b else inWord w t) → r ≡ wordBy (ownUpTo (k + 1))
-  own-more k w r b h e p q = q ∙ by-same (λ t. if eqb t k then b else inWord w t) (ownUpTo (k + 1)) (λ t l. go t l (ℕ-discrete t k))
+  pub upto-more : (k w r : ℕ) (b : Bool) → w ≡ wordBy (upTo q k) → b ≡ q k → r ≡ wordBy (λ t. if eqb t k then b else inWord w t)
+    → r ≡ wordBy (upTo q (k + 1))
+  upto-more k w r b e p d = d ∙ by-same (λ t. if eqb t k then b else inWord w t) (upTo q (k + 1)) (λ t l. go t l (ℕ-discrete t k))
     where
-      end : b ≡ isEnd (networkOf net) k s
-      end = p ∙ ap (λ (x : Ends). eqb (x .low) s || eqb (x .high) s) (sym (ends-of net k h))
-
-      later : (t : ℕ) → (t ≡ k → ⊥) → Dec (t < k) → (ltb t k && isEnd (networkOf net) t s) ≡ (ltb t (k + 1) && isEnd (networkOf net) t s)
-      later t n (yes l) = ap (λ (x : Bool). x && isEnd (networkOf net) t s) (lt-ltb t k l) ∙ ap (λ (x : Bool). x && isEnd (networkOf net) t s) (sym (lt-ltb t (k + 1) (omega arith)))
-      later t n (no l) = ap (λ (x : Bool). x && isEnd (networkOf net) t s) (le-ltb t k (omega arith)) ∙ ap (λ (x : Bool). x && isEnd (networkOf net) t s) (sym (le-ltb t (k + 1) (omega arith)))
-
-      go : (t : ℕ) → t < 64 → Dec (t ≡ k) → (if eqb t k then b else inWord w t) ≡ ownUpTo (k + 1) t
+      later : (t : ℕ) → (t ≡ k → ⊥) → Dec (t < k) → (ltb t k && q t) ≡ (ltb t (k + 1) && q t)
+      later t n (yes l) = ap (λ (x : Bool). x && q t) (lt-ltb t k l) ∙ ap (λ (x : Bool). x && q t) (sym (lt-ltb t (k + 1) (omega arith)))
+      later t n (no l) = ap (λ (x : Bool). x && q t) (le-ltb t k (omega arith)) ∙ ap (λ (x : Bool). x && q t) (sym (le-ltb t (k + 1) (omega arith)))
+      go : (t : ℕ) → t < 64 → Dec (t ≡ k) → (if eqb t k then b else inWord w t) ≡ upTo q (k + 1) t
       go t l (yes c) =
-          ap (λ (x : Bool). if x then b else inWord w t) (eq-eqb t k c) ∙ end ∙ ap (λ (x : ℕ). isEnd (networkOf net) x s) (sym c)
-          ∙ ap (λ (x : Bool). x && isEnd (networkOf net) t s) (sym (lt-ltb t (k + 1) (omega arith)))
+          ap (λ (x : Bool). if x then b else inWord w t) (eq-eqb t k c) ∙ p ∙ ap q (sym c)
+          ∙ ap (λ (x : Bool). x && q t) (sym (lt-ltb t (k + 1) (omega arith)))
       go t l (no n) =
-          ap (λ (x : Bool). if x then b else inWord w t) (ne-eqb t k n) ∙ ap (λ (x : ℕ). inWord x t) e ∙ in-by (ownUpTo k) t l ∙ later t n (decLt t k)
+          ap (λ (x : Bool). if x then b else inWord w t) (ne-eqb t k n) ∙ ap (λ (x : ℕ). inWord x t) e ∙ in-by (upTo q k) t l ∙ later t n (decLt t k)
+
+-- what the code reads off the ends of link k
+pub own-read : (net : Net) (s k : ℕ) (b : Bool) → k < linkCount net → b ≡ (eqb (getD (net .low) k 0) s || eqb (getD (net .high) k 0) s)
+  → b ≡ isEnd (networkOf net) k s
+own-read net s k b h p = p ∙ ap (λ (x : Ends). eqb (x .low) s || eqb (x .high) s) (sym (ends-of net k h))
+
+-- ---- what is in either of two words
+pub join-is : (a b : ℕ) → a < 2 ^ 64 → b < 2 ^ 64 → bitOr a b ≡ wordBy (λ t. inWord a t || inWord b t)
+join-is a b ha hb = by-ext (bitOr a b) (λ t. inWord a t || inWord b t) (or-lt 64 a b ha hb) (λ t l. go t (inWord a t) (inWord b t) refl refl)
+  where
+    go : (t : ℕ) (x y : Bool) → inWord a t ≡ x → inWord b t ≡ y → inWord (bitOr a b) t ≡ (inWord a t || inWord b t)
+    go t x y p q =
+        ap (λ (n : ℕ). eqb n 1) (or-at a b t ∙ ap₂ (λ (m n : ℕ). max m n) (bit-of a t x p) (bit-of b t y q))
+        ∙ table x y ∙ ap₂ (λ (m n : Bool). m || n) (sym p) (sym q)
+      where
+        table : (x y : Bool) → eqb (max (bit x) (bit y)) 1 ≡ (x || y)
+        table true true = refl
+        table true false = refl
+        table false true = refl
+        table false false = refl

@@ -57,6 +57,13 @@ pub fn without(a: u64, b: u64) -> u64
     a & !b
 }
 
+// What is in either set.
+pub fn join(a: u64, b: u64) -> u64
+    ensures { λ r. ⌜ r ≡ wordBy (λ t. inWord a t || inWord b t) ⌝ }
+{
+    a | b
+}
+
 // The five marks of link k.
 pub fn marks_at(w: Words, k: u8) -> Marks
     ensures { λ r. ⌜ r ≡ marksAt w k ⌝ }

@@ -2,9 +2,10 @@ use Prim.Native.Nat.{ℕ, _≤_, _<_, _-_, _+_}
 use mathlib.Core.Path.{_≡_, ap, _∙_}
 use native.Mathlib.Omega.{arith}
 use borrow.Author.Needs.{needs}
-use Rattle.net.specs.Values.{linkCount}
+use Rattle.net.specs.Network.{isEnd}
+use Rattle.net.specs.Values.{networkOf, linkCount}
 use Rattle.marks.specs.Marks.{wordBy}
-use Rattle.marks.proofs.WordLaws.{ownUpTo, own-none, own-more}
+use Rattle.marks.proofs.WordLaws.{upTo, upto-none, upto-more, own-read}
 use Rattle.marks.proofs.own_links.Statement.{statement}
 use Rattle.marks.proofs.own_links.Tie as tie
 use Rattle.marks.proofs.own_links.Reads as reads
@@ -14,7 +15,7 @@ use Rattle.marks.proofs.is_end.Reads as is-end-reads
 use Rattle.marks.proofs.put.Reads as put-reads
 
 abbrev Inv-loop : tie.InvT-loop
-Inv-loop s net m own₀ k₀ own k = (k ≤ m) × (own ≡ wordBy (ownUpTo net s k))
+Inv-loop s net m own₀ k₀ own k = (k ≤ m) × (own ≡ wordBy (upTo (λ t. isEnd (networkOf net) t s) k))
 
 abbrev μ-loop : tie.MeasureT-loop
 μ-loop s net m own₀ k₀ own k = m - k
@@ -25,7 +26,7 @@ at-most-64-requires c κs = search needs
 
 -- src/lib.rt:111:5
 loop-holds : tie.Need-loop-holds Inv-loop μ-loop
-loop-holds c = (omega arith, own-none _ _)
+loop-holds c = (omega arith, upto-none _)
 
 -- src/lib.rt:112:17
 cast-i : tie.Need-cast-i Inv-loop μ-loop
@@ -61,14 +62,14 @@ loop-again c =
     let a = c .before .before .before .before .before .before .before .args in
     let l = c .before .before .before .before .before .loop in
     let h : l .k < linkCount (a .t1) = omega (arith, c .before .before .before .before .before .before .at-most-64 .ensures) in
-    (omega arith, own-more (a .t1) (a .s) (l .k) (l .own) _ _ h (l .inv .1) (c .before .is-end .ensures) (c .put .ensures))
+    (omega arith, upto-more (λ t. isEnd (networkOf (a .t1)) t (a .s)) (l .k) (l .own) _ _ (l .inv .1) (own-read (a .t1) (a .s) (l .k) _ h (c .before .is-end .ensures)) (c .put .ensures))
 
 -- src/lib.rt:106:1
 returns : tie.Need-returns Inv-loop μ-loop
 returns c =
     let a = c .before .before .before .args in
     let e : c .before .loop .k ≡ linkCount (a .t1) = omega (arith, c .before .before .at-most-64 .ensures) in
-    c .before .loop .inv .1 ∙ ap (λ (k : ℕ). wordBy (ownUpTo (a .t1) (a .s) k)) e
+    c .before .loop .inv .1 ∙ ap (λ (k : ℕ). wordBy (upTo (λ t. isEnd (networkOf (a .t1)) t (a .s)) k)) e
 
 pub own-links-spec : {M : Type 1} → statement M
 own-links-spec =

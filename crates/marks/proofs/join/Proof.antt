@@ -1,0 +1,12 @@
+use Rattle.marks.proofs.WordLaws.{join-is}
+use Rattle.marks.proofs.join.Statement.{statement}
+use Rattle.marks.proofs.join.Tie as tie
+use Rattle.marks.proofs.join.Reads as reads
+use Rattle.marks.proofs.join.Lts as lts
+
+-- src/lib.rt:61:1
+returns : tie.Need-returns
+returns c = join-is (c .args .a) (c .args .b) (c .fits .a .fits) (c .fits .b .fits)
+
+pub join-spec : {M : Type 1} → statement M
+join-spec = tie.close (tie.spec returns)
