@@ -1,15 +1,14 @@
 -- A flood of notices dies out: the theorem, over runs of any length. Assumes nothing.
-use Prim.Native.Nat.{ℕ, zero, suc, _+_, _≤_, _<_}
+use Prim.Native.Nat.{ℕ, _≤_}
 use mathlib.Core.Path.{_≡_, subst}
 use native.Mathlib.Nat.{le-refl, le-trans, le-max-left, le-max-right}
 use native.Mathlib.Omega.{arith}
 use lib.Dec.{eqb, eqb-refl}
-use Rattle.lists.specs.Lists.{below}
 use Rattle.lists.specs.Places.{largestOf}
 use Rattle.lists.proofs.Tests.{T-is}
 use Rattle.lists.proofs.Sums.{in-largest, below-largest}
-use Rattle.ranks.specs.Flood.{Notice, Flood, Site, _∈_, Settles, Run, none, more}
-use Rattle.ranks.specs.Bound.{carried, highest, potential, bound, DiesOut}
+use Rattle.ranks.specs.Flood.{Notice, Flood, Site, Run, none, more}
+use Rattle.ranks.specs.Bound.{carried, highest, bound, DiesOut}
 use Rattle.ranks.proofs.Settling.{Under, Pays, settling-pays}
 
 -- a run pays for each notice that it settles

@@ -1,11 +1,11 @@
 -- A delivery is a settling, and merges: a receiver that hears ends with the larger of its own rank and the carried one.
 -- Assumes nothing.
-use Prim.Native.Nat.{ℕ, _≤_, max}
+use Prim.Native.Nat.{ℕ, max}
 use mathlib.Core.Path.{_≡_}
-use mathlib.Core.Logic.{_⊎_, inl, inr}
+use mathlib.Core.Logic.{inl, inr}
 use native.Mathlib.Omega.{arith}
-use Rattle.ranks.specs.Flood.{Notice, Flood, Site, Gone, Taken, Settles}
-use Rattle.ranks.specs.Relay.{Heard, Dropped, Relayed, Delivers}
+use Rattle.ranks.specs.Flood.{Notice, Flood, Site, Settles}
+use Rattle.ranks.specs.Relay.{Heard, Delivers}
 
 module _ (site : Site) (Hears : ℕ → ℕ → Type 0) (Leads : ℕ → ℕ → ℕ → Type 0) {F G : Flood} where
   pub delivery-settles : Delivers site Hears Leads F G → Settles site F G

@@ -1,9 +1,9 @@
 -- One settling pays for itself: it takes one notice off, and a station that sends copies came nearer to the highest ranks.
 -- The bound of a whole run: FloodDiesOut.antt. Assumes nothing.
-use Prim.Native.Nat.{ℕ, _+_, _*_, _-_, _≤_, _<_}
-use mathlib.Core.Path.{_≡_, refl, sym, ap}
+use Prim.Native.Nat.{ℕ, _+_, _-_, _≤_, _<_}
+use mathlib.Core.Path.{_≡_, sym, ap}
 use mathlib.Core.Logic.{_⊎_, ⊎-elim}
-use mathlib.Core.List.{List, [], _∷_, _++_, List·Memᴰ·append-cases}
+use mathlib.Core.List.{_++_, List·Memᴰ·append-cases}
 use native.Mathlib.Decide.{ℕ-discrete}
 use native.Mathlib.Nat.{le-refl, le-of-eq, mul-le-mul-left, mul-add, mul-one}
 use native.Mathlib.Omega.{arith}

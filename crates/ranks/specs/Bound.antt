@@ -4,7 +4,7 @@ use lib.Dec.{eqb}
 use lib.ListN.{length}
 use Rattle.lists.specs.Lists.{if_then_else_, sumOf, below}
 use Rattle.lists.specs.Places.{largestOf}
-use Rattle.ranks.specs.Flood.{Notice, Flood, Site, Run}
+use Rattle.ranks.specs.Flood.{Notice, Flood, Site}
 
 -- the rank that a notice carries for the link k: 0 where it is about another
 abbrev pub carried : ℕ → Notice → ℕ
