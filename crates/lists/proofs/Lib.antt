@@ -3,3 +3,5 @@ pub mod Numbers
 pub mod Fill
 pub mod Words
 pub mod Counts
+pub mod Places
+pub mod Sums

@@ -1,0 +1,4 @@
+pub mod Settling
+pub mod FloodDiesOut
+pub mod Merging
+pub mod Line

@@ -1,0 +1,52 @@
+// The tally of settled notices, raised counters and dropped letters: one small record that the program lends to each call
+// to be added to. A sum that would pass the largest value of 64 bits stays at it.
+//
+// A step settles at most one notice, drops at most one letter and raises at most one counter for each of the 64 links. The
+// numbers that are added have 64 bits all the same, as the counts have: nothing is asked of the caller, and the numbers of
+// a whole run of steps can be added at once (proofs/Sums.antt: it comes to the same).
+ghost use mathlib.Core.Path.{_≡_};
+ghost use Rattle.tally.specs.Sums.{counted, tallied};
+
+pub struct Tally {
+    pub settled: u64,
+    pub raised: u64,
+    pub dropped: u64,
+}
+
+// One count with n more. The test comes first, so that no sum wraps.
+fn count_on(count: u64, n: u64) -> u64
+    ensures { λ r. ⌜ r ≡ counted count n ⌝ }
+{
+    if 18446744073709551615 - count < n {
+        18446744073709551615
+    } else {
+        count + n
+    }
+}
+
+// The tally with one step's numbers added, by value.
+pub fn added(t: Tally, settled: u64, raised: u64, dropped: u64) -> Tally
+    ensures { λ r. ⌜ r ≡ tallied t settled raised dropped ⌝ }
+{
+    Tally {
+        settled: count_on(t.settled, settled),
+        raised: count_on(t.raised, raised),
+        dropped: count_on(t.dropped, dropped),
+    }
+}
+
+// One step's numbers are added to a tally that is lent.
+pub fn add(t: &mut Tally, settled: u64, raised: u64, dropped: u64)
+    ensures { λ _. ⌜ now (t .exit) ≡ tallied (now (t .entry)) settled raised dropped ⌝ }
+{
+    *t = added(*t, settled, raised, dropped);
+}
+
+// The same for a caller that holds its tally by value, as a loop of events does: its own copy is lent to `add`.
+pub fn with_step(given: Tally, settled: u64, raised: u64, dropped: u64) -> Tally
+    ensures { λ r. ⌜ r ≡ tallied given settled raised dropped ⌝ }
+{
+    let mut mine = given;
+    add(&mut mine, settled, raised, dropped);
+    mine
+}
