@@ -1,6 +1,6 @@
 -- What one station does: what it holds after an event or a letter, and the letters that it sends, in order.
 -- The sentences are those of document 01, "The eight events" and the three kinds of letter. Assumes nothing.
-use Prim.Native.Nat.{ℕ, _+_}
+use Prim.Native.Nat.{ℕ, zero, suc, _+_}
 use mathlib.Core.Bool.{Bool, true, false, not, _&&_, _||_}
 use mathlib.Core.List.{List, [], _∷_, _++_, map}
 use lib.Dec.{eqb, ltb}
@@ -150,9 +150,15 @@ module _ (net : Network) (s : ℕ) where
       if takes j c h then (record { holding = counted j c h; sent = onEach s (Notice j c) (openBut k h) })
       else unchanged h
 
-  -- ---- a letter is gone where the receiver isn't live or is quiet there
+  -- ---- a letter is gone where the receiver isn't live or is quiet there; a link that is not there brings none
   abbrev pub hears : ℕ → Holding → Bool
-  hears k h = isLive (h .condition) && not (mark h k .quiet)
+  hears k h = ltb k (length (net .links)) && (isLive (h .condition) && not (mark h k .quiet))
+
+  -- a reply that would make a counter 65,536: the network refuses it (8), and nothing happens
+  abbrev pub bodyOver : ℕ → Body → Holding → Bool
+  bodyOver k Request h = false
+  bodyOver k (Reply c) h = overflows k c h
+  bodyOver k (Notice j c) h = false
 
   abbrev pub onBody : Letter → Body → Holding → Done
   onBody x Request h = onRequest (x .link) (x .sender) h
@@ -160,4 +166,45 @@ module _ (net : Network) (s : ℕ) where
   onBody x (Notice j c) h = onNotice (x .link) j c h
 
   unfoldable pub received : Letter → Holding → Done
-  received x h = if hears (x .link) h then onBody x (x .body) h else unchanged h
+  received x h = if hears (x .link) h && not (bodyOver (x .link) (x .body) h) then onBody x (x .body) h else unchanged h
+
+  -- ---- the receiver's answer to a letter, as numbers: the paper's number, whether the letter is dropped, and what it does:
+  -- nothing, or 1 a request, 2 and the new counter a healing, 3 and the new counter a level, 4 an equal reply,
+  -- 5 with subject and counter a notice taken
+  abbrev pub replyAnswer : ℕ → ℕ → List ℕ
+  replyAnswer own carried =
+      if ltb 65535 (healed own carried) then (8 ∷ 0 ∷ [])
+      else (if odd own || odd carried then (0 ∷ 0 ∷ 2 ∷ healed own carried ∷ [])
+      else (if eqb own carried then (0 ∷ 0 ∷ 4 ∷ [])
+      else (0 ∷ 0 ∷ 3 ∷ healed own carried ∷ [])))
+
+  abbrev pub bodyAnswer : ℕ → Body → Holding → List ℕ
+  bodyAnswer k Request h = 0 ∷ 0 ∷ 1 ∷ []
+  bodyAnswer k (Reply c) h = if mark h k .testing then replyAnswer (counter h k) c else (0 ∷ 0 ∷ [])
+  bodyAnswer k (Notice j c) h = if takes j c h then (0 ∷ 0 ∷ 5 ∷ j ∷ c ∷ []) else (0 ∷ 0 ∷ [])
+
+  unfoldable pub answer : Letter → Holding → List ℕ
+  answer x h = if hears (x .link) h then bodyAnswer (x .link) (x .body) h else (0 ∷ 1 ∷ [])
+
+-- ---- 7: whether the station's condition and marks allow an event of this kind on link k
+pub data Kind : Type 0 where
+  start stop recovery intervalEnd timeoutEnd quietEnd other : Kind
+
+abbrev pub kindOf : ℕ → Kind
+kindOf zero = other
+kindOf (suc zero) = start
+kindOf (suc (suc zero)) = stop
+kindOf (suc (suc (suc zero))) = recovery
+kindOf (suc (suc (suc (suc zero)))) = intervalEnd
+kindOf (suc (suc (suc (suc (suc zero))))) = timeoutEnd
+kindOf (suc (suc (suc (suc (suc (suc zero)))))) = quietEnd
+kindOf (suc (suc (suc (suc (suc (suc (suc n))))))) = other
+
+abbrev pub allowedAs : Kind → ℕ → Holding → Bool
+allowedAs start k h = isDown (h .condition)
+allowedAs stop k h = not (isDown (h .condition))
+allowedAs recovery k h = isWaiting (h .condition)
+allowedAs intervalEnd k h = isLive (h .condition) && (not (mark h k .testing) && not (mark h k .quiet))
+allowedAs timeoutEnd k h = mark h k .testing
+allowedAs quietEnd k h = mark h k .quiet
+allowedAs other k h = true

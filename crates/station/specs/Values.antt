@@ -3,7 +3,7 @@ use Prim.Native.Nat.{ℕ}
 use mathlib.Core.Bool.{Bool, true, false}
 use mathlib.Core.Path.{_≡_}
 use mathlib.Core.List.{List, [], _∷_, _++_, map}
-use lib.ListN.{length, getD, drop}
+use lib.ListN.{length, getD, drop, replicate}
 use Rattle.lists.specs.Lists.{if_then_else_, keep, below}
 use Rattle.lists.specs.Words.{inWord, wordOf}
 use Rattle.net.specs.declared.Body.the-variants.{Request, Reply, Notice}
@@ -17,6 +17,9 @@ use Rattle.marks.specs.declared.Words.{Words}
 use Rattle.station.specs.declared.Station.{Station}
 use Rattle.station.specs.declared.Sending.{Sending}
 use Rattle.station.specs.declared.Acted.{Acted}
+use Rattle.station.specs.declared.Condition.the-variants.{Down}
+use Rattle.station.specs.declared.Heard.{Heard}
+use Rattle.station.specs.declared.Heard.the-variants.{Gone, Nothing, TooHigh, Asks, Heals, Levels, Equal, Takes}
 use Rattle.station.specs.Holding.{Holding}
 use Rattle.station.specs.Acts.{Done, letter, onEach, tell}
 
@@ -59,6 +62,27 @@ lettersOf s x =
     onEach s Request (membersOf (x .requests))
     ++ tell s (λ j. getD (x .told) j 0) (membersOf (x .subjects)) (membersOf (x .ways))
     ++ (if x .replies then (letter s (x .link) (Reply (x .reply)) ∷ []) else [])
+
+-- the number and values of the receiver's answer
+abbrev pub heardNumbers : Heard → List ℕ
+heardNumbers Gone = 0 ∷ 1 ∷ []
+heardNumbers Nothing = 0 ∷ 0 ∷ []
+heardNumbers TooHigh = 8 ∷ 0 ∷ []
+heardNumbers Asks = 0 ∷ 0 ∷ 1 ∷ []
+heardNumbers (Heals c) = 0 ∷ 0 ∷ 2 ∷ c ∷ []
+heardNumbers (Levels c) = 0 ∷ 0 ∷ 3 ∷ c ∷ []
+heardNumbers Equal = 0 ∷ 0 ∷ 4 ∷ []
+heardNumbers (Takes j c) = 0 ∷ 0 ∷ 5 ∷ j ∷ c ∷ []
+
+-- a station value without marks, and the zero one: what a start and a stop lay their holding over
+abbrev pub noWords : Words
+noWords = record { token = 0; turn = 0; testing = 0; asked = 0; quiet = 0 }
+
+abbrev pub unmarked : Station → Station
+unmarked st = record { condition = st .condition; counters = st .counters; marks = noWords }
+
+unfoldable pub blank : Station
+blank = record { condition = Down; counters = replicate 64 0; marks = noWords }
 
 -- what an act of the station s hands back: the holding laid over the old room, and a sending that means the letters
 pub record Does (net : Net) (s : ℕ) (old : Station) (d : Done) (r : Acted) : Type 0 where

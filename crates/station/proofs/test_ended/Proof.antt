@@ -1,0 +1,15 @@
+use Rattle.station.proofs.test_ended.Statement.{statement}
+use Rattle.station.proofs.test_ended.Tie as tie
+use Rattle.station.proofs.test_ended.Reads as reads
+use Rattle.station.proofs.test_ended.Lts as lts
+
+-- src/lib.rt:86:9
+returns : tie.Need-returns
+returns c = simp (c .if1 .taken)
+
+-- src/lib.rt:82:1
+returns-2 : tie.Need-returns-2
+returns-2 c = simp (c .if1 .left)
+
+pub test-ended-spec : {M : Type 1} → statement M
+test-ended-spec = tie.close (tie.spec returns returns-2)
