@@ -1,2 +1,5 @@
+pub mod MarkLaws
 pub mod Laid
 pub mod Sent
+pub mod Acting
+pub mod Ways

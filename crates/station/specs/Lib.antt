@@ -1,3 +1,4 @@
 pub mod Holding
 pub mod Acts
+pub mod Steps
 pub mod Values

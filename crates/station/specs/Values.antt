@@ -53,15 +53,19 @@ laid net old h =
       marks = laidWords (linkCount net) (old .marks) (h .marks);
     }
 
--- ---- the letters that a sending means: requests by link; notices by subject, then by way; last the reply
-abbrev pub membersOf : ℕ → List ℕ
+-- ---- the letters that a sending means
+-- the links of a word, rising
+unfoldable pub membersOf : ℕ → List ℕ
 membersOf w = keep (inWord w) (below 64)
+
+-- requests by link; notices by subject, then by way; last the reply
+abbrev pub parts : ℕ → List ℕ → (ℕ → ℕ) → List ℕ → List ℕ → List Letter → List Letter
+parts s requests told subjects ways last = onEach s Request requests ++ (tell s told subjects ways ++ last)
 
 unfoldable pub lettersOf : ℕ → Sending → List Letter
 lettersOf s x =
-    onEach s Request (membersOf (x .requests))
-    ++ tell s (λ j. getD (x .told) j 0) (membersOf (x .subjects)) (membersOf (x .ways))
-    ++ (if x .replies then (letter s (x .link) (Reply (x .reply)) ∷ []) else [])
+    parts s (membersOf (x .requests)) (λ j. getD (x .told) j 0) (membersOf (x .subjects)) (membersOf (x .ways))
+    (if x .replies then (letter s (x .link) (Reply (x .reply)) ∷ []) else [])
 
 -- the number and values of the receiver's answer
 abbrev pub heardNumbers : Heard → List ℕ

@@ -1,3 +1,4 @@
+use Rattle.station.proofs.MarkLaws.{interval-turn, interval-neither}
 use Rattle.station.proofs.interval_marks.Statement.{statement}
 use Rattle.station.proofs.interval_marks.Tie as tie
 use Rattle.station.proofs.interval_marks.Reads as reads
@@ -9,11 +10,11 @@ returns c = simp (c .if1 .taken)
 
 -- src/lib.rt:77:9
 returns-2 : tie.Need-returns-2
-returns-2 c = simp (c .before .if1 .left, c .if2 .taken)
+returns-2 c = interval-turn (c .before .before .args .m) (c .before .if1 .left) (c .if2 .taken)
 
 -- src/lib.rt:70:1
 returns-3 : tie.Need-returns-3
-returns-3 c = simp (c .before .if1 .left, c .if2 .left)
+returns-3 c = interval-neither (c .before .before .args .m) (c .before .if1 .left) (c .if2 .left)
 
 pub interval-marks-spec : {M : Type 1} → statement M
 interval-marks-spec = tie.close (tie.spec returns returns-2 returns-3)

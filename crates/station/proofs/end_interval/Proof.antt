@@ -1,0 +1,75 @@
+use mathlib.Core.Path.{subst⁻¹}
+use native.Mathlib.Omega.{arith}
+use Rattle.net.specs.Values.{networkOf}
+use Rattle.station.specs.declared.Sending.{Sending}
+use Rattle.station.specs.Acts.{interval}
+use Rattle.station.specs.Values.{holdingOf, Does}
+use Rattle.station.proofs.Acting.{interval-past, interval-there}
+use borrow.Author.Needs.{needs}
+use Rattle.station.proofs.end_interval.Statement.{statement}
+use Rattle.station.proofs.end_interval.Tie as tie
+use Rattle.station.proofs.end_interval.Reads as reads
+use Rattle.station.proofs.end_interval.Lts as lts
+use Rattle.marks.proofs.marks_at.Reads as marks-at-reads
+use Rattle.marks.proofs.put.Reads as put-reads
+use Rattle.marks.proofs.with_marks.Reads as with-marks-reads
+use Rattle.station.proofs.at_most_64.Reads as at-most-64-reads
+use Rattle.station.proofs.interval_marks.Reads as interval-marks-reads
+use Rattle.station.proofs.silence.Reads as silence-reads
+use Rattle.station.proofs.tests_now.Reads as tests-now-reads
+
+-- src/lib.rt:182:8
+at-most-64-requires : tie.Need-at-most-64-requires
+at-most-64-requires c κs = search needs
+
+-- src/lib.rt:183:43
+silence-requires : tie.Need-silence-requires
+silence-requires c κs = search needs
+
+-- src/lib.rt:183:9
+returns : tie.Need-returns
+returns c =
+    let a = c .before .before .before .before .args in
+    subst⁻¹ (λ (x : Sending). Does (a .net) (a .me) (a .st) (interval (networkOf (a .net)) (a .me) (a .k) (holdingOf (a .net) (a .st))) (record { station = a .st; send = x })) (c .silence .ensures)
+      (interval-past (a .net) (a .me) (a .st) (a .k) _ (record { token = search needs; turn = search needs; testing = search needs; asked = search needs; quiet = search needs }) (omega (arith, c .before .before .at-most-64 .ensures, c .before .if1 .taken)))
+
+-- src/lib.rt:185:9
+marks-at-requires : tie.Need-marks-at-requires
+marks-at-requires c κs = search needs
+
+-- src/lib.rt:186:48
+interval-marks-requires : tie.Need-interval-marks-requires
+interval-marks-requires c κs = search needs
+
+-- src/lib.rt:186:9
+with-marks-requires : tie.Need-with-marks-requires
+with-marks-requires c κs = search needs
+
+-- src/lib.rt:187:37
+tests-now-requires : tie.Need-tests-now-requires
+tests-now-requires c κs = search needs
+
+-- src/lib.rt:187:9
+put-requires : tie.Need-put-requires
+put-requires c κs = search needs
+
+-- src/lib.rt:178:1
+returns-2 : tie.Need-returns-2
+returns-2 c =
+    let a = c .before .before .before .before .before .before .before .before .args in
+    interval-there (a .net) (a .me) (a .st) (a .k) _ _ _ _ _ _ (omega (arith, c .before .before .before .before .before .before .at-most-64 .ensures, c .before .before .before .before .before .if1 .left))
+      (c .before .before .before .before .marks-at .ensures) (c .before .before .before .interval-marks .ensures) (c .before .before .with-marks .ensures) (c .before .tests-now .ensures) (c .put .ensures)
+
+pub end-interval-spec : {M : Type 1} → statement M
+end-interval-spec =
+    tie.close
+    (tie.spec
+    at-most-64-requires
+    silence-requires
+    returns
+    marks-at-requires
+    interval-marks-requires
+    with-marks-requires
+    tests-now-requires
+    put-requires
+    returns-2)

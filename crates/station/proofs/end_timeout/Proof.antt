@@ -1,0 +1,143 @@
+use mathlib.Core.Path.{_≡_}
+use lib.ListN.{length}
+use Rattle.station.proofs.Laid.{Fit}
+use mathlib.Core.Path.{refl, sym, subst⁻¹, _∙_}
+use native.Mathlib.Omega.{arith}
+use borrow.Author.Tests.{not-true, not-false}
+use Rattle.net.specs.Values.{networkOf}
+use Rattle.station.specs.declared.Sending.{Sending}
+use Rattle.station.specs.Acts.{timeout}
+use Rattle.station.specs.Values.{holdingOf, Does}
+use Rattle.station.proofs.Acting.{timeout-past, timeout-odd, timeout-even}
+use borrow.Author.Needs.{needs}
+use Rattle.station.proofs.end_timeout.Statement.{statement}
+use Rattle.station.proofs.end_timeout.Tie as tie
+use Rattle.station.proofs.end_timeout.Reads as reads
+use Rattle.station.proofs.end_timeout.Lts as lts
+use Rattle.marks.proofs.marks_at.Reads as marks-at-reads
+use Rattle.marks.proofs.with_marks.Reads as with-marks-reads
+use Rattle.reach.proofs.is_even.Reads as is-even-reads
+use Rattle.reach.proofs.purged.Reads as purged-reads
+use Rattle.reach.proofs.timed_out.Reads as timed-out-reads
+use Rattle.station.proofs.at_most_64.Reads as at-most-64-reads
+use Rattle.station.proofs.one_notice.Reads as one-notice-reads
+use Rattle.station.proofs.silence.Reads as silence-reads
+use Rattle.station.proofs.test_ended.Reads as test-ended-reads
+use Rattle.station.proofs.ways_but.Reads as ways-but-reads
+
+size : (c : tie.Start) → length (c .args .st .counters) ≡ 64
+size c = search needs
+
+fit : (c : tie.Start) → Fit (c .args .st .marks)
+fit c = record { token = search needs; turn = search needs; testing = search needs; asked = search needs; quiet = search needs }
+
+-- src/lib.rt:200:8
+at-most-64-requires : tie.Need-at-most-64-requires
+at-most-64-requires c κs = search needs
+
+-- src/lib.rt:201:43
+silence-requires : tie.Need-silence-requires
+silence-requires c κs = search needs
+
+-- src/lib.rt:201:9
+returns : tie.Need-returns
+returns c =
+    let a = c .before .before .before .before .args in
+    subst⁻¹ (λ (x : Sending). Does (a .net) (a .me) (a .st) (timeout (networkOf (a .net)) (a .me) (a .k) (holdingOf (a .net) (a .st))) (record { station = a .st; send = x })) (c .silence .ensures)
+      (timeout-past (a .net) (a .me) (a .st) (a .k) _ (fit (c .before .before .before .before)) (size (c .before .before .before .before)) (omega (arith, c .before .before .at-most-64 .ensures, c .before .if1 .taken)))
+
+-- src/lib.rt:205:13
+mul-c : tie.Need-mul-c
+mul-c c = search needs
+
+-- src/lib.rt:205:13
+array-read-c : tie.Need-array-read-c
+array-read-c c = search needs
+
+-- src/lib.rt:206:24
+marks-at-requires : tie.Need-marks-at-requires
+marks-at-requires c κs = search needs
+
+-- src/lib.rt:206:9
+test-ended-requires : tie.Need-test-ended-requires
+test-ended-requires c κs = search needs
+
+-- src/lib.rt:207:9
+is-even-requires : tie.Need-is-even-requires
+is-even-requires c κs = search needs
+
+-- src/lib.rt:208:13
+with-marks-requires : tie.Need-with-marks-requires
+with-marks-requires c κs = search needs
+
+-- src/lib.rt:209:86
+silence-requires-2 : tie.Need-silence-requires-2
+silence-requires-2 c κs = search needs
+
+-- src/lib.rt:209:9
+returns-2 : tie.Need-returns-2
+returns-2 c =
+    let a = c .before .before .before .before .before .before .before .before .before .args in
+    subst⁻¹ (λ (x : Sending). Does (a .net) (a .me) (a .st) (timeout (networkOf (a .net)) (a .me) (a .k) (holdingOf (a .net) (a .st))) (record { station = record { condition = a .st .condition; counters = a .st .counters; marks = c .before .with-marks .result }; send = x })) (c .silence2 .ensures)
+      (timeout-odd (a .net) (a .me) (a .st) (a .k) _ _ _ _ (omega (arith, c .before .before .before .before .before .before .before .at-most-64 .ensures, c .before .before .before .before .before .before .if1 .left)) (size (c .before .before .before .before .before .before .before .before .before))
+        (sym (c .before .before .before .is-even .ensures) ∙ not-true _ (c .before .before .if2 .taken)) (c .before .before .before .before .before .marks-at .ensures) (c .before .before .before .before .test-ended .ensures) (c .before .with-marks .ensures))
+
+-- src/lib.rt:211:19
+timed-out-requires : tie.Need-timed-out-requires
+timed-out-requires c κs = search needs
+
+-- src/lib.rt:211:5
+mul-counters : tie.Need-mul-counters
+mul-counters c = search needs
+
+-- src/lib.rt:211:5
+array-write-counters : tie.Need-array-write-counters
+array-write-counters c = search needs
+
+-- src/lib.rt:213:9
+with-marks-requires-2 : tie.Need-with-marks-requires-2
+with-marks-requires-2 c κs = search needs
+
+-- src/lib.rt:214:9
+ways-but-requires : tie.Need-ways-but-requires
+ways-but-requires c κs = search needs
+
+-- src/lib.rt:215:9
+purged-requires : tie.Need-purged-requires
+purged-requires c κs = search needs
+
+-- src/lib.rt:216:82
+one-notice-requires : tie.Need-one-notice-requires
+one-notice-requires c κs = search needs
+
+-- src/lib.rt:196:1
+returns-3 : tie.Need-returns-3
+returns-3 c =
+    let a = c .before .before .before .before .before .before .before .before .before .before .before .before .args in
+    timeout-even (a .net) (a .me) (a .st) (a .k) _ _ _ _ _ _ _ _ _ (omega (arith, c .before .before .before .before .before .before .before .before .before .before .at-most-64 .ensures, c .before .before .before .before .before .before .before .before .before .if1 .left)) (size (c .before .before .before .before .before .before .before .before .before .before .before .before))
+      refl (sym (c .before .before .before .before .before .before .is-even .ensures) ∙ not-false _ (c .before .before .before .before .before .if2 .left)) (c .before .before .before .before .timed-out .ensures) (c .before .before .before .before .before .before .before .before .marks-at .ensures) (c .before .before .before .before .before .before .before .test-ended .ensures)
+      (c .before .before .before .with-marks2 .ensures) refl (c .before .purged .ensures) (c .before .before .ways-but .ensures) (c .one-notice .ensures)
+
+pub end-timeout-spec : {M : Type 1} → statement M
+end-timeout-spec =
+    tie.close
+    (tie.spec
+    at-most-64-requires
+    silence-requires
+    returns
+    mul-c
+    array-read-c
+    marks-at-requires
+    test-ended-requires
+    is-even-requires
+    with-marks-requires
+    silence-requires-2
+    returns-2
+    timed-out-requires
+    mul-counters
+    array-write-counters
+    with-marks-requires-2
+    ways-but-requires
+    purged-requires
+    one-notice-requires
+    returns-3)

@@ -1,0 +1,20 @@
+use Rattle.station.proofs.Ways.{start-is}
+use borrow.Author.Needs.{needs}
+use Rattle.station.proofs.start.Statement.{statement}
+use Rattle.station.proofs.start.Tie as tie
+use Rattle.station.proofs.start.Reads as reads
+use Rattle.station.proofs.start.Lts as lts
+use Rattle.marks.proofs.own_links.Reads as own-links-reads
+
+-- src/lib.rt:168:9
+own-links-requires : tie.Need-own-links-requires
+own-links-requires c κs = search needs
+
+-- src/lib.rt:165:1
+returns : tie.Need-returns
+returns c =
+    let a = c .before .before .args in
+    start-is (a .net) (a .me) _ (a .st) (c .before .own-links .ensures)
+
+pub start-spec : {M : Type 1} → statement M
+start-spec = tie.close (tie.spec own-links-requires returns)
