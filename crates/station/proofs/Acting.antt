@@ -35,7 +35,7 @@ use Rattle.station.specs.declared.Station.{Station}
 use Rattle.station.specs.Holding.{Holding, noMarks, mark, counter, marked, counted, tabled, setQuiet}
 use Rattle.station.specs.Acts.{Done, letter, onEach, tell, openLinks, openBut, known, intervalMarks, intervalTests, testEnded, interval, timeout, spoken, purged, unchanged}
 use Rattle.station.specs.Steps.{silent, openAt}
-use Rattle.station.specs.Values.{holdingOf, laid, lettersOf, membersOf, Does}
+use Rattle.station.specs.Values.{holdingOf, laid, lettersOf, membersOf, Acts}
 use Rattle.station.proofs.Laid.{Fit, mark-of, mark-past, marked-past, counter-past, laid-same, laid-marked, laid-is, marks-laid, table-set, room-set, counters-set}
 use Rattle.station.proofs.Sent.{keep-same, members-upto, members-one, members-none, tell-one, sent-nothing, sent-requests, sent-notices}
 
@@ -66,7 +66,7 @@ nothing-put k = by-none (λ t. if eqb t k then false else inWord 0 t) (λ t h. g
 
 -- ---- nothing happened
 pub does-same : (net : Net) (s : ℕ) (st : Station) (d : Done) (told : List ℕ) → Fit (st .marks) → d .holding ≡ holdingOf net st → d .sent ≡ []
-  → Does net s st d (record { station = st; send = silent told })
+  → Acts net s st d (record { station = st; send = silent told })
 does-same net s st d told f p q = record {
   station = laid-same net st f ∙ ap (laid net st) (sym p);
   sent = sent-nothing s (silent told) refl refl refl ∙ sym q }
@@ -91,7 +91,7 @@ module _ (net : Net) (s : ℕ) (st : Station) where
 
   -- ---- one link's marks changed, and what is sent
   pub does-marked : (k : ℕ) (m : Marks) (ws : Words) (x : Sending) (ls : List Letter) → k < linkCount net → ws ≡ wordsWith (st .marks) k m → lettersOf s x ≡ ls
-    → Does net s st (record { holding = marked k m H; sent = ls }) (record { station = record { condition = st .condition; counters = st .counters; marks = ws }; send = x })
+    → Acts net s st (record { holding = marked k m H; sent = ls }) (record { station = record { condition = st .condition; counters = st .counters; marks = ws }; send = x })
   does-marked k m ws x ls h e q = record {
     station = ap (λ (w : Words). record { condition = st .condition; counters = st .counters; marks = w }) e ∙ laid-marked net st k m h;
     sent = q }
@@ -99,7 +99,7 @@ module _ (net : Net) (s : ℕ) (st : Station) where
   -- a link's counter and marks changed
   pub does-counted : (k v : ℕ) (m : Marks) (ws : Words) (cs : List ℕ) (x : Sending) (ls : List Letter) → k < linkCount net → ws ≡ wordsWith (st .marks) k m
     → cs ≡ set (st .counters) k v → lettersOf s x ≡ ls
-    → Does net s st (record { holding = counted k v (marked k m H); sent = ls }) (record { station = record { condition = st .condition; counters = cs; marks = ws }; send = x })
+    → Acts net s st (record { holding = counted k v (marked k m H); sent = ls }) (record { station = record { condition = st .condition; counters = cs; marks = ws }; send = x })
   unfolding holdingOf
   does-counted k v m ws cs x ls h e c q = record {
     station = laid-is net st (record { condition = st .condition; counters = cs; marks = ws }) (counted k v (marked k m H)) refl (c ∙ counters-set net st k v h) (e ∙ marks-laid net st k m h);
@@ -108,7 +108,7 @@ module _ (net : Net) (s : ℕ) (st : Station) where
   -- and then what is out of reach purged
   pub does-purged : (k v : ℕ) (m : Marks) (ws : Words) (cs after : List ℕ) (x : Sending) (ls : List Letter) → k < linkCount net → ws ≡ wordsWith (st .marks) k m
     → cs ≡ set (st .counters) k v → after ≡ purgedOf net cs s → lettersOf s x ≡ ls
-    → Does net s st (record { holding = purged (networkOf net) s (counted k v (marked k m H)); sent = ls }) (record { station = record { condition = st .condition; counters = after; marks = ws }; send = x })
+    → Acts net s st (record { holding = purged (networkOf net) s (counted k v (marked k m H)); sent = ls }) (record { station = record { condition = st .condition; counters = after; marks = ws }; send = x })
   unfolding holdingOf purgedOf
   does-purged k v m ws cs after x ls h e c a q = record {
     station = laid-is net st (record { condition = st .condition; counters = after; marks = ws }) (purged (networkOf net) s (counted k v (marked k m H))) refl
@@ -122,7 +122,7 @@ module _ (net : Net) (s : ℕ) (st : Station) where
   counter-at k h size = counter-of net (st .counters) k size h
 
   -- ---- 4. Interval
-  pub interval-past : (k : ℕ) (told : List ℕ) → Fit (st .marks) → linkCount net ≤ k → Does net s st (interval (networkOf net) s k H) (record { station = st; send = silent told })
+  pub interval-past : (k : ℕ) (told : List ℕ) → Fit (st .marks) → linkCount net ≤ k → Acts net s st (interval (networkOf net) s k H) (record { station = st; send = silent told })
   unfolding interval
   interval-past k told f h =
       does-same net s st (interval (networkOf net) s k H) told f (marked-past net st k (intervalMarks (mark H k)) h)
@@ -130,7 +130,7 @@ module _ (net : Net) (s : ℕ) (st : Station) where
 
   pub interval-there : (k : ℕ) (ws : Words) (w : ℕ) (m next : Marks) (b : Bool) (told : List ℕ) → k < linkCount net → m ≡ marksAt (st .marks) k → next ≡ intervalMarks m
     → ws ≡ wordsWith (st .marks) k next → b ≡ intervalTests m → w ≡ wordBy (λ t. if eqb t k then b else inWord 0 t)
-    → Does net s st (interval (networkOf net) s k H)
+    → Acts net s st (interval (networkOf net) s k H)
         (record { station = record { condition = st .condition; counters = st .counters; marks = ws };
           send = record { requests = w; subjects = 0; ways = 0; told = told; replies = false; reply = 0; link = 0 } })
   unfolding interval
@@ -158,16 +158,16 @@ module _ (net : Net) (s : ℕ) (st : Station) where
       ∙ laid-marked net st k (setQuiet false (mark H k)) h
 
   -- ---- 5. Timeout
-  pub timeout-past : (k : ℕ) (told : List ℕ) → Fit (st .marks) → length (st .counters) ≡ 64 → linkCount net ≤ k → Does net s st (timeout (networkOf net) s k H) (record { station = st; send = silent told })
+  pub timeout-past : (k : ℕ) (told : List ℕ) → Fit (st .marks) → length (st .counters) ≡ 64 → linkCount net ≤ k → Acts net s st (timeout (networkOf net) s k H) (record { station = st; send = silent told })
   timeout-past k told f size h =
-      subst⁻¹ (λ (d : Done). Does net s st d (record { station = st; send = silent told })) (odd-timeout (networkOf net) s k H (ap even (counter-past net st k size h)))
+      subst⁻¹ (λ (d : Done). Acts net s st d (record { station = st; send = silent told })) (odd-timeout (networkOf net) s k H (ap even (counter-past net st k size h)))
       (does-same net s st (unchanged (marked k (testEnded (mark H k)) H)) told f (marked-past net st k (testEnded (mark H k)) h) refl)
 
   pub timeout-odd : (k : ℕ) (ws : Words) (m next : Marks) (told : List ℕ) → k < linkCount net → length (st .counters) ≡ 64 → even (getD (st .counters) k 0) ≡ false
     → m ≡ marksAt (st .marks) k → next ≡ testEnded m → ws ≡ wordsWith (st .marks) k next
-    → Does net s st (timeout (networkOf net) s k H) (record { station = record { condition = st .condition; counters = st .counters; marks = ws }; send = silent told })
+    → Acts net s st (timeout (networkOf net) s k H) (record { station = record { condition = st .condition; counters = st .counters; marks = ws }; send = silent told })
   timeout-odd k ws m next told h size o p q e =
-      subst⁻¹ (λ (d : Done). Does net s st d (record { station = record { condition = st .condition; counters = st .counters; marks = ws }; send = silent told }))
+      subst⁻¹ (λ (d : Done). Acts net s st d (record { station = record { condition = st .condition; counters = st .counters; marks = ws }; send = silent told }))
         (odd-timeout (networkOf net) s k H (ap even (counter-at k h size) ∙ o))
         (does-marked k (testEnded (mark H k)) ws (silent told) [] h (e ∙ ap (wordsWith (st .marks) k) (q ∙ ap testEnded (p ∙ sym (mark-of net st k h)))) (sent-nothing s (silent told) refl refl refl))
 
@@ -176,12 +176,12 @@ module _ (net : Net) (s : ℕ) (st : Station) where
     → cs ≡ set (st .counters) k v → after ≡ purgedOf net cs s
     → ways ≡ wordBy (upTo (λ j. openAt net s (st .marks .quiet) j && not (eqb j k)) (linkCount net))
     → x ≡ record { requests = 0; subjects = wordBy (λ t. if eqb t k then true else inWord 0 t); ways = ways; told = cs; replies = false; reply = 0; link = 0 }
-    → Does net s st (timeout (networkOf net) s k H) (record { station = record { condition = st .condition; counters = after; marks = ws }; send = x })
+    → Acts net s st (timeout (networkOf net) s k H) (record { station = record { condition = st .condition; counters = after; marks = ws }; send = x })
   timeout-even k c v ways ws m next cs after x h size ec ev evv p q e ecs ea ew ex =
       let same : counter H k ≡ c = counter-at k h size ∙ sym ec in
       let up : v ≡ counter H k + 1 = evv ∙ sym (timed-even c (even-is c ev)) ∙ ap (λ (n : ℕ). n + 1) (sym same) in
       let told : getD cs k 0 ≡ counter H k + 1 = ap (λ (l : List ℕ). getD l k 0) ecs ∙ getD-set-same (st .counters) k v 0 (omega arith) ∙ up in
-      subst⁻¹ (λ (d : Done). Does net s st d (record { station = record { condition = st .condition; counters = after; marks = ws }; send = x }))
+      subst⁻¹ (λ (d : Done). Acts net s st d (record { station = record { condition = st .condition; counters = after; marks = ws }; send = x }))
         (even-timeout (networkOf net) s k H (ap even same ∙ ev))
         (does-purged k (counter H k + 1) (setQuiet true (testEnded (mark H k))) ws cs after x (onEach s (Notice k (counter H k + 1)) (openBut (networkOf net) s k H)) h
           (e ∙ ap (λ (n : Marks). wordsWith (st .marks) k (setQuiet true n)) (q ∙ ap testEnded (p ∙ sym (mark-of net st k h))))

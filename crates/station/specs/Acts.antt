@@ -12,6 +12,7 @@ use Rattle.net.specs.declared.Letter.{Letter}
 use Rattle.net.specs.Network.{Network, isEnd, own, linkNumbers}
 use Rattle.reach.specs.Counters.{even, odd, healed, newer}
 use Rattle.reach.specs.Reach.{purge}
+use Rattle.station.specs.declared.Condition.{Condition}
 use Rattle.station.specs.declared.Condition.the-variants.{Down, Waiting, Live}
 use Rattle.marks.specs.declared.Marks.{Marks}
 use Rattle.station.specs.Holding.{Holding, noMarks, counter, mark, isLive, isWaiting, isDown, setToken, setTurn, setTesting, setAsked, setQuiet, marked, tabled, counted}
@@ -60,6 +61,17 @@ onEach s b ks = map (λ k. letter s k b) ks
 abbrev pub tell : ℕ → (ℕ → ℕ) → List ℕ → List ℕ → List Letter
 tell s c [] ways = []
 tell s c (j ∷ subjects) ways = onEach s (Notice j (c j)) ways ++ tell s c subjects ways
+
+-- ---- the receiver's answer to a letter, as numbers: the paper's number, whether the letter is dropped, and what it does:
+-- nothing, or 1 a request, 2 and the new counter a healing, 3 and the new counter a level, 4 an equal reply,
+-- 5 with subject and counter a notice taken
+-- a reply to a test
+abbrev pub replyAnswer : ℕ → ℕ → List ℕ
+replyAnswer own carried =
+    if ltb 65535 (healed own carried) then (8 ∷ 0 ∷ [])
+    else (if odd own || odd carried then (0 ∷ 0 ∷ 2 ∷ healed own carried ∷ [])
+    else (if eqb own carried then (0 ∷ 0 ∷ 4 ∷ [])
+    else (0 ∷ 0 ∷ 3 ∷ healed own carried ∷ [])))
 
 -- the station s of the network
 module _ (net : Network) (s : ℕ) where
@@ -168,16 +180,6 @@ module _ (net : Network) (s : ℕ) where
   unfoldable pub received : Letter → Holding → Done
   received x h = if hears (x .link) h && not (bodyOver (x .link) (x .body) h) then onBody x (x .body) h else unchanged h
 
-  -- ---- the receiver's answer to a letter, as numbers: the paper's number, whether the letter is dropped, and what it does:
-  -- nothing, or 1 a request, 2 and the new counter a healing, 3 and the new counter a level, 4 an equal reply,
-  -- 5 with subject and counter a notice taken
-  abbrev pub replyAnswer : ℕ → ℕ → List ℕ
-  replyAnswer own carried =
-      if ltb 65535 (healed own carried) then (8 ∷ 0 ∷ [])
-      else (if odd own || odd carried then (0 ∷ 0 ∷ 2 ∷ healed own carried ∷ [])
-      else (if eqb own carried then (0 ∷ 0 ∷ 4 ∷ [])
-      else (0 ∷ 0 ∷ 3 ∷ healed own carried ∷ [])))
-
   abbrev pub bodyAnswer : ℕ → Body → Holding → List ℕ
   bodyAnswer k Request h = 0 ∷ 0 ∷ 1 ∷ []
   bodyAnswer k (Reply c) h = if mark h k .testing then replyAnswer (counter h k) c else (0 ∷ 0 ∷ [])
@@ -200,11 +202,14 @@ kindOf (suc (suc (suc (suc (suc zero))))) = timeoutEnd
 kindOf (suc (suc (suc (suc (suc (suc zero)))))) = quietEnd
 kindOf (suc (suc (suc (suc (suc (suc (suc n))))))) = other
 
+abbrev pub allowedBy : Kind → Condition → Marks → Bool
+allowedBy start x m = isDown x
+allowedBy stop x m = not (isDown x)
+allowedBy recovery x m = isWaiting x
+allowedBy intervalEnd x m = isLive x && (not (m .testing) && not (m .quiet))
+allowedBy timeoutEnd x m = m .testing
+allowedBy quietEnd x m = m .quiet
+allowedBy other x m = true
+
 abbrev pub allowedAs : Kind → ℕ → Holding → Bool
-allowedAs start k h = isDown (h .condition)
-allowedAs stop k h = not (isDown (h .condition))
-allowedAs recovery k h = isWaiting (h .condition)
-allowedAs intervalEnd k h = isLive (h .condition) && (not (mark h k .testing) && not (mark h k .quiet))
-allowedAs timeoutEnd k h = mark h k .testing
-allowedAs quietEnd k h = mark h k .quiet
-allowedAs other k h = true
+allowedAs x k h = allowedBy x (h .condition) (mark h k)

@@ -12,10 +12,10 @@ use Rattle.net.specs.Values.{networkOf, linkCount}
 use Rattle.reach.specs.Counters.{newer}
 use Rattle.marks.specs.declared.Marks.{Marks}
 use Rattle.marks.specs.declared.Words.{Words}
-use Rattle.marks.specs.Marks.{marksAt}
+use Rattle.marks.specs.Marks.{wordBy, marksAt}
 use Rattle.station.specs.declared.Sending.{Sending}
 use Rattle.station.specs.Holding.{Holding, noMarks, mark, counter, marked, counted}
-use Rattle.station.specs.Acts.{Done, repliedMarks, onEach, tell, openLinks, known, purged}
+use Rattle.station.specs.Acts.{Done, intervalMarks, repliedMarks, onEach, tell, openLinks, openBut, known, purged}
 
 -- the marks of link k, none where the link is not there
 abbrev pub marksThere : ℕ → Words → ℕ → Marks
@@ -41,6 +41,21 @@ module _ (net : Network) (s : ℕ) where
   unfoldable pub levels : ℕ → ℕ → Holding → Done
   levels k to h = record { holding = replied k to h; sent = onEach s (Notice k to) (openLinks net s (replied k to h)) }
 
+  -- ---- a notice that is taken
+  unfoldable pub taken : ℕ → ℕ → ℕ → Holding → Done
+  taken k j c h = record { holding = counted j c h; sent = onEach s (Notice j c) (openBut net s k h) }
+
 -- a notice by what is heard of it
 abbrev pub noticeAnswer : Bool → ℕ → ℕ → List ℕ
 noticeAnswer takes j c = if takes then (0 ∷ 0 ∷ 5 ∷ j ∷ c ∷ []) else (0 ∷ 0 ∷ [])
+
+-- event 4's work on the marks of each own link, as words
+abbrev pub recoveredWords : ℕ → Words → Words
+recoveredWords own w =
+    record {
+      token = wordBy (λ t. (if inWord own t then intervalMarks (marksAt w t) else marksAt w t) .token);
+      turn = wordBy (λ t. (if inWord own t then intervalMarks (marksAt w t) else marksAt w t) .turn);
+      testing = wordBy (λ t. (if inWord own t then intervalMarks (marksAt w t) else marksAt w t) .testing);
+      asked = w .asked;
+      quiet = w .quiet
+    }

@@ -19,7 +19,9 @@ use Rattle.station.specs.declared.Sending.{Sending}
 use Rattle.station.specs.declared.Acted.{Acted}
 use Rattle.station.specs.declared.Condition.the-variants.{Down}
 use Rattle.station.specs.declared.Heard.{Heard}
-use Rattle.station.specs.declared.Heard.the-variants.{Gone, Nothing, TooHigh, Asks, Heals, Levels, Equal, Takes}
+use Rattle.station.specs.declared.Heard.the-variants.{Gone, Nothing, TooHigh, Does}
+use Rattle.station.specs.declared.Effect.{Effect}
+use Rattle.station.specs.declared.Effect.the-variants.{Asks, Heals, Levels, Equal, Takes}
 use Rattle.station.specs.Holding.{Holding}
 use Rattle.station.specs.Acts.{Done, letter, onEach, tell}
 
@@ -68,15 +70,18 @@ lettersOf s x =
     (if x .replies then (letter s (x .link) (Reply (x .reply)) ∷ []) else [])
 
 -- the number and values of the receiver's answer
+abbrev pub effectNumbers : Effect → List ℕ
+effectNumbers Asks = 1 ∷ []
+effectNumbers (Heals c) = 2 ∷ c ∷ []
+effectNumbers (Levels c) = 3 ∷ c ∷ []
+effectNumbers Equal = 4 ∷ []
+effectNumbers (Takes j c) = 5 ∷ j ∷ c ∷ []
+
 abbrev pub heardNumbers : Heard → List ℕ
 heardNumbers Gone = 0 ∷ 1 ∷ []
 heardNumbers Nothing = 0 ∷ 0 ∷ []
 heardNumbers TooHigh = 8 ∷ 0 ∷ []
-heardNumbers Asks = 0 ∷ 0 ∷ 1 ∷ []
-heardNumbers (Heals c) = 0 ∷ 0 ∷ 2 ∷ c ∷ []
-heardNumbers (Levels c) = 0 ∷ 0 ∷ 3 ∷ c ∷ []
-heardNumbers Equal = 0 ∷ 0 ∷ 4 ∷ []
-heardNumbers (Takes j c) = 0 ∷ 0 ∷ 5 ∷ j ∷ c ∷ []
+heardNumbers (Does e) = 0 ∷ 0 ∷ effectNumbers e
 
 -- a station value without marks, and the zero one: what a start and a stop lay their holding over
 abbrev pub noWords : Words
@@ -89,6 +94,6 @@ unfoldable pub blank : Station
 blank = record { condition = Down; counters = replicate 64 0; marks = noWords }
 
 -- what an act of the station s hands back: the holding laid over the old room, and a sending that means the letters
-pub record Does (net : Net) (s : ℕ) (old : Station) (d : Done) (r : Acted) : Type 0 where
+pub record Acts (net : Net) (s : ℕ) (old : Station) (d : Done) (r : Acted) : Type 0 where
   pub station : r .station ≡ laid net old (d .holding)
   pub sent : lettersOf s (r .send) ≡ d .sent

@@ -3,7 +3,7 @@ use native.Mathlib.Omega.{arith}
 use Rattle.net.specs.Values.{networkOf}
 use Rattle.station.specs.declared.Sending.{Sending}
 use Rattle.station.specs.Acts.{interval}
-use Rattle.station.specs.Values.{holdingOf, Does}
+use Rattle.station.specs.Values.{holdingOf, Acts}
 use Rattle.station.proofs.Acting.{interval-past, interval-there}
 use borrow.Author.Needs.{needs}
 use Rattle.station.proofs.end_interval.Statement.{statement}
@@ -30,7 +30,7 @@ silence-requires c κs = search needs
 returns : tie.Need-returns
 returns c =
     let a = c .before .before .before .before .args in
-    subst⁻¹ (λ (x : Sending). Does (a .net) (a .me) (a .st) (interval (networkOf (a .net)) (a .me) (a .k) (holdingOf (a .net) (a .st))) (record { station = a .st; send = x })) (c .silence .ensures)
+    subst⁻¹ (λ (x : Sending). Acts (a .net) (a .me) (a .st) (interval (networkOf (a .net)) (a .me) (a .k) (holdingOf (a .net) (a .st))) (record { station = a .st; send = x })) (c .silence .ensures)
       (interval-past (a .net) (a .me) (a .st) (a .k) _ (record { token = search needs; turn = search needs; testing = search needs; asked = search needs; quiet = search needs }) (omega (arith, c .before .before .at-most-64 .ensures, c .before .if1 .taken)))
 
 -- src/lib.rt:185:9

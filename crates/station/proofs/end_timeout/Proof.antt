@@ -7,7 +7,7 @@ use borrow.Author.Tests.{not-true, not-false}
 use Rattle.net.specs.Values.{networkOf}
 use Rattle.station.specs.declared.Sending.{Sending}
 use Rattle.station.specs.Acts.{timeout}
-use Rattle.station.specs.Values.{holdingOf, Does}
+use Rattle.station.specs.Values.{holdingOf, Acts}
 use Rattle.station.proofs.Acting.{timeout-past, timeout-odd, timeout-even}
 use borrow.Author.Needs.{needs}
 use Rattle.station.proofs.end_timeout.Statement.{statement}
@@ -43,7 +43,7 @@ silence-requires c κs = search needs
 returns : tie.Need-returns
 returns c =
     let a = c .before .before .before .before .args in
-    subst⁻¹ (λ (x : Sending). Does (a .net) (a .me) (a .st) (timeout (networkOf (a .net)) (a .me) (a .k) (holdingOf (a .net) (a .st))) (record { station = a .st; send = x })) (c .silence .ensures)
+    subst⁻¹ (λ (x : Sending). Acts (a .net) (a .me) (a .st) (timeout (networkOf (a .net)) (a .me) (a .k) (holdingOf (a .net) (a .st))) (record { station = a .st; send = x })) (c .silence .ensures)
       (timeout-past (a .net) (a .me) (a .st) (a .k) _ (fit (c .before .before .before .before)) (size (c .before .before .before .before)) (omega (arith, c .before .before .at-most-64 .ensures, c .before .if1 .taken)))
 
 -- src/lib.rt:205:13
@@ -78,7 +78,7 @@ silence-requires-2 c κs = search needs
 returns-2 : tie.Need-returns-2
 returns-2 c =
     let a = c .before .before .before .before .before .before .before .before .before .args in
-    subst⁻¹ (λ (x : Sending). Does (a .net) (a .me) (a .st) (timeout (networkOf (a .net)) (a .me) (a .k) (holdingOf (a .net) (a .st))) (record { station = record { condition = a .st .condition; counters = a .st .counters; marks = c .before .with-marks .result }; send = x })) (c .silence2 .ensures)
+    subst⁻¹ (λ (x : Sending). Acts (a .net) (a .me) (a .st) (timeout (networkOf (a .net)) (a .me) (a .k) (holdingOf (a .net) (a .st))) (record { station = record { condition = a .st .condition; counters = a .st .counters; marks = c .before .with-marks .result }; send = x })) (c .silence2 .ensures)
       (timeout-odd (a .net) (a .me) (a .st) (a .k) _ _ _ _ (omega (arith, c .before .before .before .before .before .before .before .at-most-64 .ensures, c .before .before .before .before .before .before .if1 .left)) (size (c .before .before .before .before .before .before .before .before .before))
         (sym (c .before .before .before .is-even .ensures) ∙ not-true _ (c .before .before .if2 .taken)) (c .before .before .before .before .before .marks-at .ensures) (c .before .before .before .before .test-ended .ensures) (c .before .with-marks .ensures))
 

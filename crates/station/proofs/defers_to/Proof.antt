@@ -1,0 +1,16 @@
+use borrow.Author.Needs.{needs}
+use Rattle.station.proofs.defers_to.Statement.{statement}
+use Rattle.station.proofs.defers_to.Tie as tie
+use Rattle.station.proofs.defers_to.Reads as reads
+use Rattle.station.proofs.defers_to.Lts as lts
+
+-- src/lib.rt:461:9
+returns : tie.Need-returns
+returns c = ?
+
+-- src/lib.rt:457:1
+returns-2 : tie.Need-returns-2
+returns-2 c = search needs
+
+pub defers-to-spec : {M : Type 1} → statement M
+defers-to-spec = tie.close (tie.spec returns returns-2)

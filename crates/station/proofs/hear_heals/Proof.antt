@@ -1,0 +1,55 @@
+use borrow.Author.Needs.{needs}
+use Rattle.station.proofs.hear_heals.Statement.{statement}
+use Rattle.station.proofs.hear_heals.Tie as tie
+use Rattle.station.proofs.hear_heals.Reads as reads
+use Rattle.station.proofs.hear_heals.Lts as lts
+use Rattle.marks.proofs.marks_at.Reads as marks-at-reads
+use Rattle.marks.proofs.with_marks.Reads as with-marks-reads
+use Rattle.reach.proofs.purged.Reads as purged-reads
+use Rattle.station.proofs.known_links.Reads as known-links-reads
+use Rattle.station.proofs.open_ways.Reads as open-ways-reads
+
+-- src/lib.rt:482:9
+marks-at-requires : tie.Need-marks-at-requires
+marks-at-requires c κs = search needs
+
+-- src/lib.rt:484:9
+with-marks-requires : tie.Need-with-marks-requires
+with-marks-requires c κs = search needs
+
+-- src/lib.rt:486:5
+mul-counters : tie.Need-mul-counters
+mul-counters c = search needs
+
+-- src/lib.rt:486:5
+array-write-counters : tie.Need-array-write-counters
+array-write-counters c = search needs
+
+-- src/lib.rt:487:9
+known-links-requires : tie.Need-known-links-requires
+known-links-requires c κs = search needs
+
+-- src/lib.rt:488:9
+open-ways-requires : tie.Need-open-ways-requires
+open-ways-requires c κs = search needs
+
+-- src/lib.rt:489:9
+purged-requires : tie.Need-purged-requires
+purged-requires c κs = search needs
+
+-- src/lib.rt:477:1
+returns : tie.Need-returns
+returns c = ?
+
+pub hear-heals-spec : {M : Type 1} → statement M
+hear-heals-spec =
+    tie.close
+    (tie.spec
+    marks-at-requires
+    with-marks-requires
+    mul-counters
+    array-write-counters
+    known-links-requires
+    open-ways-requires
+    purged-requires
+    returns)

@@ -1,0 +1,35 @@
+use Rattle.station.proofs.Laid.{Fit}
+use Rattle.station.proofs.Recovery.{recover-does}
+use borrow.Author.Needs.{needs}
+use Rattle.station.proofs.recover.Statement.{statement}
+use Rattle.station.proofs.recover.Tie as tie
+use Rattle.station.proofs.recover.Reads as reads
+use Rattle.station.proofs.recover.Lts as lts
+use Rattle.marks.proofs.own_links.Reads as own-links-reads
+use Rattle.station.proofs.recovered_words.Reads as recovered-words-reads
+use Rattle.station.proofs.tests_on.Reads as tests-on-reads
+
+fit : (c : tie.Start) → Fit (c .args .st .marks)
+fit c = record { token = search needs; turn = search needs; testing = search needs; asked = search needs; quiet = search needs }
+
+-- src/lib.rt:279:9
+own-links-requires : tie.Need-own-links-requires
+own-links-requires c κs = search needs
+
+-- src/lib.rt:280:9
+recovered-words-requires : tie.Need-recovered-words-requires
+recovered-words-requires c κs = search needs
+
+-- src/lib.rt:281:9
+tests-on-requires : tie.Need-tests-on-requires
+tests-on-requires c κs = search needs
+
+-- src/lib.rt:276:1
+returns : tie.Need-returns
+returns c =
+    let a = c .before .before .before .before .args in
+    recover-does (a .net) (a .me) (a .st) (fit (c .before .before .before .before)) _ (c .before .before .before .own-links .ensures) _ _ _ (c .before .before .recovered-words .ensures) (c .before .tests-on .ensures)
+
+pub recover-spec : {M : Type 1} → statement M
+recover-spec =
+    tie.close (tie.spec own-links-requires recovered-words-requires tests-on-requires returns)
