@@ -5,3 +5,5 @@ pub mod Acting
 pub mod Ways
 pub mod Allowed
 pub mod Recovery
+pub mod Letters
+pub mod Replies
