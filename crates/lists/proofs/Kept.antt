@@ -18,6 +18,11 @@ module _ {ℓ} {A : Type ℓ} where
   every-imp p q f [] t = tt
   every-imp p q f (x ∷ xs) t = and-i (q x) _ (f x (and-l (p x) _ t)) (every-imp p q f xs (and-r (p x) _ t))
 
+  pub every-both : (p q : A → Bool) (xs : List A) → T (every p xs) → T (every q xs) → T (every (λ x. p x && q x) xs)
+  every-both p q [] t u = tt
+  every-both p q (x ∷ xs) t u =
+      and-i (p x && q x) _ (and-i (p x) (q x) (and-l (p x) _ t) (and-l (q x) _ u)) (every-both p q xs (and-r (p x) _ t) (and-r (q x) _ u))
+
   pub every-joined : (p : A → Bool) (xs ys : List A) → T (every p xs) → T (every p ys) → T (every p (xs ++ ys))
   every-joined p xs ys t u = subst⁻¹ T (every-append p xs ys) (and-i (every p xs) _ t u)
 

@@ -1,2 +1,4 @@
 pub mod Laid
 pub mod Sent
+pub mod Slots
+pub mod HoldingLaws
