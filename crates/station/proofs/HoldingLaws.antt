@@ -1,20 +1,19 @@
 -- A well-formed holding as facts, and what keeps it well formed: marks or a counter of one link set anew, a purge, marks set at
 -- every link. The letters that a station sends on its own links are good. Assumes nothing.
-use Prim.Native.Nat.{ℕ, _+_, _<_}
-use mathlib.Core.Bool.{Bool, true, false, not, _&&_, _||_}
-use mathlib.Core.Path.{_≡_, refl, sym, ap, _∙_, subst, subst⁻¹}
-use mathlib.Core.List.{List, [], _∷_, _++_, map}
+use Prim.Native.Nat.{ℕ, _<_}
+use mathlib.Core.Bool.{Bool, not, _&&_}
+use mathlib.Core.Path.{_≡_, _∙_, subst⁻¹}
+use mathlib.Core.List.{List, [], _∷_, map}
 use native.Mathlib.Decide.{ℕ-discrete}
-use lib.Dec.{T, eqb, ltb, lt→ltb, ltb→lt, eqb→eq, eqb-refl}
-use lib.ListN.{length, getD, set, length-set}
+use lib.Dec.{T, eqb, ltb, lt→ltb, eqb→eq}
+use lib.ListN.{length, length-set}
 use lib.Seq.{getD-set-same, getD-set-other}
-use Rattle.lists.specs.Lists.{if_then_else_, keep, every, below}
+use Rattle.lists.specs.Lists.{if_then_else_, keep, every}
 use Rattle.lists.proofs.Tests.{and-l, and-r, and-i, eq→eqb, if-elim}
 use Rattle.lists.proofs.Numbers.{below-at, at-below, getD-map-below, length-map-below}
 use Rattle.lists.proofs.Kept.{every-imp, every-both, every-joined, every-keep, every-kept, every-map}
 use Rattle.net.specs.declared.Body.{Body}
-use Rattle.net.specs.declared.Body.the-variants.{Request, Reply, Notice}
-use Rattle.net.specs.declared.Letter.{Letter}
+use Rattle.net.specs.declared.Body.the-variants.{Notice}
 use Rattle.net.specs.Network.{Network, isEnd, linkNumbers}
 use Rattle.net.specs.Letters.{isCounter, bodyHolds, letterHolds}
 use Rattle.reach.specs.Reach.{counterIn, worksIn, has, reach, near, purge}

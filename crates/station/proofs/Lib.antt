@@ -2,3 +2,4 @@ pub mod Laid
 pub mod Sent
 pub mod Slots
 pub mod HoldingLaws
+pub mod Keeps

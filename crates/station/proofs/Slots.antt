@@ -2,7 +2,6 @@
 -- stays when the counter or the marks are set anew. A rule of marks is tested at all 32 of them by computation. Assumes nothing.
 use Prim.Native.Nat.{ℕ, _+_, _%_, _≤_, max}
 use mathlib.Core.Bool.{Bool, true, false, not, _&&_, _||_}
-use mathlib.Core.Path.{_≡_, refl}
 use native.Mathlib.Omega.{arith}
 use lib.Dec.{T, T-not, eqb, leb, ltb, leb→le, le→leb, eqb→eq, nltb→le}
 use Rattle.lists.specs.Lists.{if_then_else_}
