@@ -1,16 +1,15 @@
 -- Laws of a test over a whole list: how it passes to what is kept, mapped and joined; and how many are kept. Assumes nothing.
 use Prim.Native.Nat.{ℕ, zero, suc, _+_, _-_, _≤_, _<_}
-use mathlib.Core.Bool.{Bool, true, false, not, _&&_, _||_}
-use mathlib.Core.Path.{_≡_, refl, sym, ap, _∙_, subst, subst⁻¹}
+use mathlib.Core.Bool.{Bool, true, false, not, _&&_}
+use mathlib.Core.Path.{_≡_, subst⁻¹}
 use mathlib.Core.List.{List, [], _∷_, _++_, map}
 use native.Mathlib.Decide.{ℕ-discrete}
-use native.Mathlib.Nat.{le-refl, le-trans}
+use native.Mathlib.Nat.{le-refl}
 use native.Mathlib.Omega.{arith}
-use lib.Dec.{T, T-not}
+use lib.Dec.{T}
 use lib.ListN.{length}
 use Rattle.lists.specs.Lists.{if_then_else_, keep, every, from, below}
-use Rattle.lists.proofs.Tests.{is-T, and-l, and-r, and-i, if-elim, every-append}
-use Rattle.lists.proofs.Numbers.{length-from}
+use Rattle.lists.proofs.Tests.{and-l, and-r, and-i, if-elim, every-append}
 
 module _ {ℓ} {A : Type ℓ} where
   -- a weaker test passes too

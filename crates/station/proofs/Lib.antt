@@ -3,3 +3,4 @@ pub mod Sent
 pub mod Slots
 pub mod HoldingLaws
 pub mod Keeps
+pub mod Rises
