@@ -4,3 +4,5 @@ pub mod Slots
 pub mod HoldingLaws
 pub mod Keeps
 pub mod Rises
+pub mod Counts
+pub mod Cases
