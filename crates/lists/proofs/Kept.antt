@@ -2,7 +2,8 @@
 use Prim.Native.Nat.{ℕ, zero, suc, _+_, _-_, _≤_, _<_}
 use mathlib.Core.Bool.{Bool, true, false, not, _&&_}
 use mathlib.Core.Path.{_≡_, subst⁻¹}
-use mathlib.Core.List.{List, [], _∷_, _++_, map}
+use mathlib.Core.Logic.{⊎-elim}
+use mathlib.Core.List.{List, [], _∷_, _++_, map, List·Memᴰ, List·Memᴰ·not-nil, List·Memᴰ·cases-cons}
 use native.Mathlib.Decide.{ℕ-discrete}
 use native.Mathlib.Nat.{le-refl}
 use native.Mathlib.Omega.{arith}
@@ -24,6 +25,12 @@ module _ {ℓ} {A : Type ℓ} where
 
   pub every-joined : (p : A → Bool) (xs ys : List A) → T (every p xs) → T (every p ys) → T (every p (xs ++ ys))
   every-joined p xs ys t u = subst⁻¹ T (every-append p xs ys) (and-i (every p xs) _ t u)
+
+  -- whoever is in the list passes
+  pub every-in : (p : A → Bool) (x : A) (xs : List A) → T (every p xs) → List·Memᴰ x xs → T (p x)
+  every-in p x [] t m = absurd (List·Memᴰ·not-nil m)
+  every-in p x (y ∷ ys) t m =
+      ⊎-elim (λ e. subst⁻¹ (λ (z : A). T (p z)) e (and-l (p y) _ t)) (λ n. every-in p x ys (and-r (p y) _ t) n) (List·Memᴰ·cases-cons m)
 
   -- what is kept passes what all pass
   pub every-keep : (p q : A → Bool) (xs : List A) → T (every p xs) → T (every p (keep q xs))

@@ -148,12 +148,10 @@ module _ (net : Network) (s : ℕ) where
     pub away : T (every (λ x. not (eqb (x .link) k)) xs)
     -- each on an own link that isn't quiet
     pub ways : T (every (λ x. openOwn h (x .link)) xs)
-    -- each sent by this station
-    pub by : T (every (λ x. eqb (x .sender) s) xs)
 
   module _ (h : Holding) (k : ℕ) (l : k < length (net .links)) (o : T (isEnd net k s)) where
     no-letters : (j c : ℕ) → Spreads k j c h []
-    no-letters j c = record { few = zero-le; alike = tt; away = tt; ways = tt; by = tt }
+    no-letters j c = record { few = zero-le; alike = tt; away = tt; ways = tt }
 
     spread : (j c : ℕ) → Spreads k j c h (onEach s (Notice j c) (openBut net s k h))
     spread j c =
@@ -163,7 +161,6 @@ module _ (net : Network) (s : ℕ) where
           alike = on-each-every (λ x. isNotice j c (x .body)) s (Notice j c) ks (every-imp (λ i. true) (λ i. eqb j j && eqb c c) (λ i t. and-i (eqb j j) _ (eqb-refl j) (eqb-refl c)) ks (always ks));
           away = on-each-every (λ x. not (eqb (x .link) k)) s (Notice j c) ks (open-but-away h k);
           ways = on-each-every (λ x. openOwn h (x .link)) s (Notice j c) ks (open-but-open h k);
-          by = on-each-every (λ x. eqb (x .sender) s) s (Notice j c) ks (every-imp (λ i. true) (λ i. eqb s s) (λ i t. eqb-refl s) ks (always ks));
         }
 
     -- a notice come on link k: taken and sent on, or nothing
@@ -199,18 +196,16 @@ module _ (net : Network) (s : ℕ) where
     pub record Answers (xs : List Letter) : Type 0 where
       pub few : length xs ≤ length (knownBut net s k h) + 1
       pub back : T (every (λ x. eqb (x .link) k) xs)
-      pub by : T (every (λ x. eqb (x .sender) s) xs)
 
     pub request-answers : (p : ℕ) → Answers (onRequest net s k p h .sent)
     unfolding onRequest
     request-answers p =
         if-elim (λ (d : Done). Answers (d .sent)) (defers net s k p h)
-        (λ t. record { few = zero-le; back = tt; by = tt })
+        (λ t. record { few = zero-le; back = tt })
         (λ t. record {
           few = subst⁻¹ (λ (n : ℕ). n ≤ length (knownBut net s k h) + 1) (length-append news last)
               (if-elim (λ (xs : List Letter). length xs + 1 ≤ length (knownBut net s k h) + 1) (odd (counter h k)) (λ u. told-few) (λ u. omega arith));
           back = every-joined (λ x. eqb (x .link) k) news last (told (λ x. eqb (x .link) k) (λ b. eqb-refl k)) (and-i (eqb k k) _ (eqb-refl k) tt);
-          by = every-joined (λ x. eqb (x .sender) s) news last (told (λ x. eqb (x .sender) s) (λ b. eqb-refl s)) (and-i (eqb s s) _ (eqb-refl s) tt);
         })
       where
         news : List Letter
@@ -249,20 +244,18 @@ module _ (net : Network) (s : ℕ) where
       pub few : length xs ≤ length (own net s)
       pub alike : T (every (λ x. isNotice k (healed (counter h k) c) (x .body)) xs)
       pub ways : T (every (λ x. openOwn replied (x .link)) xs)
-      pub by : T (every (λ x. eqb (x .sender) s) xs)
 
     pub levels : T (mark h k .testing) → T (not (odd (counter h k) || odd c)) → Levels (onReply net s k c h .sent)
     unfolding onReply
     levels t u =
         rw (T-is (mark h k .testing) t, T-not-is (odd (counter h k) || odd c) u)
         (if-elim (λ (d : Done). Levels (d .sent)) (eqb (counter h k) c)
-        (λ w. record { few = zero-le; alike = tt; ways = tt; by = tt })
+        (λ w. record { few = zero-le; alike = tt; ways = tt })
         (λ w. let ks = openLinks net s replied in
         record {
           few = subst⁻¹ (λ (n : ℕ). n ≤ length (own net s)) (on-each-count s (Notice k m) ks) (open-few replied);
           alike = on-each-every (λ x. isNotice k m (x .body)) s (Notice k m) ks (every-imp (λ i. true) (λ i. eqb k k && eqb m m) (λ i t. and-i (eqb k k) _ (eqb-refl k) (eqb-refl m)) ks (always ks));
           ways = on-each-every (λ x. openOwn replied (x .link)) s (Notice k m) ks (open-open replied);
-          by = on-each-every (λ x. eqb (x .sender) s) s (Notice k m) ks (every-imp (λ i. true) (λ i. eqb s s) (λ i t. eqb-refl s) ks (always ks));
         }))
       where
         m : ℕ

@@ -6,3 +6,4 @@ pub mod Keeps
 pub mod Rises
 pub mod Counts
 pub mod Cases
+pub mod Senders

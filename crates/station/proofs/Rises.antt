@@ -5,7 +5,7 @@ use mathlib.Core.Bool.{Bool, true, false, not, _||_}
 use mathlib.Core.Path.{_≡_, refl, ap, _∙_, subst, subst⁻¹}
 use mathlib.Core.Logic.{_⊎_, inl, inr, ⊎-elim, _≢_}
 use mathlib.Core.List.{List, [], _∷_, map}
-use native.Mathlib.Decide.{decLt}
+use native.Mathlib.Decide.{decLt, ℕ-discrete}
 use native.Mathlib.Omega.{arith}
 use lib.Dec.{T, T-not, eqb, ltb, ltb→lt, eqb→eq}
 use lib.ListN.{length, getD, set, List·getD-eq-default}
@@ -22,6 +22,7 @@ use Rattle.reach.specs.Reach.{counterIn, worksIn, has, reach, near, purge}
 use Rattle.reach.proofs.ReachLaws.{reach-self, complete}
 use Rattle.station.specs.Holding.{Holding, counter, mark, holdingHolds}
 use Rattle.station.specs.Acts.{Done, unchanged, started, stopped, recovered, interval, timeout, spoken, defers, onRequest, onReply, takes, onNotice, hears, bodyOver, onBody, received}
+use Rattle.station.proofs.Slots.{slot-counter, counter-range}
 use Rattle.station.proofs.HoldingLaws.{formed}
 
 -- ---- a counter that stays or is set to 1
@@ -113,6 +114,18 @@ module _ (net : Network) (s : ℕ) where
       ones (x ∷ xs) zero = refl
       ones (x ∷ xs) (suc j) = ones xs j
 
+  -- no counter is below 1
+  pub counter-positive : (h : Holding) → T (holdingHolds net s h) → (j : ℕ) → 1 ≤ counter h j
+  counter-positive h ok j = go (decLt j (length (net .links)))
+    where
+      go : Dec (j < length (net .links)) → 1 ≤ counter h j
+      go (yes l) = counter-range (counter h j) (slot-counter (h .condition) (isEnd net j s) (counter h j) (mark h j) (formed net s h ok .slots j l)) .0
+      go (no l) = omega (arith, List·getD-eq-default (h .table) 1 {n = j} (omega (arith, formed net s h ok .table-length)))
+
+  -- so a stop raises none
+  pub stopped-lowers : (h : Holding) → T (holdingHolds net s h) → (j : ℕ) → counter (stopped net s .holding) j ≤ counter h j
+  stopped-lowers h ok j = omega (arith, stopped-table j, counter-positive h ok j)
+
   -- ---- acts that set the counter of an own link k
   -- k's counter is c after it, and each other is as it was or, by the purge, 1
   pub record Sets (k c : ℕ) (h : Holding) (d : Done) : Type 0 where
@@ -141,6 +154,14 @@ module _ (net : Network) (s : ℕ) where
               subst (λ (x : ℕ). Lowered x (counter (d .holding) j)) (getD-set-other (h .table) k j c 1 n)
               (subst⁻¹ (λ (t : List ℕ). Lowered (counterIn (set (h .table) k c) j) (counterIn t j)) e (purge-lowers (set (h .table) k c) j));
         }
+
+    -- no counter but k's is higher than before
+    pub one-rises : {c : ℕ} {d : Done} → Sets k c h d → (j : ℕ) → counter h j < counter (d .holding) j → j ≡ k
+    one-rises {c} {d} p j r = go (ℕ-discrete j k)
+      where
+        go : Dec (j ≡ k) → j ≡ k
+        go (yes e) = e
+        go (no n) = absurd (omega (arith, lowered-le (counter h j) (counter (d .holding) j) (counter-positive h ok j) (p .others j n)))
 
     -- a timeout: an even counter is raised by one, then purge; with an odd one no counter changes
     pub timeout-even : T (even (counter h k)) → Sets k (counter h k + 1) h (timeout net s k h)
