@@ -26,12 +26,12 @@ live tests a b = record { condition = Live; table = a ∷ b ∷ []; marks = setT
 
 -- ---- what is looked at, as numbers
 -- the tag of document 01's bytes, and what the letter carries
-bodyNumbers : Body → List ℕ
+unfoldable pub bodyNumbers : Body → List ℕ
 bodyNumbers Request = 33 ∷ []
 bodyNumbers (Reply c) = 34 ∷ c ∷ []
 bodyNumbers (Notice j c) = 35 ∷ j ∷ c ∷ []
 
-letterNumbers : List Letter → List ℕ
+unfoldable pub letterNumbers : List Letter → List ℕ
 unfolding bodyNumbers
 letterNumbers [] = []
 letterNumbers (x ∷ xs) = (x .link ∷ x .sender ∷ bodyNumbers (x .body)) ++ letterNumbers xs

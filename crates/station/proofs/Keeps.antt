@@ -125,7 +125,8 @@ module _ (net : Network) (s : ℕ) where
           raises e =
               kept (purged net s raised) (onEach s (Notice k (counter h k + 1)) (openBut net s k h))
               (purged-formed net s raised (renewed (λ m. m .testing) (λ m. setQuiet true (testEnded m)) (counter h k + 1) tt v a (counter-next (counter h k) own-counter e)))
-              (on-each-holds net s (Notice k (counter h k + 1)) (openBut net s k h) (and-i (ltb k (length (net .links))) _ (lt→ltb k _ l) (counter-next (counter h k) own-counter e)) (open-but-own net s h k))
+              (on-each-holds net s (Notice k (counter h k + 1)) (openBut net s k h)
+              (and-i (ltb k (length (net .links))) _ (lt→ltb k _ l) (counter-next (counter h k) own-counter e)) (open-but-own net s h k))
 
       -- ---- 6. Quiet ends
       pub spoken-keeps : T (allowedAs quietEnd k h) → Kept (spoken net s k h)

@@ -7,3 +7,4 @@ pub mod Rises
 pub mod Counts
 pub mod Cases
 pub mod Senders
+pub mod Traps
