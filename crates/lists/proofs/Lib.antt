@@ -5,3 +5,4 @@ pub mod Words
 pub mod Counts
 pub mod Places
 pub mod Sums
+pub mod Kept

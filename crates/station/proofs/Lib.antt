@@ -7,3 +7,11 @@ pub mod Allowed
 pub mod Recovery
 pub mod Letters
 pub mod Replies
+pub mod Slots
+pub mod HoldingLaws
+pub mod Keeps
+pub mod Rises
+pub mod Counts
+pub mod Cases
+pub mod Senders
+pub mod Traps

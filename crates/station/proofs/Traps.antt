@@ -1,0 +1,92 @@
+-- Document 01's traps at one station, and what the P cases do not tell apart: for each a case in which the wrong rule would give
+-- another answer. Station 1 of a line 0-1-2-3 has the links 0 and 1 for its own; link 2 lies behind link 1. antt computes both
+-- sides. Assumes nothing.
+use Prim.Native.Nat.{ℕ, _+_, _*_}
+use mathlib.Core.Bool.{true, _&&_}
+use mathlib.Core.Path.{_≡_, refl}
+use mathlib.Core.List.{List, [], _∷_, _++_, map}
+use Rattle.lists.specs.Words.{bit}
+use Rattle.net.specs.declared.Body.the-variants.{Request, Reply, Notice}
+use Rattle.net.specs.declared.Letter.{Letter}
+use Rattle.net.specs.Network.{Network, sheetHolds}
+use Rattle.net.specs.Letters.{letterHolds}
+use Rattle.reach.specs.Counters.{healed}
+use Rattle.reach.specs.Reach.{purge}
+use Rattle.marks.specs.declared.Marks.{Marks}
+use Rattle.station.specs.declared.Condition.the-variants.{Live}
+use Rattle.station.specs.Holding.{Holding, noMarks, setTurn, setTesting, setQuiet, holdingHolds}
+use Rattle.station.specs.Acts.{Done, letter, openLinks, openBut, known, knownBut, timeout, onRequest, onReply, overflows, onNotice, received, timeoutEnd, allowedAs}
+use Rattle.station.proofs.Cases.{bodyNumbers, letterNumbers}
+
+pub record Trap : Type 0 where
+  pub got : List (List ℕ)
+  pub want : List (List ℕ)
+
+line : Network
+line = record { stations = 4; links = record { low = 0; high = 1 } ∷ record { low = 1; high = 2 } ∷ record { low = 2; high = 3 } ∷ [] }
+
+-- live, with these three counters and the marks of its two own links
+live : ℕ → ℕ → ℕ → Marks → Marks → Holding
+live a b c m n = record { condition = Live; table = a ∷ b ∷ c ∷ []; marks = m ∷ n ∷ noMarks ∷ [] }
+
+-- token 1, turn 2, testing 4, asked 8, quiet 16
+marksNumber : Marks → ℕ
+marksNumber m = bit (m .token) + 2 * bit (m .turn) + 4 * bit (m .testing) + 8 * bit (m .asked) + 16 * bit (m .quiet)
+
+-- the counters, the marks, and the letters as in Cases
+seen : Done → List (List ℕ)
+unfolding marksNumber bodyNumbers letterNumbers
+seen d = d .holding .table ∷ map marksNumber (d .holding .marks) ∷ letterNumbers (d .sent) ∷ []
+
+-- first: what stands before it is well formed and allows it
+timesOut : ℕ → Holding → List (List ℕ)
+unfolding line seen timeout openBut purge sheetHolds holdingHolds
+timesOut k h = (bit (sheetHolds line && holdingHolds line 1 h && allowedAs timeoutEnd k h) ∷ []) ∷ seen (timeout line 1 k h)
+
+hears : Holding → Letter → List (List ℕ)
+unfolding line seen received onRequest onReply onNotice overflows healed openLinks openBut known knownBut purge sheetHolds holdingHolds letterHolds
+hears h x = (bit (sheetHolds line && holdingHolds line 1 h && letterHolds line x) ∷ []) ∷ seen (received line 1 x h)
+
+testing : Marks
+testing = setTesting true noMarks
+
+pub traps : List Trap
+unfolding live timesOut hears testing
+traps =
+    -- a timeout purges, with the raised counter: behind the link that is odd now, link 2 gets 1
+    record { got = timesOut 1 (live 2 2 4 noMarks testing); want = (1 ∷ []) ∷ (2 ∷ 3 ∷ 1 ∷ []) ∷ (0 ∷ 16 ∷ 0 ∷ []) ∷ (0 ∷ 1 ∷ 35 ∷ 1 ∷ 3 ∷ []) ∷ [] }
+    -- a reply purges with the healed counter: link 2 is behind a working link now and stays
+    ∷ record {
+      got = hears (live 1 3 4 (setQuiet true noMarks) testing) (letter 2 1 (Reply 1));
+      want = (1 ∷ []) ∷ (1 ∷ 4 ∷ 4 ∷ []) ∷ (16 ∷ 0 ∷ 0 ∷ []) ∷ ((1 ∷ 1 ∷ 35 ∷ 1 ∷ 4 ∷ []) ++ (1 ∷ 1 ∷ 35 ∷ 2 ∷ 4 ∷ [])) ∷ [];
+    }
+    -- it tells before the purge: link 2 gets 1, and its old counter is told
+    ∷ record {
+      got = hears (live 3 5 4 testing (setQuiet true noMarks)) (letter 0 0 (Reply 2));
+      want = (1 ∷ []) ∷ (4 ∷ 5 ∷ 1 ∷ []) ∷ (0 ∷ 16 ∷ 0 ∷ []) ∷ ((0 ∷ 1 ∷ 35 ∷ 0 ∷ 4 ∷ []) ++ (0 ∷ 1 ∷ 35 ∷ 1 ∷ 5 ∷ []) ++ (0 ∷ 1 ∷ 35 ∷ 2 ∷ 4 ∷ [])) ∷ [];
+    }
+    -- the tester raises from the larger counter: own 3, carried 7, so 8
+    ∷ record {
+      got = hears (live 3 1 1 testing (setQuiet true noMarks)) (letter 0 0 (Reply 7));
+      want = (1 ∷ []) ∷ (8 ∷ 1 ∷ 1 ∷ []) ∷ (0 ∷ 16 ∷ 0 ∷ []) ∷ (0 ∷ 1 ∷ 35 ∷ 0 ∷ 8 ∷ []) ∷ [];
+    }
+    -- of two testers the higher-numbered only marks that it was asked
+    ∷ record { got = hears (live 2 2 1 testing noMarks) (letter 0 0 Request); want = (1 ∷ []) ∷ (2 ∷ 2 ∷ 1 ∷ []) ∷ (12 ∷ 0 ∷ 0 ∷ []) ∷ [] ∷ [] }
+    -- the lower-numbered answers
+    ∷ record { got = hears (live 2 2 1 noMarks testing) (letter 2 1 Request); want = (1 ∷ []) ∷ (2 ∷ 2 ∷ 1 ∷ []) ∷ (0 ∷ 1 ∷ 0 ∷ []) ∷ (1 ∷ 1 ∷ 34 ∷ 2 ∷ []) ∷ [] }
+    -- turn goes off when a token is got; where the counter is odd the other known links are told before the reply
+    ∷ record {
+      got = hears (live 3 2 4 (setTurn true noMarks) noMarks) (letter 0 0 Request);
+      want = (1 ∷ []) ∷ (3 ∷ 2 ∷ 4 ∷ []) ∷ (1 ∷ 0 ∷ 0 ∷ []) ∷ ((0 ∷ 1 ∷ 35 ∷ 1 ∷ 2 ∷ []) ++ (0 ∷ 1 ∷ 35 ∷ 2 ∷ 4 ∷ []) ++ (0 ∷ 1 ∷ 34 ∷ 3 ∷ [])) ∷ [];
+    }
+    -- a notice goes on, and not back where it came from; no purge, though link 2 lies behind an odd link now
+    ∷ record { got = hears (live 2 2 4 noMarks noMarks) (letter 0 0 (Notice 1 3)); want = (1 ∷ []) ∷ (2 ∷ 3 ∷ 4 ∷ []) ∷ (0 ∷ 0 ∷ 0 ∷ []) ∷ (1 ∷ 1 ∷ 35 ∷ 1 ∷ 3 ∷ []) ∷ [] }
+    -- nor on a quiet link
+    ∷ record { got = hears (live 2 2 4 noMarks (setQuiet true noMarks)) (letter 0 0 (Notice 2 5)); want = (1 ∷ []) ∷ (2 ∷ 2 ∷ 5 ∷ []) ∷ (0 ∷ 16 ∷ 0 ∷ []) ∷ [] ∷ [] }
+    -- and a letter that comes on a quiet link is gone
+    ∷ record { got = hears (live 2 2 4 (setQuiet true noMarks) noMarks) (letter 0 0 (Notice 2 5)); want = (1 ∷ []) ∷ (2 ∷ 2 ∷ 4 ∷ []) ∷ (16 ∷ 0 ∷ 0 ∷ []) ∷ [] ∷ [] }
+    ∷ []
+
+pub traps-hold : map (λ c. c .got) traps ≡ map (λ c. c .want) traps
+unfolding traps
+traps-hold = refl
