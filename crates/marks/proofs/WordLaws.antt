@@ -131,12 +131,13 @@ module _ (q : ℕ → Bool) where
   upto-none = by-none (upTo q 0) (λ t h. ap (λ (b : Bool). b && q t) (le-ltb t 0 (omega arith)))
 
   pub upto-more : (k w r : ℕ) (b : Bool) → w ≡ wordBy (upTo q k) → b ≡ q k → r ≡ wordBy (λ t. if eqb t k then b else inWord w t)
-    → r ≡ wordBy (upTo q (k + 1))
+      → r ≡ wordBy (upTo q (k + 1))
   upto-more k w r b e p d = d ∙ by-same (λ t. if eqb t k then b else inWord w t) (upTo q (k + 1)) (λ t l. go t l (ℕ-discrete t k))
     where
       later : (t : ℕ) → (t ≡ k → ⊥) → Dec (t < k) → (ltb t k && q t) ≡ (ltb t (k + 1) && q t)
       later t n (yes l) = ap (λ (x : Bool). x && q t) (lt-ltb t k l) ∙ ap (λ (x : Bool). x && q t) (sym (lt-ltb t (k + 1) (omega arith)))
       later t n (no l) = ap (λ (x : Bool). x && q t) (le-ltb t k (omega arith)) ∙ ap (λ (x : Bool). x && q t) (sym (le-ltb t (k + 1) (omega arith)))
+
       go : (t : ℕ) → t < 64 → Dec (t ≡ k) → (if eqb t k then b else inWord w t) ≡ upTo q (k + 1) t
       go t l (yes c) =
           ap (λ (x : Bool). if x then b else inWord w t) (eq-eqb t k c) ∙ p ∙ ap q (sym c)
@@ -146,7 +147,7 @@ module _ (q : ℕ → Bool) where
 
 -- what the code reads off the ends of link k
 pub own-read : (net : Net) (s k : ℕ) (b : Bool) → k < linkCount net → b ≡ (eqb (getD (net .low) k 0) s || eqb (getD (net .high) k 0) s)
-  → b ≡ isEnd (networkOf net) k s
+    → b ≡ isEnd (networkOf net) k s
 own-read net s k b h p = p ∙ ap (λ (x : Ends). eqb (x .low) s || eqb (x .high) s) (sym (ends-of net k h))
 
 -- ---- what is in either of two words

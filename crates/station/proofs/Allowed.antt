@@ -39,7 +39,7 @@ pub allowed-at : (n : ℕ) (kind : ℕ) (x : Condition) (m : Marks) → kind ≡
 allowed-at n kind x m e = ap (λ (i : ℕ). allowedBy (kindOf i) x m) (sym e)
 
 pub allowed-else : (kind : ℕ) (x : Condition) (m : Marks) → (kind ≡ 1 → ⊥) → (kind ≡ 2 → ⊥) → (kind ≡ 3 → ⊥) → (kind ≡ 4 → ⊥) → (kind ≡ 5 → ⊥) → (kind ≡ 6 → ⊥)
-  → true ≡ allowedBy (kindOf kind) x m
+    → true ≡ allowedBy (kindOf kind) x m
 allowed-else zero x m a b c d e f = refl
 allowed-else (suc zero) x m a b c d e f = absurd (a refl)
 allowed-else (suc (suc zero)) x m a b c d e f = absurd (b refl)
@@ -89,7 +89,7 @@ module _ (own c to : ℕ) (r : Healed) (e : r ≡ To to) (h : healedNumbers r �
 
   -- the answer once the new counter fits, by the two parities and whether they are equal
   fits : (a b q : Bool) → even own ≡ a → even c ≡ b → eqb own c ≡ q
-    → (if not a || not b then (0 ∷ 0 ∷ 2 ∷ to ∷ []) else (if q then (0 ∷ 0 ∷ 4 ∷ []) else (0 ∷ 0 ∷ 3 ∷ to ∷ []))) ≡ replyAnswer own c
+      → (if not a || not b then (0 ∷ 0 ∷ 2 ∷ to ∷ []) else (if q then (0 ∷ 0 ∷ 4 ∷ []) else (0 ∷ 0 ∷ 3 ∷ to ∷ []))) ≡ replyAnswer own c
   fits a b q x y z =
       ap (λ (n : ℕ). if not a || not b then (0 ∷ 0 ∷ 2 ∷ n ∷ []) else (if q then (0 ∷ 0 ∷ 4 ∷ []) else (0 ∷ 0 ∷ 3 ∷ n ∷ []))) (known .1)
       ∙ ap₂ (λ (i j : Bool). if not i || not j then (0 ∷ 0 ∷ 2 ∷ healed own c ∷ []) else (if q then (0 ∷ 0 ∷ 4 ∷ []) else (0 ∷ 0 ∷ 3 ∷ healed own c ∷ []))) (sym x) (sym y)

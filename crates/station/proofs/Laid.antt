@@ -26,13 +26,14 @@ use Rattle.station.specs.Values.{holdingOf, bitsOf, laidWord, laidWords,
 -- ---- words
 -- a word whose bits are those of the list, and past it those of the old word
 word-laid : (n : ℕ) → n ≤ 64 → (f : ℕ → Bool) (old : ℕ) (bs : List Bool) → length bs ≡ n → ((t : ℕ) → t < n → getD bs t false ≡ f t)
-  → ((t : ℕ) → n ≤ t → t < 64 → inWord old t ≡ f t) → wordBy f ≡ laidWord n old bs
+    → ((t : ℕ) → n ≤ t → t < 64 → inWord old t ≡ f t) → wordBy f ≡ laidWord n old bs
 unfolding wordBy
 word-laid n l f old bs e first rest =
     ap wordOf (ext-getD false (map f (below 64)) (bs ++ drop n (bitsOf old)) sizes (λ i h. at i (subst (λ (x : ℕ). i < x) (length-map-below f 64) h) (decLt i n)))
   where
     sizes : length (map f (below 64)) ≡ length (bs ++ drop n (bitsOf old))
     sizes = length-map-below f 64 ∙ sym (length-append bs (drop n (bitsOf old)) ∙ omega (arith, e, length-drop n (bitsOf old), length-map-below (inWord old) 64))
+
     at : (i : ℕ) → i < 64 → Dec (i < n) → getD (map f (below 64)) i false ≡ getD (bs ++ drop n (bitsOf old)) i false
     at i h (yes m) = getD-map-below f 64 i false h ∙ sym (List·getD-append bs (drop n (bitsOf old)) false i (omega (arith, e)) ∙ first i m)
     at i h (no m) =
@@ -41,7 +42,7 @@ word-laid n l f old bs e first rest =
         let q′ : n + j ≡ i = omega arith in
         getD-map-below f 64 i false h
         ∙ sym (subst (λ (x : ℕ). getD (bs ++ drop n (bitsOf old)) x false ≡ getD (drop n (bitsOf old)) j false) q (getD-append-add bs (drop n (bitsOf old)) j false)
-          ∙ getD-drop n (bitsOf old) j false ∙ ap (λ (x : ℕ). getD (bitsOf old) x false) q′ ∙ getD-map-below (inWord old) 64 i false h ∙ rest i (omega arith) h)
+        ∙ getD-drop n (bitsOf old) j false ∙ ap (λ (x : ℕ). getD (bitsOf old) x false) q′ ∙ getD-map-below (inWord old) 64 i false h ∙ rest i (omega arith) h)
 
 -- the five words of marks that are given for each link
 abbrev pub wordsBy : (ℕ → Marks) → Words
@@ -51,23 +52,24 @@ wordsBy g =
       turn = wordBy (λ t. g t .turn);
       testing = wordBy (λ t. g t .testing);
       asked = wordBy (λ t. g t .asked);
-      quiet = wordBy (λ t. g t .quiet)
+      quiet = wordBy (λ t. g t .quiet);
     }
 
 pub words-laid : (n : ℕ) → n ≤ 64 → (g : ℕ → Marks) (old : Words) (ms : List Marks) → length ms ≡ n → ((t : ℕ) → t < n → getD ms t noMarks ≡ g t)
-  → ((t : ℕ) → n ≤ t → t < 64 → marksAt old t ≡ g t) → wordsBy g ≡ laidWords n old ms
+    → ((t : ℕ) → n ≤ t → t < 64 → marksAt old t ≡ g t) → wordsBy g ≡ laidWords n old ms
 words-laid n l g old ms e first rest = λ i. record {
   token = one (λ m. m .token) refl (old .token) (λ t. refl) i;
   turn = one (λ m. m .turn) refl (old .turn) (λ t. refl) i;
   testing = one (λ m. m .testing) refl (old .testing) (λ t. refl) i;
   asked = one (λ m. m .asked) refl (old .asked) (λ t. refl) i;
-  quiet = one (λ m. m .quiet) refl (old .quiet) (λ t. refl) i }
+  quiet = one (λ m. m .quiet) refl (old .quiet) (λ t. refl) i;
+}
   where
     one : (p : Marks → Bool) → p noMarks ≡ false → (w : ℕ) → ((t : ℕ) → inWord w t ≡ p (marksAt old t)) → wordBy (λ t. p (g t)) ≡ laidWord n w (map p ms)
     one p q w r =
         word-laid n l (λ t. p (g t)) w (map p ms) (length-map ms p ∙ e)
-          (λ t h. ap (getD (map p ms) t) (sym q) ∙ List·getD-map p ms t noMarks ∙ ap p (first t h))
-          (λ t h m. r t ∙ ap p (rest t h m))
+        (λ t h. ap (getD (map p ms) t) (sym q) ∙ List·getD-map p ms t noMarks ∙ ap p (first t h))
+        (λ t h m. r t ∙ ap p (rest t h m))
 
 -- marks written for link k are the marks of every link, but of k these
 with-by : (w : Words) (k : ℕ) (m : Marks) → wordsWith w k m ≡ wordsBy (λ t. if eqb t k then m else marksAt w t)
@@ -76,11 +78,13 @@ with-by w k m = λ i. record {
   turn = one (λ x. x .turn) i;
   testing = one (λ x. x .testing) i;
   asked = one (λ x. x .asked) i;
-  quiet = one (λ x. x .quiet) i }
+  quiet = one (λ x. x .quiet) i;
+}
   where
     over : (p : Marks → Bool) (b : Bool) (x y : Marks) → (if b then p x else p y) ≡ p (if b then x else y)
     over p true x y = refl
     over p false x y = refl
+
     one : (p : Marks → Bool) → wordBy (λ t. if eqb t k then p m else p (marksAt w t)) ≡ wordBy (λ t. p (if eqb t k then m else marksAt w t))
     one p = by-same (λ t. if eqb t k then p m else p (marksAt w t)) (λ t. p (if eqb t k then m else marksAt w t)) (λ t h. over p (eqb t k) m (marksAt w t))
 
@@ -98,7 +102,8 @@ by-same-words w f = λ i. record {
   turn = by-ext (w .turn) (inWord (w .turn)) (f .turn) (λ t h. refl) i;
   testing = by-ext (w .testing) (inWord (w .testing)) (f .testing) (λ t h. refl) i;
   asked = by-ext (w .asked) (inWord (w .asked)) (f .asked) (λ t h. refl) i;
-  quiet = by-ext (w .quiet) (inWord (w .quiet)) (f .quiet) (λ t h. refl) i }
+  quiet = by-ext (w .quiet) (inWord (w .quiet)) (f .quiet) (λ t h. refl) i;
+}
 
 -- ---- what a holding has
 module _ (net : Net) (st : Station) where
@@ -123,12 +128,14 @@ module _ (net : Net) (st : Station) where
   marks-laid k m h =
       with-by (st .marks) k m
       ∙ words-laid (linkCount net) (omega arith) (λ t. if eqb t k then m else marksAt (st .marks) t) (st .marks) (set olds k m)
-          (length-set olds k m ∙ length-map-below (marksAt (st .marks)) (linkCount net)) first (λ t g l. rest t (λ q. omega arith))
+      (length-set olds k m ∙ length-map-below (marksAt (st .marks)) (linkCount net)) first (λ t g l. rest t (λ q. omega arith))
     where
       olds : List Marks
       olds = map (marksAt (st .marks)) (below (linkCount net))
+
       rest : (t : ℕ) → (t ≡ k → ⊥) → marksAt (st .marks) t ≡ (if eqb t k then m else marksAt (st .marks) t)
       rest t n = ap (λ (b : Bool). if b then m else marksAt (st .marks) t) (sym (ne-eqb t k n))
+
       first : (t : ℕ) → t < linkCount net → getD (set olds k m) t noMarks ≡ (if eqb t k then m else marksAt (st .marks) t)
       first t l = go (ℕ-discrete t k)
         where
@@ -142,7 +149,7 @@ module _ (net : Net) (st : Station) where
   same-laid f =
       by-same-words (st .marks) f
       ∙ words-laid (linkCount net) (omega arith) (marksAt (st .marks)) (st .marks) (map (marksAt (st .marks)) (below (linkCount net)))
-          (length-map-below (marksAt (st .marks)) (linkCount net)) (λ t h. getD-map-below (marksAt (st .marks)) (linkCount net) t noMarks h) (λ t g l. refl)
+      (length-map-below (marksAt (st .marks)) (linkCount net)) (λ t h. getD-map-below (marksAt (st .marks)) (linkCount net) t noMarks h) (λ t g l. refl)
 
   -- ---- counters
   pub table-set : (k c : ℕ) → k < linkCount net → tableOf net (set (st .counters) k c) ≡ set (tableOf net (st .counters)) k c
@@ -160,7 +167,7 @@ module _ (net : Net) (st : Station) where
 
   -- ---- a station value made of parts
   pub laid-is : (r : Station) (h : Holding) → r .condition ≡ h .condition → r .counters ≡ h .table ++ drop (linkCount net) (st .counters)
-    → r .marks ≡ laidWords (linkCount net) (st .marks) (h .marks) → r ≡ laid net st h
+      → r .marks ≡ laidWords (linkCount net) (st .marks) (h .marks) → r ≡ laid net st h
   unfolding laid
   laid-is r h p q u = λ i. record { condition = p i; counters = q i; marks = u i }
 
@@ -171,7 +178,7 @@ module _ (net : Net) (st : Station) where
 
   -- the marks of link k changed
   pub laid-marked : (k : ℕ) (m : Marks) → k < linkCount net
-    → _≡_ {A = Station} (record { condition = st .condition; counters = st .counters; marks = wordsWith (st .marks) k m }) (laid net st (marked k m (holdingOf net st)))
+      → _≡_ {A = Station} (record { condition = st .condition; counters = st .counters; marks = wordsWith (st .marks) k m }) (laid net st (marked k m (holdingOf net st)))
   unfolding holdingOf
   laid-marked k m h = laid-is (record { condition = st .condition; counters = st .counters; marks = wordsWith (st .marks) k m }) (marked k m (holdingOf net st)) refl counters-same (marks-laid k m h)
 

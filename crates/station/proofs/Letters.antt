@@ -83,20 +83,25 @@ module _ (N : Network) (s : ℕ) (x : Letter) (h : Holding) where
     where
       o : ℕ
       o = counter h k
+
       next : Holding
       next = counted k (healed o c) (marked k (repliedMarks (mark h k)) h)
+
       rest : Bool → Bool → Done
       rest a b = if a then heals N s k (healed o c) h else (if b then unchanged next else levels N s k (healed o c) h)
+
       parity : (a b : Bool) → (not a || not b) ≡ false → a ≡ true
       parity true b q = refl
       parity false b q = clash (ap (λ (z : Bool). if z then 1 else 0) (sym q))
+
       still : eqb o c ≡ true → odd o || odd c ≡ false → unchanged next ≡ unchanged (marked k (repliedMarks (mark h k)) h)
       still p d =
           ap (λ (v : ℕ). unchanged (counted k v (marked k (repliedMarks (mark h k)) h))) (same-counter o c (parity (even o) (even c) d) (eqb-true o c p))
           ∙ ap (λ (l : List ℕ). unchanged (record { condition = h .condition; table = l; marks = set (h .marks) k (repliedMarks (mark h k)) })) (set-getD (h .table) k 1)
+
       by : (e : Effect) (w a b : Bool) → odd o || odd c ≡ a → eqb o c ≡ b
-        → 0 ∷ 0 ∷ effectNumbers e ≡ (if w then (8 ∷ 0 ∷ []) else (if a then (0 ∷ 0 ∷ 2 ∷ healed o c ∷ []) else (if b then (0 ∷ 0 ∷ 4 ∷ []) else (0 ∷ 0 ∷ 3 ∷ healed o c ∷ []))))
-        → rest a b ≡ done e
+          → 0 ∷ 0 ∷ effectNumbers e ≡ (if w then (8 ∷ 0 ∷ []) else (if a then (0 ∷ 0 ∷ 2 ∷ healed o c ∷ []) else (if b then (0 ∷ 0 ∷ 4 ∷ []) else (0 ∷ 0 ∷ 3 ∷ healed o c ∷ []))))
+          → rest a b ≡ done e
       by e true a b p q r = clash (cc)
       by Asks false true b p q r = clash (cc)
       by (Heals to) false true b p q r = ap (λ (v : ℕ). heals N s k v h) (cc)
@@ -186,7 +191,7 @@ module _ (N : Network) (s : ℕ) (x : Letter) (h : Holding) where
 
   -- by the reply's two tests
   reply-by : (c : ℕ) (r : Heard) (t w : Bool) → mark h k .testing ≡ t → ltb 65535 (healed (counter h k) c) ≡ w
-    → heardNumbers r ≡ (if t then replyAnswer (counter h k) c else (0 ∷ 0 ∷ [])) → (if not (t && w) then onReply N s k c h else unchanged h) ≡ does r
+      → heardNumbers r ≡ (if t then replyAnswer (counter h k) c else (0 ∷ 0 ∷ [])) → (if not (t && w) then onReply N s k c h else unchanged h) ≡ does r
   reply-by c r false w p e q = quiet-reply p ∙ idle-done r q
     where
       quiet-reply : mark h k .testing ≡ false → onReply N s k c h ≡ unchanged h
@@ -214,7 +219,7 @@ module _ (N : Network) (s : ℕ) (x : Letter) (h : Holding) where
   received-does r q = go (hears N s k h) refl q
     where
       go : (b : Bool) → hears N s k h ≡ b → heardNumbers r ≡ (if b then bodyAnswer N s k (x .body) h else (0 ∷ 1 ∷ []))
-        → (if b && not (bodyOver N s k (x .body) h) then onBody N s x (x .body) h else unchanged h) ≡ does r
+          → (if b && not (bodyOver N s k (x .body) h) then onBody N s x (x .body) h else unchanged h) ≡ does r
       go true e p = body-done (x .body) r p
       go false e p = gone-done r p
 
@@ -228,16 +233,20 @@ module _ (N : Network) (s : ℕ) (x : Letter) (h : Holding) where
       rest-not i false true b p = cc
       rest-not i false false true p = cc
       rest-not i false false false p = cc
+
       notice : (i d : ℕ) (b : Bool) → (b ≡ true → i < length (N .links)) → 0 ∷ 0 ∷ 5 ∷ j ∷ c ∷ [] ≡ (if b then (0 ∷ 0 ∷ 5 ∷ i ∷ d ∷ []) else (0 ∷ 0 ∷ [])) → j < length (N .links)
       notice i d true f p = subst (λ (n : ℕ). n < length (N .links)) {x = i} {y = j} (cc) (f refl)
       notice i d false f p = clash (cc)
+
       reply : (i : ℕ) (t : Bool) → 0 ∷ 0 ∷ 5 ∷ j ∷ c ∷ [] ≡ (if t then replyAnswer (counter h k) i else (0 ∷ 0 ∷ [])) → j < length (N .links)
       reply i true p = clash (rest-not i (ltb 65535 (healed (counter h k) i)) (odd (counter h k) || odd i) (eqb (counter h k) i) p)
       reply i false p = clash (cc)
+
       body : (y : Body) → 0 ∷ 0 ∷ 5 ∷ j ∷ c ∷ [] ≡ bodyAnswer N s k y h → j < length (N .links)
       body Request p = clash (cc)
       body (Reply i) p = reply i (mark h k .testing) p
       body (Notice i d) p = notice i d (takes N s i d h) (λ e. ltb→lt i (length (N .links)) (and-l (ltb i (length (N .links))) _ (is-T _ e))) p
+
       go : (b : Bool) (y : Body) → 0 ∷ 0 ∷ 5 ∷ j ∷ c ∷ [] ≡ (if b then bodyAnswer N s k y h else (0 ∷ 1 ∷ [])) → j < length (N .links)
       go true y p = body y p
       go false y p = clash (cc)

@@ -15,3 +15,4 @@ pub mod Counts
 pub mod Cases
 pub mod Senders
 pub mod Traps
+pub mod Heed

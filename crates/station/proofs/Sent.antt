@@ -99,7 +99,7 @@ tell-from s c d p ways zero i e = refl
 tell-from s c d p ways (suc n) i e = go (p i) (tell-from s c d p ways n (suc i) (λ j h l. e j (omega arith) (omega arith)))
   where
     go : (b : Bool) → tell s c (keep p (from (suc i) n)) ways ≡ tell s d (keep p (from (suc i) n)) ways
-      → tell s c (if b then (i ∷ keep p (from (suc i) n)) else keep p (from (suc i) n)) ways ≡ tell s d (if b then (i ∷ keep p (from (suc i) n)) else keep p (from (suc i) n)) ways
+        → tell s c (if b then (i ∷ keep p (from (suc i) n)) else keep p (from (suc i) n)) ways ≡ tell s d (if b then (i ∷ keep p (from (suc i) n)) else keep p (from (suc i) n)) ways
     go true r = ap₂ (λ (x : ℕ) (l : List Letter). onEach s (Notice i x) ways ++ l) (e i (omega arith) (omega arith)) r
     go false r = r
 
@@ -116,7 +116,7 @@ lastOf s x b = if b then (letter s (x .link) (Reply (x .reply)) ∷ []) else []
 
 module _ (s : ℕ) (x : Sending) where
   by-parts : (ks js ways : List ℕ) (b : Bool) → membersOf (x .requests) ≡ ks → membersOf (x .subjects) ≡ js → membersOf (x .ways) ≡ ways → x .replies ≡ b
-    → lettersOf s x ≡ parts s ks (λ j. getD (x .told) j 0) js ways (lastOf s x b)
+      → lettersOf s x ≡ parts s ks (λ j. getD (x .told) j 0) js ways (lastOf s x b)
   unfolding lettersOf
   by-parts ks js ways b p q w r =
       ap (λ (l : List ℕ). parts s l (λ j. getD (x .told) j 0) (membersOf (x .subjects)) (membersOf (x .ways)) (lastOf s x (x .replies))) p
@@ -133,10 +133,10 @@ module _ (s : ℕ) (x : Sending) where
 
   -- notices alone
   pub sent-notices : (js ways : List ℕ) → x .requests ≡ 0 → membersOf (x .subjects) ≡ js → membersOf (x .ways) ≡ ways → x .replies ≡ false
-    → lettersOf s x ≡ tell s (λ j. getD (x .told) j 0) js ways
+      → lettersOf s x ≡ tell s (λ j. getD (x .told) j 0) js ways
   sent-notices js ways p q w r = by-parts [] js ways false (ap membersOf p ∙ members-none) q w r ∙ append-nil (tell s (λ j. getD (x .told) j 0) js ways)
 
   -- notices, and the reply
   pub sent-reply : (js ways : List ℕ) → x .requests ≡ 0 → membersOf (x .subjects) ≡ js → membersOf (x .ways) ≡ ways → x .replies ≡ true
-    → lettersOf s x ≡ tell s (λ j. getD (x .told) j 0) js ways ++ (letter s (x .link) (Reply (x .reply)) ∷ [])
+      → lettersOf s x ≡ tell s (λ j. getD (x .told) j 0) js ways ++ (letter s (x .link) (Reply (x .reply)) ∷ [])
   sent-reply js ways p q w r = by-parts [] js ways true (ap membersOf p ∙ members-none) q w r

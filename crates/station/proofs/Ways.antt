@@ -31,17 +31,17 @@ use Rattle.station.proofs.Laid.{wordsBy, words-laid, laid-is, counters-
 
 -- ---- ways
 pub open-ways-is : (net : Net) (s q own r : ℕ) → own ≡ wordBy (ownAt net s) → r ≡ wordBy (λ t. inWord own t && not (inWord q t))
-  → r ≡ wordBy (upTo (openAt net s q) (linkCount net))
+    → r ≡ wordBy (upTo (openAt net s q) (linkCount net))
 open-ways-is net s q own r e p =
     p ∙ by-same (λ t. inWord own t && not (inWord q t)) (upTo (openAt net s q) (linkCount net))
-      (λ t h. ap (λ (b : Bool). b && not (inWord q t)) (ap (λ (x : ℕ). inWord x t) e ∙ in-by (ownAt net s) t h)
-        ∙ sym (and-assoc (ltb t (linkCount net)) (isEnd (networkOf net) t s) (not (inWord q t))))
+    (λ t h. ap (λ (b : Bool). b && not (inWord q t)) (ap (λ (x : ℕ). inWord x t) e ∙ in-by (ownAt net s) t h)
+    ∙ sym (and-assoc (ltb t (linkCount net)) (isEnd (networkOf net) t s) (not (inWord q t))))
 
 pub ways-but-is : (p : ℕ → Bool) (m k w r : ℕ) → w ≡ wordBy (upTo p m) → r ≡ wordBy (λ t. if eqb t k then false else inWord w t)
-  → r ≡ wordBy (upTo (λ j. p j && not (eqb j k)) m)
+    → r ≡ wordBy (upTo (λ j. p j && not (eqb j k)) m)
 ways-but-is p m k w r e q =
     q ∙ by-same (λ t. if eqb t k then false else inWord w t) (upTo (λ j. p j && not (eqb j k)) m)
-      (λ t h. ap (λ (b : Bool). if eqb t k then false else b) (ap (λ (x : ℕ). inWord x t) e ∙ in-by (upTo p m) t h) ∙ go (ltb t m) (p t) (eqb t k))
+    (λ t h. ap (λ (b : Bool). if eqb t k then false else b) (ap (λ (x : ℕ). inWord x t) e ∙ in-by (upTo p m) t h) ∙ go (ltb t m) (p t) (eqb t k))
   where
     go : (a b c : Bool) → (if c then false else (a && b)) ≡ (a && (b && not c))
     go true true true = refl
@@ -53,37 +53,43 @@ ways-but-is p m k w r e q =
 
 -- ---- the marks of all links at a start: token on each own link
 token-own : (net : Net) (s token : ℕ) → token ≡ wordBy (ownAt net s)
-  → _≡_ {A = Words} (record { token = token; turn = 0; testing = 0; asked = 0; quiet = 0 }) (laidWords (linkCount net) noWords (map (λ k. if isEnd (networkOf net) k s then setToken true noMarks else noMarks) (linkNumbers (networkOf net))))
+    → _≡_ {A = Words} (record { token = token; turn = 0; testing = 0; asked = 0; quiet = 0 }) (laidWords (linkCount net) noWords (map (λ k. if isEnd (networkOf net) k s then setToken true noMarks else noMarks) (linkNumbers (networkOf net))))
 token-own net s token e =
     (λ i. record { token = tokens i; turn = none (λ m. m .turn) refl refl i; testing = none (λ m. m .testing) refl refl i; asked = none (λ m. m .asked) refl refl i; quiet = none (λ m. m .quiet) refl refl i })
     ∙ words-laid (linkCount net) (omega arith) given noWords (map mine (below (linkCount net))) (length-map-below mine (linkCount net))
-        (λ t h. getD-map-below mine (linkCount net) t noMarks h ∙ ap (λ (b : Bool). if b && isEnd (networkOf net) t s then setToken true noMarks else noMarks) (sym (lt-ltb t (linkCount net) h)))
-        (λ t h l. empty t ∙ ap (λ (b : Bool). if b && isEnd (networkOf net) t s then setToken true noMarks else noMarks) (sym (le-ltb t (linkCount net) h)))
+    (λ t h. getD-map-below mine (linkCount net) t noMarks h ∙ ap (λ (b : Bool). if b && isEnd (networkOf net) t s then setToken true noMarks else noMarks) (sym (lt-ltb t (linkCount net) h)))
+    (λ t h l. empty t ∙ ap (λ (b : Bool). if b && isEnd (networkOf net) t s then setToken true noMarks else noMarks) (sym (le-ltb t (linkCount net) h)))
     ∙ ap (λ (n : ℕ). laidWords (linkCount net) noWords (map mine (below n))) (sym (links-of net))
   where
     mine : ℕ → Marks
     mine k = if isEnd (networkOf net) k s then setToken true noMarks else noMarks
+
     given : ℕ → Marks
     given t = if ownAt net s t then setToken true noMarks else noMarks
+
     over : (p : Marks → Bool) (b : Bool) → p (setToken true noMarks) ≡ false → p noMarks ≡ false → p (if b then setToken true noMarks else noMarks) ≡ false
     over p true x y = x
     over p false x y = y
+
     none : (p : Marks → Bool) → p (setToken true noMarks) ≡ false → p noMarks ≡ false → 0 ≡ wordBy (λ t. p (given t))
     none p x y = by-none (λ t. p (given t)) (λ t h. over p (ownAt net s t) x y)
+
     shows : (b : Bool) → b ≡ (if b then setToken true noMarks else noMarks) .token
     shows true = refl
     shows false = refl
+
     tokens : token ≡ wordBy (λ t. given t .token)
     tokens = e ∙ by-same (ownAt net s) (λ t. given t .token) (λ t h. shows (ownAt net s t))
+
     empty : (t : ℕ) → marksAt noWords t ≡ noMarks
     empty t =
         let z = zero-is-out 0 t (none-in t) in
         λ i. record { token = z i; turn = z i; testing = z i; asked = z i; quiet = z i }
 
 pub start-is : (net : Net) (s token : ℕ) (st : Station) → token ≡ wordBy (ownAt net s)
-  → _≡_ {A = Station} (record { condition = Waiting; counters = st .counters; marks = record { token = token; turn = 0; testing = 0; asked = 0; quiet = 0 } })
-      (laid net (unmarked st) (started (networkOf net) s (holdingOf net st) .holding))
+    → _≡_ {A = Station} (record { condition = Waiting; counters = st .counters; marks = record { token = token; turn = 0; testing = 0; asked = 0; quiet = 0 } })
+    (laid net (unmarked st) (started (networkOf net) s (holdingOf net st) .holding))
 unfolding started holdingOf
 start-is net s token st e =
     laid-is net (unmarked st) (record { condition = Waiting; counters = st .counters; marks = record { token = token; turn = 0; testing = 0; asked = 0; quiet = 0 } })
-      (started (networkOf net) s (holdingOf net st) .holding) refl (counters-same net st) (token-own net s token e)
+    (started (networkOf net) s (holdingOf net st) .holding) refl (counters-same net st) (token-own net s token e)

@@ -57,5 +57,5 @@ recoveredWords own w =
       turn = wordBy (λ t. (if inWord own t then intervalMarks (marksAt w t) else marksAt w t) .turn);
       testing = wordBy (λ t. (if inWord own t then intervalMarks (marksAt w t) else marksAt w t) .testing);
       asked = w .asked;
-      quiet = w .quiet
+      quiet = w .quiet;
     }

@@ -78,21 +78,51 @@ fn interval_marks(m: Marks) -> Marks
     ensures { λ r. ⌜ r ≡ intervalMarks m ⌝ }
 {
     if m.token {
-        return Marks { token: false, turn: m.turn, testing: true, asked: m.asked, quiet: m.quiet };
+        return Marks {
+            token: false,
+            turn: m.turn,
+            testing: true,
+            asked: m.asked,
+            quiet: m.quiet,
+        };
     }
     if m.turn {
-        return Marks { token: m.token, turn: false, testing: true, asked: m.asked, quiet: m.quiet };
+        return Marks {
+            token: m.token,
+            turn: false,
+            testing: true,
+            asked: m.asked,
+            quiet: m.quiet,
+        };
     }
-    Marks { token: m.token, turn: true, testing: m.testing, asked: m.asked, quiet: m.quiet }
+    Marks {
+        token: m.token,
+        turn: true,
+        testing: m.testing,
+        asked: m.asked,
+        quiet: m.quiet,
+    }
 }
 
 fn test_ended(m: Marks) -> Marks
     ensures { λ r. ⌜ r ≡ testEnded m ⌝ }
 {
     if m.asked {
-        return Marks { token: true, turn: m.turn, testing: false, asked: false, quiet: m.quiet };
+        return Marks {
+            token: true,
+            turn: m.turn,
+            testing: false,
+            asked: false,
+            quiet: m.quiet,
+        };
     }
-    Marks { token: m.token, turn: m.turn, testing: false, asked: m.asked, quiet: m.quiet }
+    Marks {
+        token: m.token,
+        turn: m.turn,
+        testing: false,
+        asked: m.asked,
+        quiet: m.quiet,
+    }
 }
 
 fn tests_now(m: Marks) -> bool
@@ -109,7 +139,13 @@ fn marks_there(links: u8, w: Words, k: u8) -> Marks
     ensures { λ r. ⌜ r ≡ marksThere links w k ⌝ }
 {
     if at_most_64(links) <= k {
-        return Marks { token: false, turn: false, testing: false, asked: false, quiet: false };
+        return Marks {
+            token: false,
+            turn: false,
+            testing: false,
+            asked: false,
+            quiet: false,
+        };
     }
     marks::marks_at(w, k)
 }
@@ -125,7 +161,15 @@ fn at_most_64(x: u8) -> u8
 fn silence(told: Counters) -> Sending
     ensures { λ r. ⌜ r ≡ silent told ⌝ }
 {
-    Sending { requests: 0, subjects: 0, ways: 0, told, replies: false, reply: 0, link: 0 }
+    Sending {
+        requests: 0,
+        subjects: 0,
+        ways: 0,
+        told,
+        replies: false,
+        reply: 0,
+        link: 0,
+    }
 }
 
 // The same notice, of one link, on each way.
@@ -133,7 +177,15 @@ fn one_notice(k: u8, ways: u64, told: Counters) -> Sending
     ensures { λ r. ⌜ r ≡ record { requests = 0; subjects = wordBy (λ t. if eqb t k then true else inWord 0 t); ways = ways; told = told; replies = false; reply = 0; link = 0 } ⌝ }
 {
     let subjects = marks::put(0, k, true);
-    Sending { requests: 0, subjects, ways, told, replies: false, reply: 0, link: 0 }
+    Sending {
+        requests: 0,
+        subjects,
+        ways,
+        told,
+        replies: false,
+        reply: 0,
+        link: 0,
+    }
 }
 
 // The own links that aren't quiet.
@@ -175,7 +227,13 @@ pub fn start(net: Net, me: u8, st: Station) -> Station
     Station {
         condition: Condition::Waiting,
         counters,
-        marks: Words { token, turn: 0, testing: 0, asked: 0, quiet: 0 },
+        marks: Words {
+            token,
+            turn: 0,
+            testing: 0,
+            asked: 0,
+            quiet: 0,
+        },
     }
 }
 
@@ -185,15 +243,30 @@ pub fn end_interval(net: Net, me: u8, k: u8, st: Station) -> Acted
 {
     let counters = st.counters;
     if at_most_64(net.links) <= k {
-        return Acted { station: st, send: silence(counters) };
+        return Acted {
+            station: st,
+            send: silence(counters),
+        };
     }
     let m = marks::marks_at(st.marks, k);
     let words = marks::with_marks(st.marks, k, interval_marks(m));
     let requests = marks::put(0, k, tests_now(m));
     let condition = st.condition;
     Acted {
-        station: Station { condition, counters, marks: words },
-        send: Sending { requests, subjects: 0, ways: 0, told: counters, replies: false, reply: 0, link: 0 },
+        station: Station {
+            condition,
+            counters,
+            marks: words,
+        },
+        send: Sending {
+            requests,
+            subjects: 0,
+            ways: 0,
+            told: counters,
+            replies: false,
+            reply: 0,
+            link: 0,
+        },
     }
 }
 
@@ -203,7 +276,10 @@ pub fn end_timeout(net: Net, me: u8, k: u8, st: Station) -> Acted
 {
     let mut counters = st.counters;
     if at_most_64(net.links) <= k {
-        return Acted { station: st, send: silence(counters) };
+        return Acted {
+            station: st,
+            send: silence(counters),
+        };
     }
     let i = k as usize;
     let condition = st.condition;
@@ -211,14 +287,34 @@ pub fn end_timeout(net: Net, me: u8, k: u8, st: Station) -> Acted
     let m = test_ended(marks::marks_at(st.marks, k));
     if !reach::is_even(c) {
         let words = marks::with_marks(st.marks, k, m);
-        return Acted { station: Station { condition, counters, marks: words }, send: silence(counters) };
+        return Acted {
+            station: Station {
+                condition,
+                counters,
+                marks: words,
+            },
+            send: silence(counters),
+        };
     }
     counters[i] = reach::timed_out(c);
-    let silenced = Marks { token: m.token, turn: m.turn, testing: m.testing, asked: m.asked, quiet: true };
+    let silenced = Marks {
+        token: m.token,
+        turn: m.turn,
+        testing: m.testing,
+        asked: m.asked,
+        quiet: true,
+    };
     let words = marks::with_marks(st.marks, k, silenced);
     let ways = ways_but(net, me, st.marks.quiet, k);
     let after = reach::purged(net, counters, me);
-    Acted { station: Station { condition, counters: after, marks: words }, send: one_notice(k, ways, counters) }
+    Acted {
+        station: Station {
+            condition,
+            counters: after,
+            marks: words,
+        },
+        send: one_notice(k, ways, counters),
+    }
 }
 
 // Quiet ends on link k.
@@ -229,11 +325,21 @@ pub fn end_quiet(net: Net, k: u8, st: Station) -> Station
         return st;
     }
     let m = marks::marks_at(st.marks, k);
-    let loud = Marks { token: m.token, turn: m.turn, testing: m.testing, asked: m.asked, quiet: false };
+    let loud = Marks {
+        token: m.token,
+        turn: m.turn,
+        testing: m.testing,
+        asked: m.asked,
+        quiet: false,
+    };
     let words = marks::with_marks(st.marks, k, loud);
     let counters = st.counters;
     let condition = st.condition;
-    Station { condition, counters, marks: words }
+    Station {
+        condition,
+        counters,
+        marks: words,
+    }
 }
 
 // Down, marks off, counters 1.
@@ -249,7 +355,13 @@ pub fn stop(net: Net) -> Station
     Station {
         condition: Condition::Down,
         counters,
-        marks: Words { token: 0, turn: 0, testing: 0, asked: 0, quiet: 0 },
+        marks: Words {
+            token: 0,
+            turn: 0,
+            testing: 0,
+            asked: 0,
+            quiet: 0,
+        },
     }
 }
 
@@ -266,7 +378,13 @@ fn recovered_words(own: u64, w: Words) -> Words
     let flips = marks::without(own, w.token);
     let turn = marks::join(marks::without(w.turn, flips), marks::without(flips, w.turn));
     let testing = marks::join(w.testing, tests_on(own, w));
-    Words { token: marks::without(w.token, own), turn, testing, asked: w.asked, quiet: w.quiet }
+    Words {
+        token: marks::without(w.token, own),
+        turn,
+        testing,
+        asked: w.asked,
+        quiet: w.quiet,
+    }
 }
 
 // The own links on which a test begins.
@@ -286,8 +404,20 @@ pub fn recover(net: Net, me: u8, st: Station) -> Acted
     let requests = tests_on(own, st.marks);
     let counters = st.counters;
     Acted {
-        station: Station { condition: Condition::Live, counters, marks: words },
-        send: Sending { requests, subjects: 0, ways: 0, told: counters, replies: false, reply: 0, link: 0 },
+        station: Station {
+            condition: Condition::Live,
+            counters,
+            marks: words,
+        },
+        send: Sending {
+            requests,
+            subjects: 0,
+            ways: 0,
+            told: counters,
+            replies: false,
+            reply: 0,
+            link: 0,
+        },
     }
 }
 
@@ -439,18 +569,49 @@ fn hear_request(net: Net, me: u8, k: u8, sender: u16, st: Station) -> Acted
     let counters = st.counters;
     let condition = st.condition;
     if defers_to(m.testing, sender, me) {
-        let marked = Marks { token: m.token, turn: m.turn, testing: m.testing, asked: true, quiet: m.quiet };
+        let marked = Marks {
+            token: m.token,
+            turn: m.turn,
+            testing: m.testing,
+            asked: true,
+            quiet: m.quiet,
+        };
         let words = marks::with_marks(st.marks, k, marked);
-        return Acted { station: Station { condition, counters, marks: words }, send: silence(counters) };
+        return Acted {
+            station: Station {
+                condition,
+                counters,
+                marks: words,
+            },
+            send: silence(counters),
+        };
     }
-    let rested = Marks { token: true, turn: false, testing: false, asked: false, quiet: m.quiet };
+    let rested = Marks {
+        token: true,
+        turn: false,
+        testing: false,
+        asked: false,
+        quiet: m.quiet,
+    };
     let words = marks::with_marks(st.marks, k, rested);
     let c = counters[i];
     let subjects = told_over(net.links, counters, k, c);
     let ways = marks::put(0, k, true);
     Acted {
-        station: Station { condition, counters, marks: words },
-        send: Sending { requests: 0, subjects, ways, told: counters, replies: true, reply: c, link: k },
+        station: Station {
+            condition,
+            counters,
+            marks: words,
+        },
+        send: Sending {
+            requests: 0,
+            subjects,
+            ways,
+            told: counters,
+            replies: true,
+            reply: c,
+            link: k,
+        },
     }
 }
 
@@ -480,7 +641,13 @@ fn hear_heals(net: Net, me: u8, k: u8, to: u16, st: Station) -> Acted
 {
     let i = k as usize;
     let m = marks::marks_at(st.marks, k);
-    let ended = Marks { token: m.token, turn: m.turn, testing: false, asked: false, quiet: m.quiet };
+    let ended = Marks {
+        token: m.token,
+        turn: m.turn,
+        testing: false,
+        asked: false,
+        quiet: m.quiet,
+    };
     let words = marks::with_marks(st.marks, k, ended);
     let mut counters = st.counters;
     counters[i] = to;
@@ -489,8 +656,20 @@ fn hear_heals(net: Net, me: u8, k: u8, to: u16, st: Station) -> Acted
     let after = reach::purged(net, counters, me);
     let condition = st.condition;
     Acted {
-        station: Station { condition, counters: after, marks: words },
-        send: Sending { requests: 0, subjects, ways, told: counters, replies: false, reply: 0, link: 0 },
+        station: Station {
+            condition,
+            counters: after,
+            marks: words,
+        },
+        send: Sending {
+            requests: 0,
+            subjects,
+            ways,
+            told: counters,
+            replies: false,
+            reply: 0,
+            link: 0,
+        },
     }
 }
 
@@ -501,13 +680,26 @@ fn hear_levels(net: Net, me: u8, k: u8, to: u16, st: Station) -> Acted
 {
     let i = k as usize;
     let m = marks::marks_at(st.marks, k);
-    let ended = Marks { token: m.token, turn: m.turn, testing: false, asked: false, quiet: m.quiet };
+    let ended = Marks {
+        token: m.token,
+        turn: m.turn,
+        testing: false,
+        asked: false,
+        quiet: m.quiet,
+    };
     let words = marks::with_marks(st.marks, k, ended);
     let mut counters = st.counters;
     counters[i] = to;
     let ways = open_ways(net, me, st.marks.quiet);
     let condition = st.condition;
-    Acted { station: Station { condition, counters, marks: words }, send: one_notice(k, ways, counters) }
+    Acted {
+        station: Station {
+            condition,
+            counters,
+            marks: words,
+        },
+        send: one_notice(k, ways, counters),
+    }
 }
 
 // A reply with an equal, even counter: the test is over.
@@ -516,11 +708,24 @@ fn hear_equal(net: Net, me: u8, k: u8, st: Station) -> Acted
     ensures { λ r. ⌜ Acts net me st (unchanged (marked k (repliedMarks (marksAt (st .marks) k)) (holdingOf net st))) r ⌝ }
 {
     let m = marks::marks_at(st.marks, k);
-    let ended = Marks { token: m.token, turn: m.turn, testing: false, asked: false, quiet: m.quiet };
+    let ended = Marks {
+        token: m.token,
+        turn: m.turn,
+        testing: false,
+        asked: false,
+        quiet: m.quiet,
+    };
     let words = marks::with_marks(st.marks, k, ended);
     let counters = st.counters;
     let condition = st.condition;
-    Acted { station: Station { condition, counters, marks: words }, send: silence(counters) }
+    Acted {
+        station: Station {
+            condition,
+            counters,
+            marks: words,
+        },
+        send: silence(counters),
+    }
 }
 
 // A newer notice: taken, and sent on wherever it did not come from.
@@ -534,7 +739,14 @@ fn hear_notice(net: Net, me: u8, k: u8, j: u8, c: u16, st: Station) -> Acted
     let ways = ways_but(net, me, st.marks.quiet, k);
     let words = st.marks;
     let condition = st.condition;
-    Acted { station: Station { condition, counters, marks: words }, send: one_notice(j, ways, counters) }
+    Acted {
+        station: Station {
+            condition,
+            counters,
+            marks: words,
+        },
+        send: one_notice(j, ways, counters),
+    }
 }
 
 // A letter arrives. What is gone, has no effect or would overflow changes nothing and sends nothing.
@@ -544,12 +756,18 @@ pub fn receive(net: Net, me: u8, letter: Letter, st: Station) -> Acted
     let link = letter.link;
     let counters = st.counters;
     if at_most_64(net.links) as u16 <= link {
-        return Acted { station: st, send: silence(counters) };
+        return Acted {
+            station: st,
+            send: silence(counters),
+        };
     }
     let k = link as u8;
     let said = hearing(net, me, letter, st);
     let Heard::Does(effect) = said else {
-        return Acted { station: st, send: silence(counters) };
+        return Acted {
+            station: st,
+            send: silence(counters),
+        };
     };
     match effect {
         Effect::Asks => hear_request(net, me, k, letter.sender, st),

@@ -1,3 +1,6 @@
+use mathlib.Core.Bool.{Bool, _&&_}
+use mathlib.Core.Path.{sym, ap}
+use lib.Dec.{ltb}
 use borrow.Author.Needs.{needs}
 use Rattle.station.proofs.defers_to.Statement.{statement}
 use Rattle.station.proofs.defers_to.Tie as tie
@@ -6,7 +9,7 @@ use Rattle.station.proofs.defers_to.Lts as lts
 
 -- src/lib.rt:461:9
 returns : tie.Need-returns
-returns c = ?
+returns c = ap (λ (b : Bool). b && ltb (c .before .args .sender) (c .before .args .me)) (sym (c .if1 .taken))
 
 -- src/lib.rt:457:1
 returns-2 : tie.Need-returns-2

@@ -31,7 +31,7 @@ returns : tie.Need-returns
 returns c =
     let a = c .before .before .before .before .args in
     subst⁻¹ (λ (x : Sending). Acts (a .net) (a .me) (a .st) (interval (networkOf (a .net)) (a .me) (a .k) (holdingOf (a .net) (a .st))) (record { station = a .st; send = x })) (c .silence .ensures)
-      (interval-past (a .net) (a .me) (a .st) (a .k) _ (record { token = search needs; turn = search needs; testing = search needs; asked = search needs; quiet = search needs }) (omega (arith, c .before .before .at-most-64 .ensures, c .before .if1 .taken)))
+    (interval-past (a .net) (a .me) (a .st) (a .k) _ (record { token = search needs; turn = search needs; testing = search needs; asked = search needs; quiet = search needs }) (omega (arith, c .before .before .at-most-64 .ensures, c .before .if1 .taken)))
 
 -- src/lib.rt:185:9
 marks-at-requires : tie.Need-marks-at-requires
@@ -58,7 +58,7 @@ returns-2 : tie.Need-returns-2
 returns-2 c =
     let a = c .before .before .before .before .before .before .before .before .args in
     interval-there (a .net) (a .me) (a .st) (a .k) _ _ _ _ _ _ (omega (arith, c .before .before .before .before .before .before .at-most-64 .ensures, c .before .before .before .before .before .if1 .left))
-      (c .before .before .before .before .marks-at .ensures) (c .before .before .before .interval-marks .ensures) (c .before .before .with-marks .ensures) (c .before .tests-now .ensures) (c .put .ensures)
+    (c .before .before .before .before .marks-at .ensures) (c .before .before .before .interval-marks .ensures) (c .before .before .with-marks .ensures) (c .before .tests-now .ensures) (c .put .ensures)
 
 pub end-interval-spec : {M : Type 1} → statement M
 end-interval-spec =

@@ -44,7 +44,7 @@ returns : tie.Need-returns
 returns c =
     let a = c .before .before .before .before .args in
     subst⁻¹ (λ (x : Sending). Acts (a .net) (a .me) (a .st) (timeout (networkOf (a .net)) (a .me) (a .k) (holdingOf (a .net) (a .st))) (record { station = a .st; send = x })) (c .silence .ensures)
-      (timeout-past (a .net) (a .me) (a .st) (a .k) _ (fit (c .before .before .before .before)) (size (c .before .before .before .before)) (omega (arith, c .before .before .at-most-64 .ensures, c .before .if1 .taken)))
+    (timeout-past (a .net) (a .me) (a .st) (a .k) _ (fit (c .before .before .before .before)) (size (c .before .before .before .before)) (omega (arith, c .before .before .at-most-64 .ensures, c .before .if1 .taken)))
 
 -- src/lib.rt:205:13
 mul-c : tie.Need-mul-c
@@ -79,8 +79,8 @@ returns-2 : tie.Need-returns-2
 returns-2 c =
     let a = c .before .before .before .before .before .before .before .before .before .args in
     subst⁻¹ (λ (x : Sending). Acts (a .net) (a .me) (a .st) (timeout (networkOf (a .net)) (a .me) (a .k) (holdingOf (a .net) (a .st))) (record { station = record { condition = a .st .condition; counters = a .st .counters; marks = c .before .with-marks .result }; send = x })) (c .silence2 .ensures)
-      (timeout-odd (a .net) (a .me) (a .st) (a .k) _ _ _ _ (omega (arith, c .before .before .before .before .before .before .before .at-most-64 .ensures, c .before .before .before .before .before .before .if1 .left)) (size (c .before .before .before .before .before .before .before .before .before))
-        (sym (c .before .before .before .is-even .ensures) ∙ not-true _ (c .before .before .if2 .taken)) (c .before .before .before .before .before .marks-at .ensures) (c .before .before .before .before .test-ended .ensures) (c .before .with-marks .ensures))
+    (timeout-odd (a .net) (a .me) (a .st) (a .k) _ _ _ _ (omega (arith, c .before .before .before .before .before .before .before .at-most-64 .ensures, c .before .before .before .before .before .before .if1 .left)) (size (c .before .before .before .before .before .before .before .before .before))
+    (sym (c .before .before .before .is-even .ensures) ∙ not-true _ (c .before .before .if2 .taken)) (c .before .before .before .before .before .marks-at .ensures) (c .before .before .before .before .test-ended .ensures) (c .before .with-marks .ensures))
 
 -- src/lib.rt:211:19
 timed-out-requires : tie.Need-timed-out-requires
@@ -115,8 +115,8 @@ returns-3 : tie.Need-returns-3
 returns-3 c =
     let a = c .before .before .before .before .before .before .before .before .before .before .before .before .args in
     timeout-even (a .net) (a .me) (a .st) (a .k) _ _ _ _ _ _ _ _ _ (omega (arith, c .before .before .before .before .before .before .before .before .before .before .at-most-64 .ensures, c .before .before .before .before .before .before .before .before .before .if1 .left)) (size (c .before .before .before .before .before .before .before .before .before .before .before .before))
-      refl (sym (c .before .before .before .before .before .before .is-even .ensures) ∙ not-false _ (c .before .before .before .before .before .if2 .left)) (c .before .before .before .before .timed-out .ensures) (c .before .before .before .before .before .before .before .before .marks-at .ensures) (c .before .before .before .before .before .before .before .test-ended .ensures)
-      (c .before .before .before .with-marks2 .ensures) refl (c .before .purged .ensures) (c .before .before .ways-but .ensures) (c .one-notice .ensures)
+    refl (sym (c .before .before .before .before .before .before .is-even .ensures) ∙ not-false _ (c .before .before .before .before .before .if2 .left)) (c .before .before .before .before .timed-out .ensures) (c .before .before .before .before .before .before .before .before .marks-at .ensures) (c .before .before .before .before .before .before .before .test-ended .ensures)
+    (c .before .before .before .with-marks2 .ensures) refl (c .before .purged .ensures) (c .before .before .ways-but .ensures) (c .one-notice .ensures)
 
 pub end-timeout-spec : {M : Type 1} → statement M
 end-timeout-spec =

@@ -1,3 +1,8 @@
+use mathlib.Core.Path.{_≡_, refl, sym, ap, subst⁻¹, _∙_}
+use native.Mathlib.Omega.{arith}
+use lib.ListN.{length}
+use Rattle.station.proofs.Laid.{Fit}
+use Rattle.station.proofs.Replies.{equal-does}
 use borrow.Author.Needs.{needs}
 use Rattle.station.proofs.hear_equal.Statement.{statement}
 use Rattle.station.proofs.hear_equal.Tie as tie
@@ -21,7 +26,9 @@ silence-requires c κs = search needs
 
 -- src/lib.rt:514:1
 returns : tie.Need-returns
-returns c = ?
+returns c =
+    let a = c .before .before .before .before .args in
+    equal-does (a .net) (a .me) (a .st) (a .k) _ _ _ _ (c .before .before .before .before .pre) (c .before .before .before .marks-at .ensures) (c .before .before .with-marks .ensures) (c .silence .ensures)
 
 pub hear-equal-spec : {M : Type 1} → statement M
 hear-equal-spec =

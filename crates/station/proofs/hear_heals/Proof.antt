@@ -1,3 +1,8 @@
+use mathlib.Core.Path.{_≡_, refl, sym, ap, subst⁻¹, _∙_}
+use native.Mathlib.Omega.{arith}
+use lib.ListN.{length}
+use Rattle.station.proofs.Laid.{Fit}
+use Rattle.station.proofs.Replies.{heals-does}
 use borrow.Author.Needs.{needs}
 use Rattle.station.proofs.hear_heals.Statement.{statement}
 use Rattle.station.proofs.hear_heals.Tie as tie
@@ -8,6 +13,9 @@ use Rattle.marks.proofs.with_marks.Reads as with-marks-reads
 use Rattle.reach.proofs.purged.Reads as purged-reads
 use Rattle.station.proofs.known_links.Reads as known-links-reads
 use Rattle.station.proofs.open_ways.Reads as open-ways-reads
+
+size : (c : tie.Start) → length (c .args .st .counters) ≡ 64
+size c = search needs
 
 -- src/lib.rt:482:9
 marks-at-requires : tie.Need-marks-at-requires
@@ -39,7 +47,10 @@ purged-requires c κs = search needs
 
 -- src/lib.rt:477:1
 returns : tie.Need-returns
-returns c = ?
+returns c =
+    let a = c .before .before .before .before .before .before .args in
+    heals-does (a .net) (a .me) (a .st) (a .k) (a .to) _ _ _ _ _ _ (c .before .before .before .before .before .before .pre) (size (c .before .before .before .before .before .before)) (c .before .before .before .before .before .marks-at .ensures) (c .before .before .before .before .with-marks .ensures) refl
+    (c .before .before .known-links .ensures) (c .before .open-ways .ensures) (c .purged .ensures)
 
 pub hear-heals-spec : {M : Type 1} → statement M
 hear-heals-spec =

@@ -1,3 +1,8 @@
+use mathlib.Core.Path.{_≡_, refl, sym, ap, subst⁻¹, _∙_}
+use native.Mathlib.Omega.{arith}
+use lib.ListN.{length}
+use Rattle.station.proofs.Laid.{Fit}
+use Rattle.station.proofs.Replies.{levels-does}
 use borrow.Author.Needs.{needs}
 use Rattle.station.proofs.hear_levels.Statement.{statement}
 use Rattle.station.proofs.hear_levels.Tie as tie
@@ -7,6 +12,9 @@ use Rattle.marks.proofs.marks_at.Reads as marks-at-reads
 use Rattle.marks.proofs.with_marks.Reads as with-marks-reads
 use Rattle.station.proofs.one_notice.Reads as one-notice-reads
 use Rattle.station.proofs.open_ways.Reads as open-ways-reads
+
+size : (c : tie.Start) → length (c .args .st .counters) ≡ 64
+size c = search needs
 
 -- src/lib.rt:503:9
 marks-at-requires : tie.Need-marks-at-requires
@@ -34,7 +42,10 @@ one-notice-requires c κs = search needs
 
 -- src/lib.rt:498:1
 returns : tie.Need-returns
-returns c = ?
+returns c =
+    let a = c .before .before .before .before .before .args in
+    levels-does (a .net) (a .me) (a .st) (a .k) (a .to) _ _ _ _ _ (c .before .before .before .before .before .pre) (size (c .before .before .before .before .before)) (c .before .before .before .before .marks-at .ensures) (c .before .before .before .with-marks .ensures) refl
+    (c .before .open-ways .ensures) (c .one-notice .ensures)
 
 pub hear-levels-spec : {M : Type 1} → statement M
 hear-levels-spec =

@@ -1,3 +1,8 @@
+use mathlib.Core.Path.{_≡_, refl, sym, ap, subst⁻¹, _∙_}
+use native.Mathlib.Omega.{arith}
+use lib.ListN.{length}
+use Rattle.station.proofs.Laid.{Fit}
+use Rattle.station.proofs.Replies.{taken-does}
 use borrow.Author.Needs.{needs}
 use Rattle.station.proofs.hear_notice.Statement.{statement}
 use Rattle.station.proofs.hear_notice.Tie as tie
@@ -5,6 +10,12 @@ use Rattle.station.proofs.hear_notice.Reads as reads
 use Rattle.station.proofs.hear_notice.Lts as lts
 use Rattle.station.proofs.one_notice.Reads as one-notice-reads
 use Rattle.station.proofs.ways_but.Reads as ways-but-reads
+
+size : (c : tie.Start) → length (c .args .st .counters) ≡ 64
+size c = search needs
+
+fit : (c : tie.Start) → Fit (c .args .st .marks)
+fit c = record { token = search needs; turn = search needs; testing = search needs; asked = search needs; quiet = search needs }
 
 -- src/lib.rt:533:5
 mul-counters : tie.Need-mul-counters
@@ -24,7 +35,9 @@ one-notice-requires c κs = search needs
 
 -- src/lib.rt:527:1
 returns : tie.Need-returns
-returns c = ?
+returns c =
+    let a = c .before .before .before .before .args in
+    taken-does (a .net) (a .me) (a .st) (a .k) (a .j) (a .c) _ _ _ (fit (c .before .before .before .before)) (c .before .before .before .before .pre .1) (size (c .before .before .before .before)) refl (c .before .before .ways-but .ensures) (c .one-notice .ensures)
 
 pub hear-notice-spec : {M : Type 1} → statement M
 hear-notice-spec =

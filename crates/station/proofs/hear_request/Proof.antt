@@ -1,3 +1,8 @@
+use mathlib.Core.Path.{_≡_, refl, sym, ap, subst⁻¹, _∙_}
+use native.Mathlib.Omega.{arith}
+use lib.ListN.{length}
+use Rattle.station.proofs.Laid.{Fit}
+use Rattle.station.proofs.Replies.{request-defers, request-does}
 use borrow.Author.Needs.{needs}
 use Rattle.station.proofs.hear_request.Statement.{statement}
 use Rattle.station.proofs.hear_request.Tie as tie
@@ -9,6 +14,9 @@ use Rattle.marks.proofs.with_marks.Reads as with-marks-reads
 use Rattle.station.proofs.defers_to.Reads as defers-to-reads
 use Rattle.station.proofs.silence.Reads as silence-reads
 use Rattle.station.proofs.told_over.Reads as told-over-reads
+
+size : (c : tie.Start) → length (c .args .st .counters) ≡ 64
+size c = search needs
 
 -- src/lib.rt:438:9
 marks-at-requires : tie.Need-marks-at-requires
@@ -28,7 +36,10 @@ silence-requires c κs = search needs
 
 -- src/lib.rt:444:9
 returns : tie.Need-returns
-returns c = ?
+returns c =
+    let a = c .before .before .before .before .before .before .args in
+    request-defers (a .net) (a .me) (a .st) (a .k) (a .sender) _ _ _ _ (c .before .before .before .before .before .before .pre) (c .before .before .before .before .before .marks-at .ensures) (sym (c .before .before .before .defers-to .ensures) ∙ c .before .before .if1 .taken)
+    (c .before .with-marks .ensures) (c .silence .ensures)
 
 -- src/lib.rt:447:9
 with-marks-requires-2 : tie.Need-with-marks-requires-2
@@ -52,7 +63,10 @@ put-requires c κs = search needs
 
 -- src/lib.rt:433:1
 returns-2 : tie.Need-returns-2
-returns-2 c = ?
+returns-2 c =
+    let a = c .before .before .before .before .before .before .before .args in
+    request-does (a .net) (a .me) (a .st) (a .k) (a .sender) _ _ _ _ _ (c .before .before .before .before .before .before .before .pre) (size (c .before .before .before .before .before .before .before)) (c .before .before .before .before .before .before .marks-at .ensures) (sym (c .before .before .before .before .defers-to .ensures) ∙ c .before .before .before .if1 .left)
+    (c .before .before .with-marks2 .ensures) refl (c .before .told-over .ensures) (c .put .ensures)
 
 pub hear-request-spec : {M : Type 1} → statement M
 hear-request-spec =

@@ -1,3 +1,9 @@
+use mathlib.Core.Path.{_≡_, refl, sym, ap, subst⁻¹, _∙_}
+use native.Mathlib.Omega.{arith}
+use lib.ListN.{length}
+use Rattle.station.proofs.Laid.{Fit}
+use borrow.Author.Tests.{not-true, not-false}
+use Rattle.station.proofs.Heed.{gone-past, gone-down, gone-quiet, asks, replies, idle-reply, notices}
 use borrow.Author.Needs.{needs}
 use Rattle.station.proofs.hearing.Statement.{statement}
 use Rattle.station.proofs.hearing.Tie as tie
@@ -9,6 +15,9 @@ use Rattle.station.proofs.is_live.Reads as is-live-reads
 use Rattle.station.proofs.notice_heard.Reads as notice-heard-reads
 use Rattle.station.proofs.reply_heard.Reads as reply-heard-reads
 
+size : (c : tie.Start) → length (c .args .t4 .counters) ≡ 64
+size c = search needs
+
 -- src/lib.rt:403:8
 at-most-64-requires : tie.Need-at-most-64-requires
 at-most-64-requires c κs = search needs
@@ -19,7 +28,9 @@ cast-if1 c = search needs
 
 -- src/lib.rt:404:9
 returns : tie.Need-returns
-returns c = ?
+returns c =
+    let a = c .before .before .args in
+    gone-past (a .net) (a .me) (a .letter) (a .t4) (omega (arith, c .before .at-most-64 .ensures, c .if1 .taken))
 
 -- src/lib.rt:407:9
 is-live-requires : tie.Need-is-live-requires
@@ -27,7 +38,9 @@ is-live-requires c κs = search needs
 
 -- src/lib.rt:408:9
 returns-2 : tie.Need-returns-2
-returns-2 c = ?
+returns-2 c =
+    let a = c .before .before .before .before .args in
+    gone-down (a .net) (a .me) (a .letter) (a .t4) (omega (arith, c .before .before .before .at-most-64 .ensures, c .before .before .if1 .left)) (sym (c .before .is-live .ensures) ∙ not-true _ (c .if2 .taken))
 
 -- src/lib.rt:410:13
 cast-k : tie.Need-cast-k
@@ -39,7 +52,9 @@ has-requires c κs = search needs
 
 -- src/lib.rt:412:9
 returns-3 : tie.Need-returns-3
-returns-3 c = ?
+returns-3 c =
+    let a = c .before .before .before .before .before .before .args in
+    gone-quiet (a .net) (a .me) (a .letter) (a .t4) (omega (arith, c .before .before .before .before .before .at-most-64 .ensures, c .before .before .before .before .if1 .left)) (sym (c .before .before .before .is-live .ensures) ∙ not-false _ (c .before .before .if2 .left)) (sym (c .before .has .ensures) ∙ c .if3 .taken)
 
 -- src/lib.rt:416:38
 enum-told : tie.Need-enum-told
@@ -79,19 +94,28 @@ notice-heard-requires c κs = search needs
 
 -- src/lib.rt:399:1
 returns-4 : tie.Need-returns-4
-returns-4 c = ?
+returns-4 c =
+    let a = c .before .before .before .before .before .before .before .before .args in
+    asks (a .net) (a .me) (a .letter) (a .t4) (omega (arith, c .before .before .before .before .before .before .before .at-most-64 .ensures, c .before .before .before .before .before .before .if1 .left)) (sym (c .before .before .before .before .before .is-live .ensures) ∙ not-false _ (c .before .before .before .before .if2 .left)) (sym (c .before .before .before .has .ensures) ∙ c .before .before .if3 .left) (c .enum-told .given .1)
 
 -- src/lib.rt:399:1
 returns-5 : tie.Need-returns-5
-returns-5 c = ?
+returns-5 c =
+    let a = c .before .before .before .before .before .before .before .before .before .before .before .before .before .args in
+    replies (a .net) (a .me) (a .letter) (a .t4) (omega (arith, c .before .before .before .before .before .before .before .before .before .before .before .before .at-most-64 .ensures, c .before .before .before .before .before .before .before .before .before .before .before .if1 .left)) (sym (c .before .before .before .before .before .before .before .before .before .before .is-live .ensures) ∙ not-false _ (c .before .before .before .before .before .before .before .before .before .if2 .left)) (sym (c .before .before .before .before .before .before .before .before .has .ensures) ∙ c .before .before .before .before .before .before .before .if3 .left) _ _ (c .reply-heard .result) (c .before .before .before .before .before .body .given .1) (size (c .before .before .before .before .before .before .before .before .before .before .before .before .before))
+    (sym (c .before .before .before .has2 .ensures) ∙ c .before .before .if4 .taken) refl (c .reply-heard .ensures)
 
 -- src/lib.rt:399:1
 returns-6 : tie.Need-returns-6
-returns-6 c = ?
+returns-6 c =
+    let a = c .before .before .before .before .before .before .before .before .before .before .before .args in
+    idle-reply (a .net) (a .me) (a .letter) (a .t4) (omega (arith, c .before .before .before .before .before .before .before .before .before .before .at-most-64 .ensures, c .before .before .before .before .before .before .before .before .before .if1 .left)) (sym (c .before .before .before .before .before .before .before .before .is-live .ensures) ∙ not-false _ (c .before .before .before .before .before .before .before .if2 .left)) (sym (c .before .before .before .before .before .before .has .ensures) ∙ c .before .before .before .before .before .if3 .left) _ (c .before .before .before .body .given .1) (sym (c .before .has2 .ensures) ∙ c .if4 .left)
 
 -- src/lib.rt:399:1
 returns-7 : tie.Need-returns-7
-returns-7 c = ?
+returns-7 c =
+    let a = c .before .before .before .before .before .before .before .before .before .before .before .args in
+    notices (a .net) (a .me) (a .letter) (a .t4) (omega (arith, c .before .before .before .before .before .before .before .before .before .before .at-most-64 .ensures, c .before .before .before .before .before .before .before .before .before .if1 .left)) (sym (c .before .before .before .before .before .before .before .before .is-live .ensures) ∙ not-false _ (c .before .before .before .before .before .before .before .if2 .left)) (sym (c .before .before .before .before .before .before .has .ensures) ∙ c .before .before .before .before .before .if3 .left) _ _ (c .notice-heard .result) (c .before .before .before .body2 .given .1) (size (c .before .before .before .before .before .before .before .before .before .before .before)) (c .notice-heard .ensures)
 
 pub hearing-spec : {M : Type 1} → statement M
 hearing-spec =

@@ -37,21 +37,21 @@ returns-2 : tie.Need-returns-2
 returns-2 c =
     let a = c .before .before .before .before .before .before .before .before .before .args in
     reply-equal (a .own) (a .c) _ _ (c .before .before .before .before .before .before .new .given .1) (c .before .before .before .before .before .before .before .before .heal .ensures)
-      (sym (c .before .before .before .before .is-even .ensures) ∙ c .before .before .before .if1 .taken) (sym (c .before .before .is-even2 .ensures) ∙ c .before .if2 .taken) (c .if3 .taken)
+    (sym (c .before .before .before .before .is-even .ensures) ∙ c .before .before .before .if1 .taken) (sym (c .before .before .is-even2 .ensures) ∙ c .before .if2 .taken) (c .if3 .taken)
 
 -- src/lib.rt:373:13
 returns-3 : tie.Need-returns-3
 returns-3 c =
     let a = c .before .before .before .before .before .before .before .before .before .args in
     reply-level (a .own) (a .c) _ _ (c .before .before .before .before .before .before .new .given .1) (c .before .before .before .before .before .before .before .before .heal .ensures)
-      (sym (c .before .before .before .before .is-even .ensures) ∙ c .before .before .before .if1 .taken) (sym (c .before .before .is-even2 .ensures) ∙ c .before .if2 .taken) (c .if3 .left)
+    (sym (c .before .before .before .before .is-even .ensures) ∙ c .before .before .before .if1 .taken) (sym (c .before .before .is-even2 .ensures) ∙ c .before .if2 .taken) (c .if3 .left)
 
 -- src/lib.rt:361:1
 returns-4 : tie.Need-returns-4
 returns-4 c =
     let a = c .before .before .before .before .before .before .before .before .args in
     reply-odd-carried (a .own) (a .c) _ _ (c .before .before .before .before .before .new .given .1) (c .before .before .before .before .before .before .before .heal .ensures)
-      (sym (c .before .before .before .is-even .ensures) ∙ c .before .before .if1 .taken) (sym (c .before .is-even2 .ensures) ∙ c .if2 .left)
+    (sym (c .before .before .before .is-even .ensures) ∙ c .before .before .if1 .taken) (sym (c .before .is-even2 .ensures) ∙ c .if2 .left)
 
 -- src/lib.rt:361:1
 returns-5 : tie.Need-returns-5
