@@ -302,7 +302,7 @@ pub fn end_timeout(net: Net, me: u8, k: u8, st: Station) -> Acted
         turn: m.turn,
         testing: m.testing,
         asked: m.asked,
-        quiet: true,
+        quiet: true, // nothing is sent or heard there until quiet ends
     };
     let words = marks::with_marks(st.marks, k, silenced);
     let ways = ways_but(net, me, st.marks.quiet, k);
@@ -330,7 +330,7 @@ pub fn end_quiet(net: Net, k: u8, st: Station) -> Station
         turn: m.turn,
         testing: m.testing,
         asked: m.asked,
-        quiet: false,
+        quiet: false, // the only mark that changes
     };
     let words = marks::with_marks(st.marks, k, loud);
     let counters = st.counters;
@@ -588,7 +588,7 @@ fn hear_request(net: Net, me: u8, k: u8, sender: u16, st: Station) -> Acted
     }
     let rested = Marks {
         token: true,
-        turn: false,
+        turn: false, // or the next silent interval would test too early
         testing: false,
         asked: false,
         quiet: m.quiet,
@@ -653,19 +653,19 @@ fn hear_heals(net: Net, me: u8, k: u8, to: u16, st: Station) -> Acted
     counters[i] = to;
     let subjects = known_links(net.links, counters);
     let ways = open_ways(net, me, st.marks.quiet);
-    let after = reach::purged(net, counters, me);
+    let kept = reach::purged(net, counters, me);
     let condition = st.condition;
     Acted {
         station: Station {
             condition,
-            counters: after,
+            counters: kept,
             marks: words,
         },
         send: Sending {
             requests: 0,
             subjects,
             ways,
-            told: counters,
+            told: counters, // as they were before the purge
             replies: false,
             reply: 0,
             link: 0,
