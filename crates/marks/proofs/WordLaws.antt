@@ -19,7 +19,7 @@ use Rattle.net.specs.declared.Net.{Net}
 use Rattle.net.specs.Network.{Ends, isEnd, ends}
 use Rattle.net.specs.Values.{networkOf, placeEnds, linkCount}
 use Rattle.net.proofs.ValueLaws.{ends-of}
-use Rattle.marks.specs.Marks.{wordBy}
+use Rattle.marks.specs.Marks.{wordBy, upTo}
 
 module _ (f : ℕ → Bool) where
   pub by-lt : wordBy f < 2 ^ 64
@@ -122,10 +122,6 @@ without-is a b ha hb = by-ext (bitAnd a ((2 ^ 64 - 1) - b)) (λ t. inWord a t &&
         table false false = refl
 
 -- ---- a word made by a loop, one place after the other
--- those among the first k that pass the test
-abbrev pub upTo : (ℕ → Bool) → ℕ → ℕ → Bool
-upTo q k t = ltb t k && q t
-
 module _ (q : ℕ → Bool) where
   pub upto-none : 0 ≡ wordBy (upTo q 0)
   upto-none = by-none (upTo q 0) (λ t h. ap (λ (b : Bool). b && q t) (le-ltb t 0 (omega arith)))

@@ -34,3 +34,7 @@ wordsWith w k m =
 -- link k exists and s is an end of it
 abbrev pub ownAt : Net → ℕ → ℕ → Bool
 ownAt net s k = ltb k (linkCount net) && isEnd (networkOf net) k s
+
+-- those among the first k that pass the test
+abbrev pub upTo : (ℕ → Bool) → ℕ → ℕ → Bool
+upTo q k t = ltb t k && q t

@@ -99,7 +99,8 @@ fn is_end(low: u8, high: u8, s: u8) -> bool
     high == s
 }
 
-fn at_most_64(x: u8) -> u8
+// As many links as the room holds.
+pub fn at_most_64(x: u8) -> u8
     ensures { λ r. ⌜ r ≡ min x 64 ⌝ }
 {
     if x < 64 { x } else { 64 }

@@ -28,13 +28,14 @@ use Rattle.reach.proofs.CounterLaws.{even-is, timed-even}
 use Rattle.marks.specs.declared.Marks.{Marks}
 use Rattle.marks.specs.declared.Words.{Words}
 use Rattle.marks.specs.Marks.{wordBy, marksAt, wordsWith}
-use Rattle.marks.proofs.WordLaws.{upTo, by-same, by-none}
+use Rattle.marks.proofs.WordLaws.{by-same, by-none}
+use Rattle.marks.specs.Marks.{upTo}
 use Rattle.station.specs.declared.Acted.{Acted}
-use Rattle.station.specs.declared.Sending.{Sending}
+use Rattle.sending.specs.declared.Sending.{Sending}
 use Rattle.station.specs.declared.Station.{Station}
 use Rattle.station.specs.Holding.{Holding, noMarks, mark, counter, marked, counted, tabled, setQuiet}
 use Rattle.station.specs.Acts.{Done, letter, onEach, tell, openLinks, openBut, known, intervalMarks, intervalTests, testEnded, interval, timeout, spoken, purged, unchanged}
-use Rattle.station.specs.Steps.{silent, openAt}
+use Rattle.sending.specs.Sent.{silent, openAt}
 use Rattle.station.specs.Values.{holdingOf, laid, lettersOf, membersOf, Acts}
 use Rattle.station.proofs.Laid.{Fit, mark-of, mark-past, marked-past, counter-past, laid-same, laid-marked, laid-is, marks-laid, table-set, room-set, counters-set}
 use Rattle.station.proofs.Sent.{keep-same, members-upto, members-one, members-none, tell-one, sent-nothing, sent-requests, sent-notices}

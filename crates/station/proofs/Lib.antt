@@ -2,11 +2,9 @@ pub mod MarkLaws
 pub mod Laid
 pub mod Sent
 pub mod Acting
-pub mod Ways
+pub mod Started
 pub mod Allowed
 pub mod Recovery
-pub mod Letters
-pub mod Replies
 pub mod Slots
 pub mod HoldingLaws
 pub mod Keeps
@@ -15,4 +13,3 @@ pub mod Counts
 pub mod Cases
 pub mod Senders
 pub mod Traps
-pub mod Heed

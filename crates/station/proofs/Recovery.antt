@@ -20,9 +20,10 @@ use Rattle.net.proofs.ValueLaws.{links-of}
 use Rattle.marks.specs.declared.Marks.{Marks}
 use Rattle.marks.specs.declared.Words.{Words}
 use Rattle.marks.specs.Marks.{wordBy, marksAt, ownAt}
-use Rattle.marks.proofs.WordLaws.{upTo, by-ext, by-same, by-none, in-by, by-lt}
+use Rattle.marks.proofs.WordLaws.{by-ext, by-same, by-none, in-by, by-lt}
+use Rattle.marks.specs.Marks.{upTo}
 use Rattle.station.specs.declared.Condition.the-variants.{Down, Live}
-use Rattle.station.specs.declared.Sending.{Sending}
+use Rattle.sending.specs.declared.Sending.{Sending}
 use Rattle.station.specs.declared.Station.{Station}
 use Rattle.station.specs.Holding.{noMarks, mark}
 use Rattle.station.specs.Acts.{intervalMarks, intervalTests, recovered, stopped, onEach}

@@ -16,8 +16,9 @@ use Rattle.net.specs.declared.Body.the-variants.{Request, Reply, Notice}
 use Rattle.net.specs.declared.Letter.{Letter}
 use Rattle.lists.proofs.Words.{zero-is-out, none-in}
 use Rattle.marks.specs.Marks.{wordBy}
-use Rattle.marks.proofs.WordLaws.{in-by, by-same, upTo}
-use Rattle.station.specs.declared.Sending.{Sending}
+use Rattle.marks.proofs.WordLaws.{in-by, by-same}
+use Rattle.marks.specs.Marks.{upTo}
+use Rattle.sending.specs.declared.Sending.{Sending}
 use Rattle.station.specs.Acts.{letter, onEach, tell}
 use Rattle.station.specs.Values.{membersOf, parts, lettersOf}
 

@@ -15,13 +15,9 @@ use Rattle.marks.specs.Marks.{marksAt}
 use Rattle.marks.specs.declared.Marks.{Marks}
 use Rattle.marks.specs.declared.Words.{Words}
 use Rattle.station.specs.declared.Station.{Station}
-use Rattle.station.specs.declared.Sending.{Sending}
+use Rattle.sending.specs.declared.Sending.{Sending}
 use Rattle.station.specs.declared.Acted.{Acted}
 use Rattle.station.specs.declared.Condition.the-variants.{Down}
-use Rattle.station.specs.declared.Heard.{Heard}
-use Rattle.station.specs.declared.Heard.the-variants.{Gone, Nothing, TooHigh, Does}
-use Rattle.station.specs.declared.Effect.{Effect}
-use Rattle.station.specs.declared.Effect.the-variants.{Asks, Heals, Levels, Equal, Takes}
 use Rattle.station.specs.Holding.{Holding}
 use Rattle.station.specs.Acts.{Done, letter, onEach, tell}
 
@@ -68,20 +64,6 @@ unfoldable pub lettersOf : ℕ → Sending → List Letter
 lettersOf s x =
     parts s (membersOf (x .requests)) (λ j. getD (x .told) j 0) (membersOf (x .subjects)) (membersOf (x .ways))
     (if x .replies then (letter s (x .link) (Reply (x .reply)) ∷ []) else [])
-
--- the number and values of the receiver's answer
-abbrev pub effectNumbers : Effect → List ℕ
-effectNumbers Asks = 1 ∷ []
-effectNumbers (Heals c) = 2 ∷ c ∷ []
-effectNumbers (Levels c) = 3 ∷ c ∷ []
-effectNumbers Equal = 4 ∷ []
-effectNumbers (Takes j c) = 5 ∷ j ∷ c ∷ []
-
-abbrev pub heardNumbers : Heard → List ℕ
-heardNumbers Gone = 0 ∷ 1 ∷ []
-heardNumbers Nothing = 0 ∷ 0 ∷ []
-heardNumbers TooHigh = 8 ∷ 0 ∷ []
-heardNumbers (Does e) = 0 ∷ 0 ∷ effectNumbers e
 
 -- a station value without marks, and the zero one: what a start and a stop lay their holding over
 abbrev pub noWords : Words

@@ -4,8 +4,8 @@ use native.Mathlib.Omega.{arith}
 use borrow.Author.Needs.{needs}
 use Rattle.net.specs.Network.{isEnd}
 use Rattle.net.specs.Values.{networkOf, linkCount}
-use Rattle.marks.specs.Marks.{wordBy}
-use Rattle.marks.proofs.WordLaws.{upTo, upto-none, upto-more, own-read}
+use Rattle.marks.specs.Marks.{wordBy, upTo}
+use Rattle.marks.proofs.WordLaws.{upto-none, upto-more, own-read}
 use Rattle.marks.proofs.own_links.Statement.{statement}
 use Rattle.marks.proofs.own_links.Tie as tie
 use Rattle.marks.proofs.own_links.Reads as reads

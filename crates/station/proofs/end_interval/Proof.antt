@@ -1,7 +1,7 @@
 use mathlib.Core.Path.{subst⁻¹}
 use native.Mathlib.Omega.{arith}
 use Rattle.net.specs.Values.{networkOf}
-use Rattle.station.specs.declared.Sending.{Sending}
+use Rattle.sending.specs.declared.Sending.{Sending}
 use Rattle.station.specs.Acts.{interval}
 use Rattle.station.specs.Values.{holdingOf, Acts}
 use Rattle.station.proofs.Acting.{interval-past, interval-there}
@@ -13,9 +13,9 @@ use Rattle.station.proofs.end_interval.Lts as lts
 use Rattle.marks.proofs.marks_at.Reads as marks-at-reads
 use Rattle.marks.proofs.put.Reads as put-reads
 use Rattle.marks.proofs.with_marks.Reads as with-marks-reads
-use Rattle.station.proofs.at_most_64.Reads as at-most-64-reads
+use Rattle.marks.proofs.at_most_64.Reads as at-most-64-reads
 use Rattle.station.proofs.interval_marks.Reads as interval-marks-reads
-use Rattle.station.proofs.silence.Reads as silence-reads
+use Rattle.sending.proofs.silence.Reads as silence-reads
 use Rattle.station.proofs.tests_now.Reads as tests-now-reads
 
 -- src/lib.rt:182:8

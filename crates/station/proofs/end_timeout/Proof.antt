@@ -5,7 +5,7 @@ use mathlib.Core.Path.{refl, sym, subst⁻¹, _∙_}
 use native.Mathlib.Omega.{arith}
 use borrow.Author.Tests.{not-true, not-false}
 use Rattle.net.specs.Values.{networkOf}
-use Rattle.station.specs.declared.Sending.{Sending}
+use Rattle.sending.specs.declared.Sending.{Sending}
 use Rattle.station.specs.Acts.{timeout}
 use Rattle.station.specs.Values.{holdingOf, Acts}
 use Rattle.station.proofs.Acting.{timeout-past, timeout-odd, timeout-even}
@@ -19,11 +19,11 @@ use Rattle.marks.proofs.with_marks.Reads as with-marks-reads
 use Rattle.reach.proofs.is_even.Reads as is-even-reads
 use Rattle.reach.proofs.purged.Reads as purged-reads
 use Rattle.reach.proofs.timed_out.Reads as timed-out-reads
-use Rattle.station.proofs.at_most_64.Reads as at-most-64-reads
-use Rattle.station.proofs.one_notice.Reads as one-notice-reads
-use Rattle.station.proofs.silence.Reads as silence-reads
+use Rattle.marks.proofs.at_most_64.Reads as at-most-64-reads
+use Rattle.sending.proofs.one_notice.Reads as one-notice-reads
+use Rattle.sending.proofs.silence.Reads as silence-reads
 use Rattle.station.proofs.test_ended.Reads as test-ended-reads
-use Rattle.station.proofs.ways_but.Reads as ways-but-reads
+use Rattle.sending.proofs.ways_but.Reads as ways-but-reads
 
 size : (c : tie.Start) → length (c .args .st .counters) ≡ 64
 size c = search needs

@@ -1,4 +1,4 @@
-use Rattle.station.proofs.Ways.{start-is}
+use Rattle.station.proofs.Started.{start-is}
 use borrow.Author.Needs.{needs}
 use Rattle.station.proofs.start.Statement.{statement}
 use Rattle.station.proofs.start.Tie as tie

@@ -13,7 +13,7 @@ use Rattle.station.proofs.stop.Statement.{statement}
 use Rattle.station.proofs.stop.Tie as tie
 use Rattle.station.proofs.stop.Reads as reads
 use Rattle.station.proofs.stop.Lts as lts
-use Rattle.station.proofs.at_most_64.Reads as at-most-64-reads
+use Rattle.marks.proofs.at_most_64.Reads as at-most-64-reads
 use Rattle.station.proofs.no_counters.Reads as no-counters-reads
 
 abbrev Inv-loop : tie.InvT-loop

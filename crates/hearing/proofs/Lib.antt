@@ -1,0 +1,4 @@
+pub mod Answers
+pub mod Letters
+pub mod Replies
+pub mod Heed

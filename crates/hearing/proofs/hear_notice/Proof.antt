@@ -1,0 +1,45 @@
+use mathlib.Core.Path.{_≡_, refl, sym, ap, subst⁻¹, _∙_}
+use native.Mathlib.Omega.{arith}
+use lib.ListN.{length}
+use Rattle.station.proofs.Laid.{Fit}
+use Rattle.hearing.proofs.Replies.{taken-does}
+use borrow.Author.Needs.{needs}
+use Rattle.hearing.proofs.hear_notice.Statement.{statement}
+use Rattle.hearing.proofs.hear_notice.Tie as tie
+use Rattle.hearing.proofs.hear_notice.Reads as reads
+use Rattle.hearing.proofs.hear_notice.Lts as lts
+use Rattle.sending.proofs.one_notice.Reads as one-notice-reads
+use Rattle.sending.proofs.ways_but.Reads as ways-but-reads
+
+size : (c : tie.Start) → length (c .args .st .counters) ≡ 64
+size c = search needs
+
+fit : (c : tie.Start) → Fit (c .args .st .marks)
+fit c = record { token = search needs; turn = search needs; testing = search needs; asked = search needs; quiet = search needs }
+
+-- src/lib.rt:533:5
+mul-counters : tie.Need-mul-counters
+mul-counters c = search needs
+
+-- src/lib.rt:533:5
+array-write-counters : tie.Need-array-write-counters
+array-write-counters c = search needs
+
+-- src/lib.rt:534:9
+ways-but-requires : tie.Need-ways-but-requires
+ways-but-requires c κs = search needs
+
+-- src/lib.rt:537:75
+one-notice-requires : tie.Need-one-notice-requires
+one-notice-requires c κs = search needs
+
+-- src/lib.rt:527:1
+returns : tie.Need-returns
+returns c =
+    let a = c .before .before .before .before .args in
+    taken-does (a .net) (a .me) (a .st) (a .k) (a .j) (a .c) _ _ _ (fit (c .before .before .before .before)) (c .before .before .before .before .pre .1) (size (c .before .before .before .before)) refl (c .before .before .ways-but .ensures) (c .one-notice .ensures)
+
+pub hear-notice-spec : {M : Type 1} → statement M
+hear-notice-spec =
+    tie.close
+    (tie.spec mul-counters array-write-counters ways-but-requires one-notice-requires returns)

@@ -1,0 +1,85 @@
+use mathlib.Core.Path.{_≡_, refl, sym, ap, subst⁻¹, _∙_}
+use native.Mathlib.Omega.{arith}
+use lib.ListN.{length}
+use Rattle.station.proofs.Laid.{Fit}
+use Rattle.hearing.proofs.Replies.{request-defers, request-does}
+use borrow.Author.Needs.{needs}
+use Rattle.hearing.proofs.hear_request.Statement.{statement}
+use Rattle.hearing.proofs.hear_request.Tie as tie
+use Rattle.hearing.proofs.hear_request.Reads as reads
+use Rattle.hearing.proofs.hear_request.Lts as lts
+use Rattle.marks.proofs.marks_at.Reads as marks-at-reads
+use Rattle.marks.proofs.put.Reads as put-reads
+use Rattle.marks.proofs.with_marks.Reads as with-marks-reads
+use Rattle.hearing.proofs.defers_to.Reads as defers-to-reads
+use Rattle.sending.proofs.silence.Reads as silence-reads
+use Rattle.hearing.proofs.told_over.Reads as told-over-reads
+
+size : (c : tie.Start) → length (c .args .st .counters) ≡ 64
+size c = search needs
+
+-- src/lib.rt:438:9
+marks-at-requires : tie.Need-marks-at-requires
+marks-at-requires c κs = search needs
+
+-- src/lib.rt:441:8
+defers-to-requires : tie.Need-defers-to-requires
+defers-to-requires c κs = search needs
+
+-- src/lib.rt:443:13
+with-marks-requires : tie.Need-with-marks-requires
+with-marks-requires c κs = search needs
+
+-- src/lib.rt:444:86
+silence-requires : tie.Need-silence-requires
+silence-requires c κs = search needs
+
+-- src/lib.rt:444:9
+returns : tie.Need-returns
+returns c =
+    let a = c .before .before .before .before .before .before .args in
+    request-defers (a .net) (a .me) (a .st) (a .k) (a .sender) _ _ _ _ (c .before .before .before .before .before .before .pre) (c .before .before .before .before .before .marks-at .ensures) (sym (c .before .before .before .defers-to .ensures) ∙ c .before .before .if1 .taken)
+    (c .before .with-marks .ensures) (c .silence .ensures)
+
+-- src/lib.rt:447:9
+with-marks-requires-2 : tie.Need-with-marks-requires-2
+with-marks-requires-2 c κs = search needs
+
+-- src/lib.rt:448:13
+mul-c : tie.Need-mul-c
+mul-c c = search needs
+
+-- src/lib.rt:448:13
+array-read-c : tie.Need-array-read-c
+array-read-c c = search needs
+
+-- src/lib.rt:449:9
+told-over-requires : tie.Need-told-over-requires
+told-over-requires c κs = search needs
+
+-- src/lib.rt:450:9
+put-requires : tie.Need-put-requires
+put-requires c κs = search needs
+
+-- src/lib.rt:433:1
+returns-2 : tie.Need-returns-2
+returns-2 c =
+    let a = c .before .before .before .before .before .before .before .args in
+    request-does (a .net) (a .me) (a .st) (a .k) (a .sender) _ _ _ _ _ (c .before .before .before .before .before .before .before .pre) (size (c .before .before .before .before .before .before .before)) (c .before .before .before .before .before .before .marks-at .ensures) (sym (c .before .before .before .before .defers-to .ensures) ∙ c .before .before .before .if1 .left)
+    (c .before .before .with-marks2 .ensures) refl (c .before .told-over .ensures) (c .put .ensures)
+
+pub hear-request-spec : {M : Type 1} → statement M
+hear-request-spec =
+    tie.close
+    (tie.spec
+    marks-at-requires
+    defers-to-requires
+    with-marks-requires
+    silence-requires
+    returns
+    with-marks-requires-2
+    mul-c
+    array-read-c
+    told-over-requires
+    put-requires
+    returns-2)

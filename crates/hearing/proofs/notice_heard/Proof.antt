@@ -1,0 +1,58 @@
+use mathlib.Core.Bool.{true, false}
+use mathlib.Core.Path.{sym, _∙_}
+use native.Mathlib.Omega.{arith}
+use lib.ListN.{getD}
+use Rattle.hearing.proofs.Answers.{notice-past, notice-by}
+use borrow.Author.Needs.{needs}
+use Rattle.hearing.proofs.notice_heard.Statement.{statement}
+use Rattle.hearing.proofs.notice_heard.Tie as tie
+use Rattle.hearing.proofs.notice_heard.Reads as reads
+use Rattle.hearing.proofs.notice_heard.Lts as lts
+use Rattle.reach.proofs.is_newer.Reads as is-newer-reads
+use Rattle.marks.proofs.at_most_64.Reads as at-most-64-reads
+
+-- src/lib.rt:383:8
+at-most-64-requires : tie.Need-at-most-64-requires
+at-most-64-requires c κs = search needs
+
+-- src/lib.rt:384:9
+returns : tie.Need-returns
+returns c =
+    let a = c .before .before .args in
+    notice-past (a .links) (a .j) (a .c) (getD (a .t2) (a .j) 0) (omega (arith, c .before .at-most-64 .ensures, c .if1 .taken))
+
+-- src/lib.rt:387:24
+mul-is-newer : tie.Need-mul-is-newer
+mul-is-newer c = search needs
+
+-- src/lib.rt:387:24
+array-read-is-newer : tie.Need-array-read-is-newer
+array-read-is-newer c = search needs
+
+-- src/lib.rt:387:8
+is-newer-requires : tie.Need-is-newer-requires
+is-newer-requires c κs = search needs
+
+-- src/lib.rt:388:9
+returns-2 : tie.Need-returns-2
+returns-2 c =
+    let a = c .before .before .before .before .args in
+    notice-by (a .links) (a .j) (a .c) (getD (a .t2) (a .j) 0) true (omega (arith, c .before .before .before .at-most-64 .ensures, c .before .before .if1 .left)) (sym (c .before .is-newer .ensures) ∙ c .if2 .taken)
+
+-- src/lib.rt:380:1
+returns-3 : tie.Need-returns-3
+returns-3 c =
+    let a = c .before .before .before .before .args in
+    notice-by (a .links) (a .j) (a .c) (getD (a .t2) (a .j) 0) false (omega (arith, c .before .before .before .at-most-64 .ensures, c .before .before .if1 .left)) (sym (c .before .is-newer .ensures) ∙ c .if2 .left)
+
+pub notice-heard-spec : {M : Type 1} → statement M
+notice-heard-spec =
+    tie.close
+    (tie.spec
+    at-most-64-requires
+    returns
+    mul-is-newer
+    array-read-is-newer
+    is-newer-requires
+    returns-2
+    returns-3)
