@@ -343,7 +343,11 @@ fn is_waiting(c: Condition) -> bool
 pub fn is_live(c: Condition) -> bool
     ensures { λ r. ⌜ r ≡ isLive c ⌝ }
 {
-    if let Condition::Live = c { true } else { false }
+    match c {
+        Condition::Down => false, // nothing is heard
+        Condition::Waiting => false,
+        Condition::Live => true,
+    }
 }
 
 // Whether an interval may end on a link with these marks.
