@@ -1,13 +1,13 @@
 -- The receiver's answer, test by test, and a plain drop. Assumes nothing.
 use Prim.Native.Nat.{ℕ, _≤_, _<_, min}
-use mathlib.Core.Bool.{Bool, true, false, not, _&&_, _||_}
-use mathlib.Core.Path.{_≡_, refl, sym, ap, ap₂, _∙_, subst, subst⁻¹}
+use mathlib.Core.Bool.{Bool, true, false, not, _&&_}
+use mathlib.Core.Path.{_≡_, refl, sym, ap, ap₂, _∙_, subst⁻¹}
 use mathlib.Core.Logic.{_⊎_, ⊎-elim}
 use mathlib.Core.List.{List, [], _∷_}
 use native.Mathlib.Decide.{decLt}
 use native.Mathlib.Omega.{arith}
 use denote.Enum.Declared.{tagOf}
-use lib.Dec.{eqb, ltb}
+use lib.Dec.{ltb}
 use lib.ListN.{length, getD}
 use borrow.Author.Tests.{lt-ltb, le-ltb}
 use Rattle.lists.specs.Lists.{if_then_else_}
@@ -20,16 +20,14 @@ use Rattle.net.specs.Network.{Network}
 use Rattle.net.specs.Values.{networkOf, linkCount}
 use Rattle.net.proofs.ValueLaws.{links-of}
 use Rattle.marks.specs.declared.Marks.{Marks}
-use Rattle.marks.specs.Marks.{marksAt}
 use Rattle.hearing.specs.declared.Heard.{Heard}
 use Rattle.hearing.specs.declared.Heard.the-variants.{Gone, Nothing, TooHigh, Does}
 use Rattle.station.specs.declared.Station.{Station}
 use Rattle.station.specs.Holding.{Holding, mark, counter, isLive}
 use Rattle.station.specs.Acts.{Done, unchanged, hears, bodyAnswer, answer, received, replyAnswer, takes}
 use Rattle.sending.specs.Sent.{silent}
-use Rattle.hearing.specs.Heard.{noticeAnswer}
+use Rattle.hearing.specs.Heard.{noticeAnswer, heardNumbers}
 use Rattle.station.specs.Values.{holdingOf, Acts}
-use Rattle.hearing.specs.Heard.{heardNumbers}
 use Rattle.hearing.proofs.Heard as H
 use Rattle.station.proofs.Laid.{Fit, mark-of, condition-of}
 use Rattle.station.proofs.Acting.{does-same, counter-at}

@@ -1,11 +1,11 @@
 -- What a letter does, by the receiver's answer to it. Assumes nothing.
-use Prim.Native.Nat.{ℕ, _+_, _%_, _≤_, _<_, max}
+use Prim.Native.Nat.{ℕ, _%_, _<_, max}
 use mathlib.Core.Bool.{Bool, true, false, not, _&&_, _||_}
-use mathlib.Core.Path.{_≡_, refl, sym, ap, ap₂, _∙_, subst, subst⁻¹}
-use mathlib.Core.List.{List, [], _∷_, _++_}
+use mathlib.Core.Path.{_≡_, refl, sym, ap, ap₂, _∙_, subst}
+use mathlib.Core.List.{List, [], _∷_}
 use native.Mathlib.Omega.{arith}
-use lib.Dec.{T, eqb, ltb, ltb→lt}
-use lib.ListN.{length, getD, set}
+use lib.Dec.{eqb, ltb, ltb→lt}
+use lib.ListN.{length, set}
 use lib.Seq.{set-getD}
 use borrow.Author.Tests.{eqb-true}
 use Rattle.lists.specs.Lists.{if_then_else_}
@@ -14,17 +14,15 @@ use Rattle.net.specs.declared.Body.{Body}
 use Rattle.net.specs.declared.Body.the-variants.{Request, Reply, Notice}
 use Rattle.net.specs.declared.Letter.{Letter}
 use Rattle.net.specs.Network.{Network}
-use Rattle.reach.specs.Counters.{even, odd, healed, newer}
+use Rattle.reach.specs.Counters.{even, odd, healed}
 use Rattle.reach.proofs.CounterLaws.{healed-even, even-is}
-use Rattle.marks.specs.declared.Marks.{Marks}
 use Rattle.hearing.specs.declared.Effect.{Effect}
 use Rattle.hearing.specs.declared.Effect.the-variants.{Asks, Heals, Levels, Equal, Takes}
 use Rattle.hearing.specs.declared.Heard.{Heard}
 use Rattle.hearing.specs.declared.Heard.the-variants.{Gone, Nothing, TooHigh, Does}
 use Rattle.station.specs.Holding.{Holding, mark, counter, marked, counted}
 use Rattle.station.specs.Acts.{Done, unchanged, repliedMarks, hears, bodyOver, onBody, bodyAnswer, answer, received, onRequest, onReply, onNotice, overflows, takes, replyAnswer, onEach, openBut}
-use Rattle.hearing.specs.Heard.{heals, levels, taken}
-use Rattle.hearing.specs.Heard.{effectNumbers, heardNumbers}
+use Rattle.hearing.specs.Heard.{heals, levels, taken, effectNumbers, heardNumbers}
 
 -- a contradiction between two lists of numbers
 clash : {A : Type 0} → _≡_ {A = ℕ} 0 1 → A

@@ -1,38 +1,35 @@
 -- A request, a reply and a notice at one station, return by return. Assumes nothing.
-use Prim.Native.Nat.{ℕ, _+_, _≤_, _<_, min}
-use mathlib.Core.Bool.{Bool, true, false, not, _&&_, _||_}
-use mathlib.Core.Path.{_≡_, refl, sym, ap, ap₂, _∙_, subst, subst⁻¹}
-use mathlib.Core.List.{List, [], _∷_, _++_, map}
+use Prim.Native.Nat.{ℕ, _<_}
+use mathlib.Core.Bool.{Bool, true, false, not, _&&_}
+use mathlib.Core.Path.{_≡_, refl, sym, ap, _∙_, subst, subst⁻¹}
+use mathlib.Core.List.{List, [], _∷_, _++_}
 use native.Mathlib.Decide.{ℕ-discrete}
 use native.Mathlib.Omega.{arith}
 use lib.Dec.{eqb, ltb}
-use lib.ListN.{length, getD, drop, set, length-set}
+use lib.ListN.{length, getD, set, length-set}
 use lib.Seq.{getD-set-same, getD-set-other}
-use Rattle.lists.specs.Lists.{if_then_else_, keep, below}
+use Rattle.lists.specs.Lists.{if_then_else_}
 use Rattle.lists.specs.Words.{inWord}
 use Rattle.lists.proofs.Numbers.{length-map-below}
-use Rattle.net.specs.declared.Body.{Body}
-use Rattle.net.specs.declared.Body.the-variants.{Request, Reply, Notice}
+use Rattle.net.specs.declared.Body.the-variants.{Reply, Notice}
 use Rattle.net.specs.declared.Letter.{Letter}
 use Rattle.net.specs.declared.Net.{Net}
-use Rattle.net.specs.Network.{Network, isEnd, linkNumbers}
+use Rattle.net.specs.Network.{isEnd}
 use Rattle.net.specs.Values.{networkOf, linkCount}
 use Rattle.net.proofs.ValueLaws.{links-of}
-use Rattle.reach.specs.Counters.{even, odd}
-use Rattle.reach.specs.Values.{tableOf, purgedOf}
+use Rattle.reach.specs.Counters.{odd}
+use Rattle.reach.specs.Values.{purgedOf}
 use Rattle.reach.proofs.Tables.{counter-of}
 use Rattle.marks.specs.declared.Marks.{Marks}
 use Rattle.marks.specs.declared.Words.{Words}
-use Rattle.marks.specs.Marks.{wordBy, marksAt, wordsWith}
-use Rattle.marks.specs.Marks.{upTo}
-use Rattle.station.specs.declared.Acted.{Acted}
+use Rattle.marks.specs.Marks.{wordBy, marksAt, wordsWith, upTo}
 use Rattle.sending.specs.declared.Sending.{Sending}
 use Rattle.station.specs.declared.Station.{Station}
 use Rattle.station.specs.Holding.{Holding, noMarks, mark, counter, marked, counted, setAsked}
-use Rattle.station.specs.Acts.{Done, letter, onEach, tell, openLinks, openBut, known, knownBut, purged, unchanged, repliedMarks, requestedMarks, defers, onRequest}
+use Rattle.station.specs.Acts.{Done, letter, onEach, tell, openLinks, openBut, known, knownBut, unchanged, repliedMarks, requestedMarks, defers, onRequest}
 use Rattle.sending.specs.Sent.{silent, openAt}
 use Rattle.hearing.specs.Heard.{replied, heals, levels, taken}
-use Rattle.station.specs.Values.{holdingOf, laid, lettersOf, membersOf, Acts}
+use Rattle.station.specs.Values.{holdingOf, lettersOf, membersOf, Acts}
 use Rattle.station.proofs.Laid.{Fit, mark-of, marks-of, table-of, table-set, counters-set, laid-is, same-laid}
 use Rattle.station.proofs.Sent.{members-one, members-none, tell-same, tell-one, sent-nothing, sent-notices, sent-reply}
 use Rattle.station.proofs.Acting.{kept-links, open-but, does-marked, does-counted, does-purged, counter-at}

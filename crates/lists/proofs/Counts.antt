@@ -1,5 +1,5 @@
 -- A word's count of ones and the trailing zeros of its complement, as sums and runs of its bits. Assumes nothing.
-use Prim.Native.Nat.{ℕ, zero, suc, _+_, _-_, _*_, _/_, _%_, _^_, _≤_, _<_}
+use Prim.Native.Nat.{ℕ, zero, suc, _+_, _-_, _*_, _/_, _%_, _^_, _<_}
 use mathlib.Core.Bool.{Bool, true, false}
 use mathlib.Core.Path.{_≡_, refl, sym, ap, ap₂, _∙_, subst}
 use mathlib.Core.List.{List, [], _∷_, _++_}
@@ -8,7 +8,7 @@ use native.Mathlib.Numerals.{one-add}
 use native.Mathlib.Omega.{arith}
 use lib.Pow.{pow-pos, mod-pow-add}
 use lib.Count.{ones, ones-cat, ones-step, trailingZeros, under}
-use Rattle.lists.specs.Lists.{sumOf, from, below}
+use Rattle.lists.specs.Lists.{sumOf, below}
 use Rattle.lists.specs.Words.{bit, bitAt, wordOf}
 use Rattle.lists.proofs.Numbers.{from-snoc}
 use Rattle.lists.proofs.Words.{bit-zero, bit-suc}

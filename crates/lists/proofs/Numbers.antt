@@ -1,8 +1,8 @@
 -- Laws of the numbers below n: what a loop that counts up knows of `every`, `any`, `map` and `firstOf` over them. Assumes nothing.
 use Prim.Native.Nat.{ℕ, zero, suc, _+_, _≤_, _<_}
-use mathlib.Core.Bool.{Bool, true, false, not, _&&_, _||_}
+use mathlib.Core.Bool.{Bool, true, false}
 use mathlib.Core.Path.{_≡_, refl, sym, ap, _∙_, subst, subst⁻¹}
-use mathlib.Core.Logic.{_⊎_, inl, inr, ⊎-elim}
+use mathlib.Core.Logic.{⊎-elim}
 use mathlib.Core.List.{List, [], _∷_, _++_, map}
 use native.Mathlib.Numerals.{add-one}
 use native.Mathlib.Nat.{not-suc-le-zero, le-of-suc-le-suc, le-refl, add-zero, add-suc, suc-add, zero-add}
@@ -10,7 +10,7 @@ use native.Mathlib.Omega.{arith}
 use lib.Dec.{T}
 use lib.ListN.{length, getD, length-map}
 use Rattle.lists.specs.Lists.{if_then_else_, every, any, firstOf, from, below}
-use Rattle.lists.proofs.Tests.{and-l, and-r, and-i, and-yes, or-cases, or-left, or-right, every-append, every-fails}
+use Rattle.lists.proofs.Tests.{and-l, and-r, and-i, or-cases, or-left, or-right, every-append, every-fails}
 
 pub length-from : (i n : ℕ) → length (from i n) ≡ n
 length-from i zero = refl

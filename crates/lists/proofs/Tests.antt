@@ -1,14 +1,14 @@
 -- Laws of tests: `&&`, `||`, `if`, and `every`, `any` over a list.
 -- A test that passed is `T b` or `b ≡ true`; T-is and is-T go between. Assumes nothing.
-use Prim.Native.Nat.{ℕ, zero, suc, _≤_, _<_, zero-le, suc-le-suc}
+use Prim.Native.Nat.{ℕ, zero, suc, _<_, zero-le, suc-le-suc}
 use mathlib.Core.Bool.{Bool, true, false, not, _&&_, _||_}
-use mathlib.Core.Path.{_≡_, refl, sym, ap, _∙_, subst, subst⁻¹}
+use mathlib.Core.Path.{_≡_, refl, ap, _∙_, subst, subst⁻¹}
 use mathlib.Core.Logic.{_⊎_, inl, inr}
 use mathlib.Core.List.{List, [], _∷_, _++_}
 use native.Mathlib.Nat.{not-suc-le-zero, le-of-suc-le-suc}
 use lib.Dec.{T, eqb, eqb-refl}
 use lib.ListN.{length, getD}
-use Rattle.lists.specs.Lists.{if_then_else_, every, any}
+use Rattle.lists.specs.Lists.{if_then_else_, every}
 
 pub T-is : (b : Bool) → T b → b ≡ true
 T-is true t = refl

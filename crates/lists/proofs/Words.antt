@@ -1,17 +1,16 @@
 -- Laws of a word's bits, over its width. Assumes nothing.
 use Prim.Native.Nat.{ℕ, zero, suc, _+_, _-_, _*_, _/_, _%_, _^_, _≤_, _<_, max}
-use mathlib.Core.Bool.{Bool, true, false, not}
-use mathlib.Core.Path.{_≡_, refl, sym, ap, ap₂, _∙_, subst, subst⁻¹}
-use mathlib.Core.Logic.{_⊎_, inl, inr, ⊎-elim}
+use mathlib.Core.Bool.{Bool, true, false}
+use mathlib.Core.Path.{_≡_, refl, sym, ap, _∙_, subst}
 use mathlib.Core.List.{List, [], _∷_}
-use native.Mathlib.Nat.{add-mul-div-right, one-mul, div-eq-of-lt, div-lt-iff-lt-mul, pow-suc, zero-div, mod-lt, mod-eq-of-lt, mod-one, le-of-suc-le-suc}
+use native.Mathlib.Nat.{add-mul-div-right, one-mul, div-eq-of-lt, div-lt-iff-lt-mul, pow-suc, zero-div}
 use native.Mathlib.Decide.{decLt}
 use native.Mathlib.Numerals.{one-add}
 use native.Mathlib.Omega.{arith}
-use lib.Dec.{T, eqb}
+use lib.Dec.{eqb}
 use lib.ListN.{length, getD}
 use lib.Bits.{bitAnd, and-shr, and-mod, bitOr, or-shr, or-mod}
-use lib.Pow.{pow-pos, pow-add, pow-mono, shr-shr, mod-pow-add}
+use lib.Pow.{pow-pos, pow-add, pow-mono, shr-shr}
 use borrow.Author.Tests.{eq-eqb, ne-eqb, eqb-true, eqb-false}
 use Rattle.lists.specs.Words.{bit, bitAt, inWord, wordOf}
 

@@ -2,22 +2,22 @@
 use Prim.Native.Nat.{ℕ, _+_, _-_, _*_, _%_, _^_, _≤_, _<_, max}
 use mathlib.Core.Bool.{Bool, true, false, not, _&&_, _||_}
 use mathlib.Core.Path.{_≡_, refl, sym, ap, ap₂, _∙_, subst, subst⁻¹}
-use mathlib.Core.List.{List, map}
+use mathlib.Core.List.{map}
 use native.Mathlib.Nat.{one-mul, mod-eq-of-lt}
 use native.Mathlib.Decide.{decLt, ℕ-discrete}
 use native.Mathlib.Omega.{arith}
 use lib.Bits.{bitAnd, and-lt, bitOr, or-lt}
 use lib.Dec.{eqb, ltb}
-use lib.ListN.{length, getD}
+use lib.ListN.{getD}
 use lib.Pow.{pow-pos, pow-lt, ones-sub-lt}
 use borrow.Author.Tests.{eq-eqb, ne-eqb, lt-ltb, le-ltb}
 use Rattle.lists.specs.Lists.{if_then_else_, below}
 use Rattle.lists.specs.Words.{bit, bitAt, inWord, wordOf}
 use Rattle.lists.proofs.Numbers.{getD-map-below, length-map-below}
-use Rattle.lists.proofs.Words.{in-is-one, out-is-zero, one-is-in, zero-is-out, beyond, none-in, word-ext, put-same, put-other, put-fits, off-room, off-same, off-other, not-at, and-at, or-at, wordOf-lt, wordOf-at, in-wordOf}
+use Rattle.lists.proofs.Words.{in-is-one, out-is-zero, one-is-in, zero-is-out, beyond, none-in, word-ext, put-same, put-other, put-fits, off-room, off-same, off-other, not-at, and-at, or-at, wordOf-lt, in-wordOf}
 use Rattle.net.specs.declared.Net.{Net}
-use Rattle.net.specs.Network.{Ends, isEnd, ends}
-use Rattle.net.specs.Values.{networkOf, placeEnds, linkCount}
+use Rattle.net.specs.Network.{Ends, isEnd}
+use Rattle.net.specs.Values.{networkOf, linkCount}
 use Rattle.net.proofs.ValueLaws.{ends-of}
 use Rattle.marks.specs.Marks.{wordBy, upTo}
 

@@ -1,7 +1,7 @@
 -- Sets of links as words, and the marks of a link in five words. Assumes nothing.
 use Prim.Native.Nat.{ℕ}
-use mathlib.Core.Bool.{Bool, true, false, _&&_}
-use mathlib.Core.List.{List, map}
+use mathlib.Core.Bool.{Bool, _&&_}
+use mathlib.Core.List.{map}
 use lib.Dec.{eqb, ltb}
 use Rattle.lists.specs.Lists.{if_then_else_, below}
 use Rattle.lists.specs.Words.{inWord, wordOf}

@@ -3,10 +3,10 @@ use Prim.Native.Nat.{ℕ, _+_, _-_, _≤_, _<_, min}
 use mathlib.Core.Bool.{Bool, true, false, _&&_, _||_}
 use mathlib.Core.Path.{_≡_, refl, sym, ap, ap₂, _∙_, subst, subst⁻¹}
 use mathlib.Core.Logic.{_⊎_, inl, inr}
-use mathlib.Core.List.{List, [], _∷_}
+use mathlib.Core.List.{List}
 use native.Mathlib.Decide.{decLt}
 use native.Mathlib.Omega.{arith}
-use lib.Dec.{T, eqb, leb, ltb}
+use lib.Dec.{T, eqb, ltb}
 use lib.ListN.{length, getD, drop, length-drop}
 use lib.Seq.{getD-drop}
 use borrow.Author.Tests.{eq-eqb, ne-eqb, lt-ltb, le-ltb, le-leb, lt-leb}
@@ -14,7 +14,7 @@ use Rattle.lists.specs.Lists.{if_then_else_, every, below}
 use Rattle.lists.proofs.Tests.{and-no, and-l, and-r, and-i, same-test, every-at, at-every}
 use Rattle.lists.proofs.Numbers.{below-at, at-below}
 use Rattle.net.specs.declared.Net.{Net}
-use Rattle.net.specs.Network.{Ends, Network, precedes, endsHold, linkHolds, sheetHolds}
+use Rattle.net.specs.Network.{Ends, precedes, endsHold, linkHolds, sheetHolds}
 use Rattle.net.specs.Values.{networkOf, placeEnds, linkCount, isZero, netHolds}
 use Rattle.net.specs.Steps.{follows, placeTest}
 use Rattle.net.proofs.ValueLaws.{stations-of, links-of, ends-of}

@@ -5,7 +5,7 @@ use native.Mathlib.Omega.{arith}
 use lib.ListN.{length}
 use Rattle.lists.proofs.Numbers.{getD-map-below, length-map-below}
 use Rattle.net.specs.declared.Net.{Net}
-use Rattle.net.specs.Network.{Ends, Network, ends}
+use Rattle.net.specs.Network.{ends}
 use Rattle.net.specs.Values.{networkOf, placeEnds, linkCount}
 
 module _ (net : Net) where

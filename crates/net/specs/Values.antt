@@ -1,8 +1,8 @@
 -- What a network value means, and the sheet rules for one.
 -- A value that breaks the rules has a meaning too: stations beyond 32 and links beyond 64 are not there. Assumes nothing.
 use Prim.Native.Nat.{ℕ, min}
-use mathlib.Core.Bool.{Bool, true, false, _&&_}
-use mathlib.Core.List.{List, [], _∷_, map}
+use mathlib.Core.Bool.{Bool, _&&_}
+use mathlib.Core.List.{map}
 use lib.Dec.{eqb, leb}
 use lib.ListN.{getD, drop}
 use Rattle.lists.specs.Lists.{every, below}

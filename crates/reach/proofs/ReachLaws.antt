@@ -1,21 +1,20 @@
 -- The computed reach is the reach by stations that lead there, for every network, every choice of working links and every station.
 -- Callers use `sound` and `complete`, and not the text of `reach`.
 -- Inside: sets that grow, one link further, and that after as many rounds as there are stations nothing is left to add. Assumes nothing.
-use Prim.Native.Nat.{ℕ, zero, suc, _+_, _≤_, _<_}
-use mathlib.Core.Bool.{Bool, true, false, not, _&&_, _||_}
+use Prim.Native.Nat.{ℕ, zero, suc, _≤_, _<_}
+use mathlib.Core.Bool.{Bool, true, false, _&&_, _||_}
 use mathlib.Core.Path.{_≡_, refl, sym, ap, _∙_, subst, subst⁻¹}
 use mathlib.Core.Logic.{_⊎_, inl, inr, ⊎-elim}
-use mathlib.Core.List.{List, [], _∷_, _++_, map}
+use mathlib.Core.List.{List, [], _∷_, _++_}
 use native.Mathlib.Nat.{le-refl, zero-add}
 use native.Mathlib.Omega.{arith}
 use native.Mathlib.Decide.{decLt}
 use lib.Dec.{T, eqb, eqb→eq, eqb-refl}
-use lib.ListN.{length, getD, List·getD-eq-default}
-use Rattle.lists.specs.Lists.{any, from, below, sumOf}
-use Rattle.lists.specs.Words.{bit}
+use lib.ListN.{length, List·getD-eq-default}
+use Rattle.lists.specs.Lists.{any, from}
 use Rattle.lists.proofs.Tests.{and-l, and-r, and-i, or-cases, or-left, or-right}
 use Rattle.lists.proofs.Numbers.{any-out, any-in, getD-map-below, length-map-below}
-use Rattle.net.specs.Network.{Network, ends, linkNumbers, ties}
+use Rattle.net.specs.Network.{Network, ends, linkNumbers}
 use Rattle.reach.specs.Reach.{Joined, Leads, Reaches, has, joinsTo, spread, within, reach, countOf}
 use Rattle.reach.specs.Reach.Leads.{here, next}
 

@@ -15,13 +15,13 @@ use Rattle.lists.proofs.Tests.{T-is, is-T, and-no, and-l, and-r, or-cases, or-l
 use Rattle.lists.proofs.Words.{none-in, put-same, put-other, put-fits}
 use Rattle.net.specs.declared.Net.{Net}
 use Rattle.reach.specs.Counters.{even}
-use Rattle.net.specs.Network.{Ends, Network, ends, ties}
-use Rattle.reach.specs.Reach.{Joined, Reaches, counterIn, worksIn}
-use Rattle.net.specs.Values.{networkOf, placeEnds, linkCount}
+use Rattle.net.specs.Network.{Ends}
+use Rattle.reach.specs.Reach.{Joined, worksIn}
+use Rattle.net.specs.Values.{networkOf, linkCount}
 use Rattle.reach.specs.Values.{tableOf, reachOf}
 use Rattle.reach.specs.Steps.{crosses, Apart}
-use Rattle.reach.proofs.ReachLaws.{reach-on, reach-self, reaches-keep, reaches-real}
-use Rattle.net.proofs.ValueLaws.{stations-of, stations-few, links-of, ends-of}
+use Rattle.reach.proofs.ReachLaws.{reach-on, reach-self, reaches-keep}
+use Rattle.net.proofs.ValueLaws.{stations-of, links-of, ends-of}
 use Rattle.reach.proofs.Tables.{counter-of}
 use Rattle.reach.proofs.Word.{ReachesBy, word-is-reach}
 

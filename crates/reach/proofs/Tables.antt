@@ -1,22 +1,21 @@
 -- Purge and the report's link values, as the code goes through its arrays. Assumes nothing.
-use Prim.Native.Nat.{ℕ, _+_, _≤_, _<_}
-use mathlib.Core.Bool.{Bool, true, false, _&&_, _||_}
-use mathlib.Core.Path.{_≡_, refl, sym, ap, ap₂, _∙_, subst}
-use mathlib.Core.List.{List, [], _∷_, _++_, map}
+use Prim.Native.Nat.{ℕ, _<_}
+use mathlib.Core.Bool.{Bool, true, false, _||_}
+use mathlib.Core.Path.{_≡_, sym, ap, ap₂, _∙_}
+use mathlib.Core.List.{List, _++_, map}
 use native.Mathlib.Omega.{arith}
-use lib.Dec.{eqb, ltb}
 use lib.ListN.{length, getD, drop}
 use lib.Seq.{getD-take}
-use borrow.Author.Tests.{eq-eqb, ne-eqb, lt-ltb, le-ltb}
+use borrow.Author.Tests.{eq-eqb, ne-eqb}
 use Rattle.lists.specs.Lists.{if_then_else_, below, filled}
 use Rattle.lists.specs.Words.{bitAt, inWord, wordOf}
 use Rattle.lists.proofs.Words.{in-wordOf}
 use Rattle.lists.proofs.Fill.{map-below-same, getD-any}
 use Rattle.net.specs.declared.Net.{Net}
 use Rattle.reach.specs.Counters.{even}
-use Rattle.net.specs.Network.{Ends, Network, ends, linkNumbers}
-use Rattle.reach.specs.Reach.{counterIn, worksIn, has, reach, near, purge, linkValue}
-use Rattle.net.specs.Values.{networkOf, placeEnds, linkCount}
+use Rattle.net.specs.Network.{Ends}
+use Rattle.reach.specs.Reach.{counterIn, has, near, purge, linkValue}
+use Rattle.net.specs.Values.{networkOf, linkCount}
 use Rattle.reach.specs.Values.{tableOf, reachOf, purgedOf}
 use Rattle.reach.specs.Steps.{purgedTo}
 use Rattle.net.proofs.ValueLaws.{links-of, ends-of}

@@ -1,17 +1,16 @@
 -- The promise of the reach word in the words of document 01: bit t is set exactly if a list of stations leads from s to t,
 -- each next one joined by a link that is even in the table; and no bit is set beyond the stations.
 -- For every network value, table and station. Assumes nothing.
-use Prim.Native.Nat.{ℕ, _+_, _^_, _≤_, _<_, min}
+use Prim.Native.Nat.{ℕ, _^_, _≤_, _<_, min}
 use mathlib.Core.Bool.{Bool, true, false, not}
-use mathlib.Core.Path.{_≡_, refl, sym, ap, _∙_, subst, subst⁻¹, fun-ext}
+use mathlib.Core.Path.{_≡_, refl, sym, ap, _∙_, subst, fun-ext}
 use mathlib.Core.Logic.{_↔_}
 use mathlib.Core.List.{List}
 use native.Mathlib.Omega.{arith}
 use lib.Dec.{T}
 use lib.Pow.{pow-mono}
 use lib.Count.{ones}
-use lib.ListN.{length, getD}
-use Rattle.lists.specs.Lists.{below, sumOf, firstOf}
+use Rattle.lists.specs.Lists.{below, firstOf}
 use Rattle.lists.specs.Words.{bit, bitAt, inWord, wordOf}
 use Rattle.lists.proofs.Tests.{T-is, is-T}
 use Rattle.lists.proofs.Numbers.{first-is, first-none}
@@ -19,11 +18,10 @@ use Rattle.lists.proofs.Words.{in-is-one, one-is-in, zero-is-out, in-wordOf, wo
 use Rattle.lists.proofs.Counts.{Run, ones-bits, ones-wordOf}
 use Rattle.net.specs.declared.Net.{Net}
 use Rattle.reach.specs.declared.Reached.{Reached}
-use Rattle.net.specs.Network.{Network}
-use Rattle.reach.specs.Reach.{Reaches, has, reach, worksIn, countOf, lowestOf}
+use Rattle.reach.specs.Reach.{Reaches, has, worksIn, countOf, lowestOf}
 use Rattle.net.specs.Values.{networkOf}
 use Rattle.reach.specs.Values.{tableOf, reachOf, reachedOf, onesOf, lowestMissing}
-use Rattle.reach.proofs.ReachLaws.{sound, complete, reach-length, reaches-real}
+use Rattle.reach.proofs.ReachLaws.{sound, complete, reach-length}
 use Rattle.net.proofs.ValueLaws.{stations-of, stations-few}
 
 -- s reaches t by the counters

@@ -1,6 +1,6 @@
 -- A link's counter: 1 to 65,535; even = working, odd = unresponsive. The rules that stand alone. Assumes nothing.
 use Prim.Native.Nat.{ℕ, _+_, _%_, max}
-use mathlib.Core.Bool.{Bool, true, false, not}
+use mathlib.Core.Bool.{Bool, not}
 use mathlib.Core.List.{List, [], _∷_}
 use lib.Dec.{eqb, ltb}
 use Rattle.lists.specs.Lists.{if_then_else_}

@@ -1,7 +1,7 @@
 -- Reach, as a list of stations that leads there and as a computed set; purge; the report.
 -- That the two are one: proofs/ReachLaws.antt, `sound` and `complete`. Which links work is a parameter. Assumes nothing.
 use Prim.Native.Nat.{ℕ, zero, suc, _<_}
-use mathlib.Core.Bool.{Bool, true, false, not, _&&_, _||_}
+use mathlib.Core.Bool.{Bool, false, not, _&&_, _||_}
 use mathlib.Core.List.{List, [], _∷_, _++_, map}
 use lib.Dec.{eqb, T}
 use lib.ListN.{length, getD}

@@ -1,8 +1,8 @@
 -- What the code's counters mean beside a network value, and what each public function answers, in the words of Reach.
 -- A link with an end that is no station joins nothing. Assumes nothing.
 use Prim.Native.Nat.{ℕ, min}
-use mathlib.Core.Bool.{Bool, true, false, not}
-use mathlib.Core.List.{List, [], _∷_, _++_}
+use mathlib.Core.Bool.{Bool, not}
+use mathlib.Core.List.{List, _++_}
 use lib.ListN.{take, drop}
 use Rattle.lists.specs.Lists.{below, sumOf, firstOf}
 use Rattle.lists.specs.Words.{bitAt, inWord, wordOf}

@@ -1,40 +1,34 @@
 -- The events at one station, return by return: what the code hands back does what the definition says. Assumes nothing.
-use Prim.Native.Nat.{ℕ, _+_, _^_, _≤_, _<_, min}
-use mathlib.Core.Bool.{Bool, true, false, not, _&&_, _||_}
-use mathlib.Core.Path.{_≡_, refl, sym, ap, ap₂, _∙_, subst, subst⁻¹}
-use mathlib.Core.List.{List, [], _∷_, _++_, map}
-use native.Mathlib.Decide.{decLt, ℕ-discrete}
+use Prim.Native.Nat.{ℕ, _+_, _≤_, _<_}
+use mathlib.Core.Bool.{Bool, true, false, not, _&&_}
+use mathlib.Core.Path.{_≡_, refl, sym, ap, ap₂, _∙_, subst⁻¹}
+use mathlib.Core.List.{List, [], _∷_, _++_}
 use native.Mathlib.Omega.{arith}
-use lib.Dec.{eqb, ltb}
-use lib.ListN.{length, getD, take, drop, set}
-use lib.Seq.{getD-set-same, getD-set-other}
-use borrow.Author.Tests.{eq-eqb, ne-eqb, lt-ltb, le-ltb}
+use lib.Dec.{eqb}
+use lib.ListN.{length, getD, drop, set}
+use lib.Seq.{getD-set-same}
 use Rattle.lists.specs.Lists.{if_then_else_, keep, below}
 use Rattle.lists.specs.Words.{inWord}
 use Rattle.lists.proofs.Words.{zero-is-out, none-in}
-use Rattle.lists.proofs.Numbers.{length-map-below}
-use Rattle.net.specs.declared.Body.{Body}
-use Rattle.net.specs.declared.Body.the-variants.{Request, Reply, Notice}
+use Rattle.net.specs.declared.Body.the-variants.{Request, Notice}
 use Rattle.net.specs.declared.Letter.{Letter}
 use Rattle.net.specs.declared.Net.{Net}
 use Rattle.net.specs.Network.{Network, isEnd, linkNumbers}
 use Rattle.net.specs.Values.{networkOf, linkCount}
 use Rattle.net.proofs.ValueLaws.{links-of}
 use Rattle.reach.specs.Counters.{even, timedOut}
-use Rattle.reach.specs.Reach.{counterIn, purge}
+use Rattle.reach.specs.Reach.{purge}
 use Rattle.reach.specs.Values.{tableOf, purgedOf}
 use Rattle.reach.proofs.Tables.{counter-of}
 use Rattle.reach.proofs.CounterLaws.{even-is, timed-even}
 use Rattle.marks.specs.declared.Marks.{Marks}
 use Rattle.marks.specs.declared.Words.{Words}
-use Rattle.marks.specs.Marks.{wordBy, marksAt, wordsWith}
-use Rattle.marks.proofs.WordLaws.{by-same, by-none}
-use Rattle.marks.specs.Marks.{upTo}
-use Rattle.station.specs.declared.Acted.{Acted}
+use Rattle.marks.specs.Marks.{wordBy, marksAt, wordsWith, upTo}
+use Rattle.marks.proofs.WordLaws.{by-none}
 use Rattle.sending.specs.declared.Sending.{Sending}
 use Rattle.station.specs.declared.Station.{Station}
-use Rattle.station.specs.Holding.{Holding, noMarks, mark, counter, marked, counted, tabled, setQuiet}
-use Rattle.station.specs.Acts.{Done, letter, onEach, tell, openLinks, openBut, known, intervalMarks, intervalTests, testEnded, interval, timeout, spoken, purged, unchanged}
+use Rattle.station.specs.Holding.{Holding, mark, counter, marked, counted, setQuiet}
+use Rattle.station.specs.Acts.{Done, letter, onEach, openBut, intervalMarks, intervalTests, testEnded, interval, timeout, spoken, purged, unchanged}
 use Rattle.sending.specs.Sent.{silent, openAt}
 use Rattle.station.specs.Values.{holdingOf, laid, lettersOf, membersOf, Acts}
 use Rattle.station.proofs.Laid.{Fit, mark-of, mark-past, marked-past, counter-past, laid-same, laid-marked, laid-is, marks-laid, table-set, room-set, counters-set}

@@ -1,25 +1,19 @@
 -- What is allowed, return by return. Assumes nothing.
-use Prim.Native.Nat.{ℕ, zero, suc, _≤_, _<_, max, min}
-use mathlib.Core.Bool.{Bool, true, false, not, _&&_, _||_}
-use mathlib.Core.Path.{_≡_, refl, sym, ap, ap₂, _∙_, subst, subst⁻¹}
-use mathlib.Core.List.{List, [], _∷_}
+use Prim.Native.Nat.{ℕ, zero, suc, _<_}
+use mathlib.Core.Bool.{Bool, true, false, not, _&&_}
+use mathlib.Core.Path.{_≡_, refl, sym, ap, ap₂, _∙_}
 use native.Mathlib.Decide.{decLt}
 use native.Mathlib.Omega.{arith}
-use lib.Dec.{eqb, ltb}
-use lib.ListN.{length, getD}
-use borrow.Author.Tests.{eq-eqb, ne-eqb, lt-ltb, le-ltb, ltb-true, ltb-false}
+use borrow.Author.Tests.{lt-ltb, le-ltb}
 use Rattle.lists.specs.Lists.{if_then_else_}
 use Rattle.net.specs.declared.Net.{Net}
 use Rattle.net.specs.Values.{linkCount}
-use Rattle.reach.specs.Counters.{even, odd, healed, healing, healedNumbers}
-use Rattle.reach.specs.declared.Healed.{Healed}
-use Rattle.reach.specs.declared.Healed.the-variants.{To, TooHigh}
 use Rattle.marks.specs.declared.Marks.{Marks}
 use Rattle.marks.specs.Marks.{marksAt}
 use Rattle.station.specs.declared.Condition.{Condition}
 use Rattle.station.specs.declared.Station.{Station}
 use Rattle.station.specs.Holding.{mark, noMarks}
-use Rattle.station.specs.Acts.{Kind, start, stop, recovery, intervalEnd, timeoutEnd, quietEnd, other, kindOf, allowedBy, replyAnswer}
+use Rattle.station.specs.Acts.{kindOf, allowedBy}
 use Rattle.station.specs.Steps.{marksThere}
 use Rattle.station.specs.Values.{holdingOf}
 use Rattle.station.proofs.Laid.{mark-of, mark-past}

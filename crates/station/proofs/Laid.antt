@@ -1,26 +1,26 @@
 -- A station value that was changed at one link is its holding, changed at that link, laid over the old room. Assumes nothing.
-use Prim.Native.Nat.{ℕ, suc, _+_, _-_, _^_, _≤_, _<_, min}
-use mathlib.Core.Bool.{Bool, true, false, not, _&&_, _||_}
-use mathlib.Core.Path.{_≡_, refl, sym, ap, ap₂, _∙_, subst, subst⁻¹}
-use mathlib.Core.List.{List, [], _∷_, _++_, map}
+use Prim.Native.Nat.{ℕ, _+_, _-_, _^_, _≤_, _<_}
+use mathlib.Core.Bool.{Bool, true, false}
+use mathlib.Core.Path.{_≡_, refl, sym, ap, ap₂, _∙_, subst}
+use mathlib.Core.List.{List, _++_, map}
 use native.Mathlib.Decide.{decLt, ℕ-discrete}
 use native.Mathlib.Omega.{arith}
-use lib.Dec.{eqb, ltb}
-use lib.ListN.{length, getD, take, drop, set, length-append, length-drop, length-set, length-map, length-take, take-append-drop, List·getD-append, List·getD-map, List·getD-eq-default}
+use lib.Dec.{eqb}
+use lib.ListN.{length, getD, drop, set, length-append, length-drop, length-set, length-map, length-take, take-append-drop, List·getD-append, List·getD-map, List·getD-eq-default}
 use lib.Seq.{ext-getD, getD-append-add, getD-drop, getD-set-same, getD-set-other, take-set-lt, drop-set-lt, set-out}
 use borrow.Author.Tests.{eq-eqb, ne-eqb}
 use Rattle.lists.specs.Lists.{if_then_else_, below}
 use Rattle.lists.specs.Words.{inWord, wordOf}
 use Rattle.lists.proofs.Numbers.{getD-map-below, length-map-below}
 use Rattle.net.specs.declared.Net.{Net}
-use Rattle.net.specs.Values.{networkOf, linkCount}
+use Rattle.net.specs.Values.{linkCount}
 use Rattle.reach.specs.Values.{tableOf}
 use Rattle.marks.specs.declared.Marks.{Marks}
 use Rattle.marks.specs.declared.Words.{Words}
 use Rattle.marks.specs.Marks.{wordBy, marksAt, wordsWith}
-use Rattle.marks.proofs.WordLaws.{by-ext, by-same, in-by}
+use Rattle.marks.proofs.WordLaws.{by-ext, by-same}
 use Rattle.station.specs.declared.Station.{Station}
-use Rattle.station.specs.Holding.{Holding, noMarks, mark, counter, marked, counted, tabled}
+use Rattle.station.specs.Holding.{Holding, noMarks, mark, counter, marked}
 use Rattle.station.specs.Values.{holdingOf, bitsOf, laidWord, laidWords, laid}
 
 -- ---- words

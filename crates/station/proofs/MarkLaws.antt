@@ -1,6 +1,6 @@
 -- One link's marks after an interval, by the test that the code asks first. Assumes nothing.
 use mathlib.Core.Bool.{Bool, true, false}
-use mathlib.Core.Path.{_≡_, refl, sym, ap, _∙_}
+use mathlib.Core.Path.{_≡_, sym, ap, _∙_}
 use Rattle.lists.specs.Lists.{if_then_else_}
 use Rattle.marks.specs.declared.Marks.{Marks}
 use Rattle.station.specs.Holding.{setToken, setTurn, setTesting}

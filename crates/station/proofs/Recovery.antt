@@ -1,36 +1,32 @@
 -- Event 4's work on each own link at once, and a stop. Assumes nothing.
-use Prim.Native.Nat.{ℕ, _+_, _^_, _≤_, _<_, min}
+use Prim.Native.Nat.{ℕ, _≤_, _<_}
 use mathlib.Core.Bool.{Bool, true, false, not, _&&_, _||_}
-use mathlib.Core.Path.{_≡_, refl, sym, ap, ap₂, _∙_, subst, subst⁻¹}
-use mathlib.Core.List.{List, [], _∷_, _++_, map}
+use mathlib.Core.Path.{_≡_, refl, sym, ap, ap₂, _∙_}
+use mathlib.Core.List.{List, _++_, map}
 use native.Mathlib.Decide.{decLt}
 use native.Mathlib.Omega.{arith}
-use lib.Dec.{eqb, ltb}
-use lib.ListN.{length, getD, drop, set, replicate}
+use lib.ListN.{drop, replicate}
 use borrow.Author.Tests.{lt-ltb, le-ltb}
 use Rattle.lists.specs.Lists.{if_then_else_, keep, below, filled}
 use Rattle.lists.specs.Words.{inWord}
 use Rattle.lists.proofs.Words.{zero-is-out, none-in}
 use Rattle.lists.proofs.Numbers.{getD-map-below, length-map-below}
-use Rattle.net.specs.declared.Body.the-variants.{Request}
 use Rattle.net.specs.declared.Net.{Net}
 use Rattle.net.specs.Network.{isEnd, linkNumbers}
 use Rattle.net.specs.Values.{networkOf, linkCount}
 use Rattle.net.proofs.ValueLaws.{links-of}
 use Rattle.marks.specs.declared.Marks.{Marks}
 use Rattle.marks.specs.declared.Words.{Words}
-use Rattle.marks.specs.Marks.{wordBy, marksAt, ownAt}
-use Rattle.marks.proofs.WordLaws.{by-ext, by-same, by-none, in-by, by-lt}
-use Rattle.marks.specs.Marks.{upTo}
+use Rattle.marks.specs.Marks.{wordBy, marksAt, ownAt, upTo}
+use Rattle.marks.proofs.WordLaws.{by-ext, by-same, by-none, in-by}
 use Rattle.station.specs.declared.Condition.the-variants.{Down, Live}
-use Rattle.sending.specs.declared.Sending.{Sending}
 use Rattle.station.specs.declared.Station.{Station}
 use Rattle.station.specs.Holding.{noMarks, mark}
-use Rattle.station.specs.Acts.{intervalMarks, intervalTests, recovered, stopped, onEach}
+use Rattle.station.specs.Acts.{intervalMarks, intervalTests, recovered, stopped}
 use Rattle.station.specs.Steps.{recoveredWords}
 use Rattle.station.specs.Values.{holdingOf, laid, laidWords, membersOf, blank, noWords, Acts}
 use Rattle.station.proofs.Laid.{Fit, wordsBy, words-laid, laid-is, counters-same, mark-of, table-of}
-use Rattle.station.proofs.Sent.{keep-same, members-by, sent-requests}
+use Rattle.station.proofs.Sent.{members-by, sent-requests}
 
 -- ---- one link, by its bits
 -- the marks of link t after event 4, if the link is an own one

@@ -1,23 +1,20 @@
 -- The letters that a sending means: its words are read as lists of links, rising. Assumes nothing.
-use Prim.Native.Nat.{ℕ, zero, suc, _+_, _-_, _^_, _≤_, _<_}
-use mathlib.Core.Bool.{Bool, true, false, not, _&&_, _||_}
-use mathlib.Core.Path.{_≡_, refl, sym, ap, ap₂, _∙_, subst, subst⁻¹}
-use mathlib.Core.List.{List, [], _∷_, _++_, map, append-nil}
-use native.Mathlib.Nat.{not-suc-le-zero, le-of-suc-le-suc}
+use Prim.Native.Nat.{ℕ, zero, suc, _+_, _-_, _≤_, _<_}
+use mathlib.Core.Bool.{Bool, true, false, _&&_}
+use mathlib.Core.Path.{_≡_, refl, sym, ap, ap₂, _∙_}
+use mathlib.Core.List.{List, [], _∷_, _++_, append-nil}
 use native.Mathlib.Decide.{decLt, ℕ-discrete}
 use native.Mathlib.Omega.{arith}
-use lib.Dec.{eqb, ltb}
-use lib.ListN.{length, getD}
+use lib.Dec.{eqb}
+use lib.ListN.{getD}
 use borrow.Author.Tests.{eq-eqb, ne-eqb, lt-ltb, le-ltb}
 use Rattle.lists.specs.Lists.{if_then_else_, keep, from, below}
 use Rattle.lists.specs.Words.{inWord}
-use Rattle.net.specs.declared.Body.{Body}
 use Rattle.net.specs.declared.Body.the-variants.{Request, Reply, Notice}
 use Rattle.net.specs.declared.Letter.{Letter}
 use Rattle.lists.proofs.Words.{zero-is-out, none-in}
-use Rattle.marks.specs.Marks.{wordBy}
+use Rattle.marks.specs.Marks.{wordBy, upTo}
 use Rattle.marks.proofs.WordLaws.{in-by, by-same}
-use Rattle.marks.specs.Marks.{upTo}
 use Rattle.sending.specs.declared.Sending.{Sending}
 use Rattle.station.specs.Acts.{letter, onEach, tell}
 use Rattle.station.specs.Values.{membersOf, parts, lettersOf}

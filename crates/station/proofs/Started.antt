@@ -1,34 +1,27 @@
 -- The marks of all links at a start. Assumes nothing.
-use Prim.Native.Nat.{ℕ, _+_, _≤_, _<_, min}
-use mathlib.Core.Bool.{Bool, true, false, not, _&&_, _||_}
-use mathlib.Core.Path.{_≡_, refl, sym, ap, ap₂, _∙_, subst, subst⁻¹}
-use mathlib.Core.List.{List, [], _∷_, _++_, map}
+use Prim.Native.Nat.{ℕ}
+use mathlib.Core.Bool.{Bool, true, false, _&&_}
+use mathlib.Core.Path.{_≡_, refl, sym, ap, _∙_}
+use mathlib.Core.List.{map}
 use native.Mathlib.Omega.{arith}
-use lib.Dec.{eqb, ltb}
-use lib.ListN.{length, getD, drop, set, replicate}
 use borrow.Author.Tests.{lt-ltb, le-ltb}
-use Rattle.lists.specs.Lists.{if_then_else_, below, filled}
-use Rattle.lists.specs.Words.{inWord}
-use Rattle.lists.proofs.Tests.{and-no, and-yes, and-assoc}
+use Rattle.lists.specs.Lists.{if_then_else_, below}
 use Rattle.lists.proofs.Words.{zero-is-out, none-in}
 use Rattle.lists.proofs.Numbers.{getD-map-below, length-map-below}
 use Rattle.net.specs.declared.Net.{Net}
 use Rattle.net.specs.Network.{isEnd, linkNumbers}
 use Rattle.net.specs.Values.{networkOf, linkCount}
 use Rattle.net.proofs.ValueLaws.{links-of}
-use Rattle.reach.specs.Values.{tableOf}
 use Rattle.marks.specs.declared.Marks.{Marks}
 use Rattle.marks.specs.declared.Words.{Words}
 use Rattle.marks.specs.Marks.{wordBy, marksAt, ownAt}
-use Rattle.marks.proofs.WordLaws.{by-same, by-none, in-by}
-use Rattle.marks.specs.Marks.{upTo}
-use Rattle.station.specs.declared.Condition.the-variants.{Down, Waiting}
+use Rattle.marks.proofs.WordLaws.{by-same, by-none}
+use Rattle.station.specs.declared.Condition.the-variants.{Waiting}
 use Rattle.station.specs.declared.Station.{Station}
 use Rattle.station.specs.Holding.{noMarks, setToken}
-use Rattle.station.specs.Acts.{started, stopped}
-use Rattle.sending.specs.Sent.{openAt}
-use Rattle.station.specs.Values.{holdingOf, laid, laidWords, unmarked, blank, noWords}
-use Rattle.station.proofs.Laid.{wordsBy, words-laid, laid-is, counters-same}
+use Rattle.station.specs.Acts.{started}
+use Rattle.station.specs.Values.{holdingOf, laid, laidWords, unmarked, noWords}
+use Rattle.station.proofs.Laid.{words-laid, laid-is, counters-same}
 
 -- ---- the marks of all links at a start: token on each own link
 token-own : (net : Net) (s token : ℕ) → token ≡ wordBy (ownAt net s)

@@ -1,15 +1,15 @@
 -- What the code's values mean. Assumes nothing.
 use Prim.Native.Nat.{ℕ}
-use mathlib.Core.Bool.{Bool, true, false}
+use mathlib.Core.Bool.{Bool}
 use mathlib.Core.Path.{_≡_}
 use mathlib.Core.List.{List, [], _∷_, _++_, map}
-use lib.ListN.{length, getD, drop, replicate}
+use lib.ListN.{getD, drop, replicate}
 use Rattle.lists.specs.Lists.{if_then_else_, keep, below}
 use Rattle.lists.specs.Words.{inWord, wordOf}
-use Rattle.net.specs.declared.Body.the-variants.{Request, Reply, Notice}
+use Rattle.net.specs.declared.Body.the-variants.{Request, Reply}
 use Rattle.net.specs.declared.Letter.{Letter}
 use Rattle.net.specs.declared.Net.{Net}
-use Rattle.net.specs.Values.{networkOf, linkCount}
+use Rattle.net.specs.Values.{linkCount}
 use Rattle.reach.specs.Values.{tableOf}
 use Rattle.marks.specs.Marks.{marksAt}
 use Rattle.marks.specs.declared.Marks.{Marks}

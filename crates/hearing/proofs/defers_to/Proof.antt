@@ -4,8 +4,6 @@ use lib.Dec.{ltb}
 use borrow.Author.Needs.{needs}
 use Rattle.hearing.proofs.defers_to.Statement.{statement}
 use Rattle.hearing.proofs.defers_to.Tie as tie
-use Rattle.hearing.proofs.defers_to.Reads as reads
-use Rattle.hearing.proofs.defers_to.Lts as lts
 
 -- src/lib.rt:461:9
 returns : tie.Need-returns

@@ -1,16 +1,7 @@
-use mathlib.Core.Path.{_≡_, refl, sym, ap, subst⁻¹, _∙_}
-use native.Mathlib.Omega.{arith}
-use lib.ListN.{length}
-use Rattle.station.proofs.Laid.{Fit}
 use Rattle.hearing.proofs.Replies.{equal-does}
 use borrow.Author.Needs.{needs}
 use Rattle.hearing.proofs.hear_equal.Statement.{statement}
 use Rattle.hearing.proofs.hear_equal.Tie as tie
-use Rattle.hearing.proofs.hear_equal.Reads as reads
-use Rattle.hearing.proofs.hear_equal.Lts as lts
-use Rattle.marks.proofs.marks_at.Reads as marks-at-reads
-use Rattle.marks.proofs.with_marks.Reads as with-marks-reads
-use Rattle.sending.proofs.silence.Reads as silence-reads
 
 -- src/lib.rt:518:9
 marks-at-requires : tie.Need-marks-at-requires

@@ -1,15 +1,10 @@
-use mathlib.Core.Path.{_≡_, refl, sym, ap, subst⁻¹, _∙_}
-use native.Mathlib.Omega.{arith}
+use mathlib.Core.Path.{_≡_, refl}
 use lib.ListN.{length}
 use Rattle.station.proofs.Laid.{Fit}
 use Rattle.hearing.proofs.Replies.{taken-does}
 use borrow.Author.Needs.{needs}
 use Rattle.hearing.proofs.hear_notice.Statement.{statement}
 use Rattle.hearing.proofs.hear_notice.Tie as tie
-use Rattle.hearing.proofs.hear_notice.Reads as reads
-use Rattle.hearing.proofs.hear_notice.Lts as lts
-use Rattle.sending.proofs.one_notice.Reads as one-notice-reads
-use Rattle.sending.proofs.ways_but.Reads as ways-but-reads
 
 size : (c : tie.Start) → length (c .args .st .counters) ≡ 64
 size c = search needs

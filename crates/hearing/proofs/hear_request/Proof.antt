@@ -1,19 +1,9 @@
-use mathlib.Core.Path.{_≡_, refl, sym, ap, subst⁻¹, _∙_}
-use native.Mathlib.Omega.{arith}
+use mathlib.Core.Path.{_≡_, refl, sym, _∙_}
 use lib.ListN.{length}
-use Rattle.station.proofs.Laid.{Fit}
 use Rattle.hearing.proofs.Replies.{request-defers, request-does}
 use borrow.Author.Needs.{needs}
 use Rattle.hearing.proofs.hear_request.Statement.{statement}
 use Rattle.hearing.proofs.hear_request.Tie as tie
-use Rattle.hearing.proofs.hear_request.Reads as reads
-use Rattle.hearing.proofs.hear_request.Lts as lts
-use Rattle.marks.proofs.marks_at.Reads as marks-at-reads
-use Rattle.marks.proofs.put.Reads as put-reads
-use Rattle.marks.proofs.with_marks.Reads as with-marks-reads
-use Rattle.hearing.proofs.defers_to.Reads as defers-to-reads
-use Rattle.sending.proofs.silence.Reads as silence-reads
-use Rattle.hearing.proofs.told_over.Reads as told-over-reads
 
 size : (c : tie.Start) → length (c .args .st .counters) ≡ 64
 size c = search needs

@@ -1,19 +1,11 @@
-use mathlib.Core.Path.{_≡_, refl, sym, ap, subst⁻¹, _∙_}
+use mathlib.Core.Path.{_≡_, refl, sym, _∙_}
 use native.Mathlib.Omega.{arith}
 use lib.ListN.{length}
-use Rattle.station.proofs.Laid.{Fit}
 use borrow.Author.Tests.{not-true, not-false}
 use Rattle.hearing.proofs.Heed.{gone-past, gone-down, gone-quiet, asks, replies, idle-reply, notices}
 use borrow.Author.Needs.{needs}
 use Rattle.hearing.proofs.hearing.Statement.{statement}
 use Rattle.hearing.proofs.hearing.Tie as tie
-use Rattle.hearing.proofs.hearing.Reads as reads
-use Rattle.hearing.proofs.hearing.Lts as lts
-use Rattle.marks.proofs.has.Reads as has-reads
-use Rattle.marks.proofs.at_most_64.Reads as at-most-64-reads
-use Rattle.station.proofs.is_live.Reads as is-live-reads
-use Rattle.hearing.proofs.notice_heard.Reads as notice-heard-reads
-use Rattle.hearing.proofs.reply_heard.Reads as reply-heard-reads
 
 size : (c : tie.Start) → length (c .args .t4 .counters) ≡ 64
 size c = search needs

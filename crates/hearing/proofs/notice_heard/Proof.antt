@@ -6,10 +6,6 @@ use Rattle.hearing.proofs.Answers.{notice-past, notice-by}
 use borrow.Author.Needs.{needs}
 use Rattle.hearing.proofs.notice_heard.Statement.{statement}
 use Rattle.hearing.proofs.notice_heard.Tie as tie
-use Rattle.hearing.proofs.notice_heard.Reads as reads
-use Rattle.hearing.proofs.notice_heard.Lts as lts
-use Rattle.reach.proofs.is_newer.Reads as is-newer-reads
-use Rattle.marks.proofs.at_most_64.Reads as at-most-64-reads
 
 -- src/lib.rt:383:8
 at-most-64-requires : tie.Need-at-most-64-requires

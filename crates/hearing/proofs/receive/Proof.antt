@@ -23,16 +23,6 @@ use Rattle.hearing.proofs.Heed.{drops, dropped, received-past}
 use borrow.Author.Needs.{needs}
 use Rattle.hearing.proofs.receive.Statement.{statement}
 use Rattle.hearing.proofs.receive.Tie as tie
-use Rattle.hearing.proofs.receive.Reads as reads
-use Rattle.hearing.proofs.receive.Lts as lts
-use Rattle.marks.proofs.at_most_64.Reads as at-most-64-reads
-use Rattle.hearing.proofs.hear_equal.Reads as hear-equal-reads
-use Rattle.hearing.proofs.hear_heals.Reads as hear-heals-reads
-use Rattle.hearing.proofs.hear_levels.Reads as hear-levels-reads
-use Rattle.hearing.proofs.hear_notice.Reads as hear-notice-reads
-use Rattle.hearing.proofs.hear_request.Reads as hear-request-reads
-use Rattle.hearing.proofs.hearing.Reads as hearing-reads
-use Rattle.sending.proofs.silence.Reads as silence-reads
 
 fit : (c : tie.Start) → Fit (c .args .st .marks)
 fit c = record { token = search needs; turn = search needs; testing = search needs; asked = search needs; quiet = search needs }

@@ -3,10 +3,6 @@ use Rattle.hearing.proofs.Answers.{reply-high, reply-equal, reply-level
 use borrow.Author.Needs.{needs}
 use Rattle.hearing.proofs.reply_heard.Statement.{statement}
 use Rattle.hearing.proofs.reply_heard.Tie as tie
-use Rattle.hearing.proofs.reply_heard.Reads as reads
-use Rattle.hearing.proofs.reply_heard.Lts as lts
-use Rattle.reach.proofs.heal.Reads as heal-reads
-use Rattle.reach.proofs.is_even.Reads as is-even-reads
 
 -- src/lib.rt:364:9
 heal-requires : tie.Need-heal-requires

@@ -9,11 +9,6 @@ use Rattle.sending.proofs.Ways.{ways-but-is}
 use borrow.Author.Needs.{needs}
 use Rattle.hearing.proofs.told_over.Statement.{statement}
 use Rattle.hearing.proofs.told_over.Tie as tie
-use Rattle.hearing.proofs.told_over.Reads as reads
-use Rattle.hearing.proofs.told_over.Lts as lts
-use Rattle.marks.proofs.put.Reads as put-reads
-use Rattle.reach.proofs.is_even.Reads as is-even-reads
-use Rattle.sending.proofs.known_links.Reads as known-links-reads
 
 -- src/lib.rt:470:8
 is-even-requires : tie.Need-is-even-requires

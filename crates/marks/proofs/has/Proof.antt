@@ -3,8 +3,6 @@ use Rattle.lists.proofs.Words.{beyond, zero-is-out}
 use borrow.Author.Needs.{needs}
 use Rattle.marks.proofs.has.Statement.{statement}
 use Rattle.marks.proofs.has.Tie as tie
-use Rattle.marks.proofs.has.Reads as reads
-use Rattle.marks.proofs.has.Lts as lts
 
 -- src/lib.rt:35:10
 shr-result : tie.Need-shr-result

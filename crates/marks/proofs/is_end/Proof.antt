@@ -1,8 +1,6 @@
 use borrow.Author.Tests.{eq-eqb, ne-eqb}
 use Rattle.marks.proofs.is_end.Statement.{statement}
 use Rattle.marks.proofs.is_end.Tie as tie
-use Rattle.marks.proofs.is_end.Reads as reads
-use Rattle.marks.proofs.is_end.Lts as lts
 
 -- src/lib.rt:94:9
 returns : tie.Need-returns

@@ -1,8 +1,6 @@
 use Rattle.marks.proofs.WordLaws.{join-is}
 use Rattle.marks.proofs.join.Statement.{statement}
 use Rattle.marks.proofs.join.Tie as tie
-use Rattle.marks.proofs.join.Reads as reads
-use Rattle.marks.proofs.join.Lts as lts
 
 -- src/lib.rt:61:1
 returns : tie.Need-returns

@@ -1,9 +1,6 @@
 use borrow.Author.Needs.{needs}
 use Rattle.marks.proofs.marks_at.Statement.{statement}
 use Rattle.marks.proofs.marks_at.Tie as tie
-use Rattle.marks.proofs.marks_at.Reads as reads
-use Rattle.marks.proofs.marks_at.Lts as lts
-use Rattle.marks.proofs.has.Reads as has-reads
 
 -- src/lib.rt:69:16
 has-requires : tie.Need-has-requires

@@ -1,4 +1,4 @@
-use Prim.Native.Nat.{ℕ, _≤_, _<_, _-_, _+_}
+use Prim.Native.Nat.{ℕ, _≤_, _<_, _-_}
 use mathlib.Core.Path.{_≡_, ap, _∙_}
 use native.Mathlib.Omega.{arith}
 use borrow.Author.Needs.{needs}
@@ -8,11 +8,6 @@ use Rattle.marks.specs.Marks.{wordBy, upTo}
 use Rattle.marks.proofs.WordLaws.{upto-none, upto-more, own-read}
 use Rattle.marks.proofs.own_links.Statement.{statement}
 use Rattle.marks.proofs.own_links.Tie as tie
-use Rattle.marks.proofs.own_links.Reads as reads
-use Rattle.marks.proofs.own_links.Lts as lts
-use Rattle.marks.proofs.at_most_64.Reads as at-most-64-reads
-use Rattle.marks.proofs.is_end.Reads as is-end-reads
-use Rattle.marks.proofs.put.Reads as put-reads
 
 abbrev Inv-loop : tie.InvT-loop
 Inv-loop s net m own₀ k₀ own k = (k ≤ m) × (own ≡ wordBy (upTo (λ t. isEnd (networkOf net) t s) k))

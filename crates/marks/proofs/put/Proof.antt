@@ -3,9 +3,6 @@ use Rattle.marks.proofs.WordLaws.{put-beyond, put-already, on-fits, on-
 use borrow.Author.Needs.{needs}
 use Rattle.marks.proofs.put.Statement.{statement}
 use Rattle.marks.proofs.put.Tie as tie
-use Rattle.marks.proofs.put.Reads as reads
-use Rattle.marks.proofs.put.Lts as lts
-use Rattle.marks.proofs.has.Reads as has-reads
 
 -- src/lib.rt:46:9
 returns : tie.Need-returns

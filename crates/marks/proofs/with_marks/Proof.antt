@@ -1,9 +1,6 @@
 use borrow.Author.Needs.{needs}
 use Rattle.marks.proofs.with_marks.Statement.{statement}
 use Rattle.marks.proofs.with_marks.Tie as tie
-use Rattle.marks.proofs.with_marks.Reads as reads
-use Rattle.marks.proofs.with_marks.Lts as lts
-use Rattle.marks.proofs.put.Reads as put-reads
 
 -- src/lib.rt:82:16
 put-requires : tie.Need-put-requires

@@ -1,8 +1,6 @@
 use Rattle.marks.proofs.WordLaws.{without-is}
 use Rattle.marks.proofs.without.Statement.{statement}
 use Rattle.marks.proofs.without.Tie as tie
-use Rattle.marks.proofs.without.Reads as reads
-use Rattle.marks.proofs.without.Lts as lts
 
 -- src/lib.rt:58:1
 returns : tie.Need-returns

@@ -1,4 +1,4 @@
-use Prim.Native.Nat.{ℕ, _+_, _≤_, _-_}
+use Prim.Native.Nat.{ℕ, _≤_, _-_}
 use mathlib.Core.Bool.{true, false}
 use mathlib.Core.Logic.{inl}
 use mathlib.Core.Path.{_≡_, refl, sym, ap, _∙_}
@@ -10,9 +10,6 @@ use Rattle.lists.proofs.Numbers.{all-more, all-fails}
 use Rattle.net.proofs.Sheet.{Before, before-more, placeHolds, place-seen, holds-places, few-stations, many-stations, many-links}
 use Rattle.net.proofs.keeps_sheet_rules.Statement.{statement}
 use Rattle.net.proofs.keeps_sheet_rules.Tie as tie
-use Rattle.net.proofs.keeps_sheet_rules.Reads as reads
-use Rattle.net.proofs.keeps_sheet_rules.Lts as lts
-use Rattle.net.proofs.place_holds.Reads as place-holds-reads
 
 abbrev Inv-loop : tie.InvT-loop
 Inv-loop net n m a₀ b₀ k₀ a b k = (k ≤ 64) × (every (placeHolds net) (below k) ≡ true) × Before net a b k

@@ -1,8 +1,6 @@
 use Rattle.net.proofs.Sheet.{follows-ends, follows-range, follows-first, follows-above, follows-same, follows-below}
 use Rattle.net.proofs.link_follows.Statement.{statement}
 use Rattle.net.proofs.link_follows.Tie as tie
-use Rattle.net.proofs.link_follows.Reads as reads
-use Rattle.net.proofs.link_follows.Lts as lts
 
 -- src/lib.rt:257:9
 returns : tie.Need-returns

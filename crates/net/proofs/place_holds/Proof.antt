@@ -2,9 +2,6 @@ use Rattle.net.proofs.Sheet.{place-used, place-zero, place-not}
 use borrow.Author.Needs.{needs}
 use Rattle.net.proofs.place_holds.Statement.{statement}
 use Rattle.net.proofs.place_holds.Tie as tie
-use Rattle.net.proofs.place_holds.Reads as reads
-use Rattle.net.proofs.place_holds.Lts as lts
-use Rattle.net.proofs.link_follows.Reads as link-follows-reads
 
 -- src/lib.rt:41:9
 link-follows-requires : tie.Need-link-follows-requires

@@ -3,8 +3,6 @@ use Rattle.lists.proofs.Words.{beyond}
 use borrow.Author.Needs.{needs}
 use Rattle.reach.proofs.bit_of.Statement.{statement}
 use Rattle.reach.proofs.bit_of.Tie as tie
-use Rattle.reach.proofs.bit_of.Reads as reads
-use Rattle.reach.proofs.bit_of.Lts as lts
 
 -- src/lib.rt:91:10
 shr-result : tie.Need-shr-result

@@ -4,8 +4,6 @@ use Rattle.lists.proofs.Counts.{ones-bits}
 use Rattle.reach.specs.Values.{onesOf}
 use Rattle.reach.proofs.count_ones.Statement.{statement}
 use Rattle.reach.proofs.count_ones.Tie as tie
-use Rattle.reach.proofs.count_ones.Reads as reads
-use Rattle.reach.proofs.count_ones.Lts as lts
 
 -- src/lib.rt:172:5
 cast-result : tie.Need-cast-result

@@ -4,10 +4,6 @@ use native.Mathlib.Omega.{arith}
 use borrow.Author.Needs.{needs}
 use Rattle.reach.proofs.grown.Statement.{statement}
 use Rattle.reach.proofs.grown.Tie as tie
-use Rattle.reach.proofs.grown.Reads as reads
-use Rattle.reach.proofs.grown.Lts as lts
-use Rattle.reach.proofs.bit_of.Reads as bit-of-reads
-use Rattle.reach.proofs.with_bit.Reads as with-bit-reads
 
 -- src/lib.rt:126:8
 bit-of-requires : tie.Need-bit-of-requires

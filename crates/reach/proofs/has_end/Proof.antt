@@ -5,9 +5,6 @@ use Rattle.reach.proofs.Tables.{end-first, end-second}
 use borrow.Author.Needs.{needs}
 use Rattle.reach.proofs.has_end.Statement.{statement}
 use Rattle.reach.proofs.has_end.Tie as tie
-use Rattle.reach.proofs.has_end.Reads as reads
-use Rattle.reach.proofs.has_end.Lts as lts
-use Rattle.reach.proofs.bit_of.Reads as bit-of-reads
 
 -- src/lib.rt:200:8
 bit-of-requires : tie.Need-bit-of-requires

@@ -5,9 +5,6 @@ use Rattle.reach.proofs.CounterLaws.{healed-even, healed-odd, healing-f
 use borrow.Author.Needs.{needs}
 use Rattle.reach.proofs.heal.Statement.{statement}
 use Rattle.reach.proofs.heal.Tie as tie
-use Rattle.reach.proofs.heal.Reads as reads
-use Rattle.reach.proofs.heal.Lts as lts
-use Rattle.reach.proofs.larger_of.Reads as larger-of-reads
 
 -- src/lib.rt:61:9
 larger-of-requires : tie.Need-larger-of-requires

@@ -7,10 +7,6 @@ use Rattle.reach.proofs.Search.{crosses-odd, crosses-low, crosses-high,
 use borrow.Author.Needs.{needs}
 use Rattle.reach.proofs.joins.Statement.{statement}
 use Rattle.reach.proofs.joins.Tie as tie
-use Rattle.reach.proofs.joins.Reads as reads
-use Rattle.reach.proofs.joins.Lts as lts
-use Rattle.reach.proofs.bit_of.Reads as bit-of-reads
-use Rattle.reach.proofs.is_even.Reads as is-even-reads
 
 -- src/lib.rt:109:9
 is-even-requires : tie.Need-is-even-requires

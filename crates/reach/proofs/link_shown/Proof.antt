@@ -3,10 +3,6 @@ use Rattle.reach.proofs.Tables.{shown-even, shown-odd, shown-none}
 use borrow.Author.Needs.{needs}
 use Rattle.reach.proofs.link_shown.Statement.{statement}
 use Rattle.reach.proofs.link_shown.Tie as tie
-use Rattle.reach.proofs.link_shown.Reads as reads
-use Rattle.reach.proofs.link_shown.Lts as lts
-use Rattle.reach.proofs.has_end.Reads as has-end-reads
-use Rattle.reach.proofs.is_even.Reads as is-even-reads
 
 -- src/lib.rt:231:8
 has-end-requires : tie.Need-has-end-requires

@@ -4,9 +4,6 @@ use Rattle.reach.proofs.Word.{lowest-run, lowest-none}
 use borrow.Author.Needs.{needs}
 use Rattle.reach.proofs.lowest_missing.Statement.{statement}
 use Rattle.reach.proofs.lowest_missing.Tie as tie
-use Rattle.reach.proofs.lowest_missing.Reads as reads
-use Rattle.reach.proofs.lowest_missing.Lts as lts
-use Rattle.reach.proofs.at_most.Reads as at-most-reads
 
 -- src/lib.rt:179:9
 at-most-requires : tie.Need-at-most-requires

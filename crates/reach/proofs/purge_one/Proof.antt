@@ -3,9 +3,6 @@ use Rattle.reach.proofs.Tables.{if-yes, if-no}
 use borrow.Author.Needs.{needs}
 use Rattle.reach.proofs.purge_one.Statement.{statement}
 use Rattle.reach.proofs.purge_one.Tie as tie
-use Rattle.reach.proofs.purge_one.Reads as reads
-use Rattle.reach.proofs.purge_one.Lts as lts
-use Rattle.reach.proofs.has_end.Reads as has-end-reads
 
 -- src/lib.rt:210:8
 has-end-requires : tie.Need-has-end-requires

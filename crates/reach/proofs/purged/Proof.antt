@@ -1,9 +1,8 @@
 use mathlib.Core.List.{List}
-use mathlib.Core.Path.{ap₂}
+use mathlib.Core.Path.{ap₂, _≡_, refl, ap, _∙_}
 use lib.ListN.{set}
 use Rattle.net.specs.Values.{linkCount}
-use Prim.Native.Nat.{ℕ, _+_, _≤_, _-_}
-use mathlib.Core.Path.{_≡_, refl, sym, ap, _∙_}
+use Prim.Native.Nat.{ℕ, _≤_, _-_}
 use native.Mathlib.Omega.{arith}
 use borrow.Author.Needs.{needs}
 use Rattle.lists.specs.Lists.{filled}
@@ -11,11 +10,6 @@ use Rattle.lists.proofs.Fill.{filled-more}
 use Rattle.reach.proofs.Tables.{purgedAt, purge-filled}
 use Rattle.reach.proofs.purged.Statement.{statement}
 use Rattle.reach.proofs.purged.Tie as tie
-use Rattle.reach.proofs.purged.Reads as reads
-use Rattle.reach.proofs.purged.Lts as lts
-use Rattle.reach.proofs.at_most.Reads as at-most-reads
-use Rattle.reach.proofs.purge_one.Reads as purge-one-reads
-use Rattle.reach.proofs.reach_word.Reads as reach-word-reads
 
 abbrev Inv-loop : tie.InvT-loop
 Inv-loop s net counters m w next₀ k₀ next k = (next ≡ filled (purgedAt net counters w) counters k) × (k ≤ m)

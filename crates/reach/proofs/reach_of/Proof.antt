@@ -2,11 +2,6 @@ use Rattle.reach.proofs.Word.{reached-is}
 use borrow.Author.Needs.{needs}
 use Rattle.reach.proofs.reach_of.Statement.{statement}
 use Rattle.reach.proofs.reach_of.Tie as tie
-use Rattle.reach.proofs.reach_of.Reads as reads
-use Rattle.reach.proofs.reach_of.Lts as lts
-use Rattle.reach.proofs.count_ones.Reads as count-ones-reads
-use Rattle.reach.proofs.lowest_missing.Reads as lowest-missing-reads
-use Rattle.reach.proofs.reach_word.Reads as reach-word-reads
 
 -- src/lib.rt:188:9
 reach-word-requires : tie.Need-reach-word-requires

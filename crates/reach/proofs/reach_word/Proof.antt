@@ -1,21 +1,15 @@
 use mathlib.Core.Bool.{true, false}
-use Prim.Native.Nat.{ℕ, _+_, _≤_, _<_, _-_, _^_}
+use Prim.Native.Nat.{ℕ, _-_, _^_}
 use mathlib.Core.Path.{_≡_}
 use native.Mathlib.Omega.{arith}
 use borrow.Author.Needs.{needs}
 use borrow.Author.Count.{below-more}
-use lib.ListN.{length, getD}
+use lib.ListN.{getD}
 use lib.Pow.{pow-pos}
 use Rattle.lists.proofs.Words.{none-in}
 use Rattle.reach.proofs.Search.{Growing, Searching, test, test-seen, start, turn, done, nobody, crosses-true}
 use Rattle.reach.proofs.reach_word.Statement.{statement}
 use Rattle.reach.proofs.reach_word.Tie as tie
-use Rattle.reach.proofs.reach_word.Reads as reads
-use Rattle.reach.proofs.reach_word.Lts as lts
-use Rattle.reach.proofs.at_most.Reads as at-most-reads
-use Rattle.reach.proofs.grown.Reads as grown-reads
-use Rattle.reach.proofs.joins.Reads as joins-reads
-use Rattle.reach.proofs.with_bit.Reads as with-bit-reads
 
 abbrev Inv-search : tie.InvT-search
 Inv-search s net counters n m from w k₀ k = Searching net counters w k

@@ -4,9 +4,6 @@ use Rattle.reach.proofs.CounterLaws.{even-is, odd-is, timed-even, timed
 use borrow.Author.Needs.{needs}
 use Rattle.reach.proofs.timed_out.Statement.{statement}
 use Rattle.reach.proofs.timed_out.Tie as tie
-use Rattle.reach.proofs.timed_out.Reads as reads
-use Rattle.reach.proofs.timed_out.Lts as lts
-use Rattle.reach.proofs.is_even.Reads as is-even-reads
 
 -- src/lib.rt:39:8
 is-even-requires : tie.Need-is-even-requires

@@ -4,8 +4,6 @@ use Rattle.lists.proofs.Words.{put-fits}
 use borrow.Author.Needs.{needs}
 use Rattle.reach.proofs.with_bit.Statement.{statement}
 use Rattle.reach.proofs.with_bit.Tie as tie
-use Rattle.reach.proofs.with_bit.Reads as reads
-use Rattle.reach.proofs.with_bit.Lts as lts
 
 -- src/lib.rt:102:10
 shl-result : tie.Need-shl-result

@@ -1,13 +1,8 @@
-use Prim.Native.Nat.{_≤_, _-_, _+_, _*_}
-use mathlib.Core.Path.{_≡_}
+use Prim.Native.Nat.{_≤_, _-_}
 use native.Mathlib.Omega.{arith}
 use borrow.Author.Needs.{needs}
-use lib.ListN.{length}
 use Rattle.reach_cases.proofs.counters_of.Statement.{statement}
 use Rattle.reach_cases.proofs.counters_of.Tie as tie
-use Rattle.reach_cases.proofs.counters_of.Reads as reads
-use Rattle.reach_cases.proofs.counters_of.Lts as lts
-use Rattle.reach_cases.proofs.wide.Reads as wide-reads
 
 abbrev Inv-loop : tie.InvT-loop
 Inv-loop case counters₀ i₀ counters i = i ≤ 64

@@ -1,12 +1,8 @@
-use Prim.Native.Nat.{_≤_, _-_, _+_, _*_}
-use mathlib.Core.Path.{_≡_}
+use Prim.Native.Nat.{_≤_, _-_}
 use native.Mathlib.Omega.{arith}
 use borrow.Author.Needs.{needs}
-use lib.ListN.{length}
 use Rattle.reach_cases.proofs.net_of.Statement.{statement}
 use Rattle.reach_cases.proofs.net_of.Tie as tie
-use Rattle.reach_cases.proofs.net_of.Reads as reads
-use Rattle.reach_cases.proofs.net_of.Lts as lts
 
 abbrev Inv-loop : tie.InvT-loop
 Inv-loop case low₀ high₀ i₀ low high i = i ≤ 64

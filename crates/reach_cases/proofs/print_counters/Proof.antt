@@ -1,13 +1,8 @@
-use Prim.Native.Nat.{_≤_, _-_, _+_, _*_}
-use mathlib.Core.Path.{_≡_}
+use Prim.Native.Nat.{_≤_, _-_}
 use native.Mathlib.Omega.{arith}
 use borrow.Author.Needs.{needs}
-use lib.ListN.{length}
 use Rattle.reach_cases.proofs.print_counters.Statement.{statement}
 use Rattle.reach_cases.proofs.print_counters.Tie as tie
-use Rattle.reach_cases.proofs.print_counters.Reads as reads
-use Rattle.reach_cases.proofs.print_counters.Lts as lts
-use Rattle.reach_cases.proofs.print_counter.Reads as print-counter-reads
 
 abbrev Inv-loop : tie.InvT-loop
 Inv-loop links counters k₀ k = k ≤ links

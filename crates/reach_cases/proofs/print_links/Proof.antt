@@ -1,14 +1,8 @@
-use Prim.Native.Nat.{_≤_, _-_, _+_, _*_}
-use mathlib.Core.Path.{_≡_}
+use Prim.Native.Nat.{_≤_, _-_}
 use native.Mathlib.Omega.{arith}
 use borrow.Author.Needs.{needs}
-use lib.ListN.{length}
 use Rattle.reach_cases.proofs.print_links.Statement.{statement}
 use Rattle.reach_cases.proofs.print_links.Tie as tie
-use Rattle.reach_cases.proofs.print_links.Reads as reads
-use Rattle.reach_cases.proofs.print_links.Lts as lts
-use Rattle.reach.proofs.link_shown.Reads as link-shown-reads
-use Rattle.reach_cases.proofs.print.Reads as print-reads
 
 abbrev Inv-loop : tie.InvT-loop
 Inv-loop word links net counters k₀ k = k ≤ links

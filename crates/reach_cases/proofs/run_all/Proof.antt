@@ -1,13 +1,9 @@
-use Prim.Native.Nat.{_≤_, _-_, _+_, _*_}
-use mathlib.Core.Path.{_≡_}
+use Prim.Native.Nat.{_≤_, _+_, _*_}
 use native.Mathlib.Omega.{arith}
 use borrow.Author.Needs.{needs}
 use lib.ListN.{length}
 use Rattle.reach_cases.proofs.run_all.Statement.{statement}
 use Rattle.reach_cases.proofs.run_all.Tie as tie
-use Rattle.reach_cases.proofs.run_all.Reads as reads
-use Rattle.reach_cases.proofs.run_all.Lts as lts
-use Rattle.reach_cases.proofs.run.Reads as run-reads
 
 abbrev Inv-loop : tie.InvT-loop
 Inv-loop cases left₀ at₀ left at = at + left * 259 ≤ length cases

@@ -1,19 +1,13 @@
-use Prim.Native.Nat.{min}
-use Prim.Native.Nat.{ℕ, _≤_, _<_, _-_, _+_}
+use Prim.Native.Nat.{min, ℕ, _≤_, _-_}
 use mathlib.Core.Path.{_≡_, refl, ap, _∙_}
 use native.Mathlib.Omega.{arith}
 use borrow.Author.Needs.{needs}
 use lib.Dec.{ltb}
 use lib.ListN.{getD}
-use Rattle.marks.specs.Marks.{wordBy}
+use Rattle.marks.specs.Marks.{wordBy, upTo}
 use Rattle.marks.proofs.WordLaws.{upto-none, upto-more}
-use Rattle.marks.specs.Marks.{upTo}
 use Rattle.sending.proofs.known_links.Statement.{statement}
 use Rattle.sending.proofs.known_links.Tie as tie
-use Rattle.sending.proofs.known_links.Reads as reads
-use Rattle.sending.proofs.known_links.Lts as lts
-use Rattle.marks.proofs.put.Reads as put-reads
-use Rattle.marks.proofs.at_most_64.Reads as at-most-64-reads
 
 abbrev Inv-loop : tie.InvT-loop
 Inv-loop links counters m known₀ k₀ known k = (k ≤ m) × (known ≡ wordBy (upTo (λ j. ltb 1 (getD counters j 0)) k))

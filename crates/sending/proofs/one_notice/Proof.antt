@@ -2,9 +2,6 @@ use mathlib.Core.Bool.{false}
 use borrow.Author.Needs.{needs}
 use Rattle.sending.proofs.one_notice.Statement.{statement}
 use Rattle.sending.proofs.one_notice.Tie as tie
-use Rattle.sending.proofs.one_notice.Reads as reads
-use Rattle.sending.proofs.one_notice.Lts as lts
-use Rattle.marks.proofs.put.Reads as put-reads
 
 -- src/lib.rt:130:9
 put-requires : tie.Need-put-requires

@@ -2,10 +2,6 @@ use Rattle.sending.proofs.Ways.{open-ways-is}
 use borrow.Author.Needs.{needs}
 use Rattle.sending.proofs.open_ways.Statement.{statement}
 use Rattle.sending.proofs.open_ways.Tie as tie
-use Rattle.sending.proofs.open_ways.Reads as reads
-use Rattle.sending.proofs.open_ways.Lts as lts
-use Rattle.marks.proofs.own_links.Reads as own-links-reads
-use Rattle.marks.proofs.without.Reads as without-reads
 
 -- src/lib.rt:138:20
 own-links-requires : tie.Need-own-links-requires

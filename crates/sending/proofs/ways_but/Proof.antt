@@ -4,10 +4,6 @@ use Rattle.sending.proofs.Ways.{ways-but-is}
 use borrow.Author.Needs.{needs}
 use Rattle.sending.proofs.ways_but.Statement.{statement}
 use Rattle.sending.proofs.ways_but.Tie as tie
-use Rattle.sending.proofs.ways_but.Reads as reads
-use Rattle.sending.proofs.ways_but.Lts as lts
-use Rattle.marks.proofs.put.Reads as put-reads
-use Rattle.sending.proofs.open_ways.Reads as open-ways-reads
 
 -- src/lib.rt:145:16
 open-ways-requires : tie.Need-open-ways-requires

@@ -6,13 +6,6 @@ use Rattle.station.proofs.Allowed.{allowed-at, allowed-else}
 use borrow.Author.Needs.{needs}
 use Rattle.station.proofs.allows.Statement.{statement}
 use Rattle.station.proofs.allows.Tie as tie
-use Rattle.station.proofs.allows.Reads as reads
-use Rattle.station.proofs.allows.Lts as lts
-use Rattle.station.proofs.is_down.Reads as is-down-reads
-use Rattle.station.proofs.is_live.Reads as is-live-reads
-use Rattle.station.proofs.is_waiting.Reads as is-waiting-reads
-use Rattle.station.proofs.marks_there.Reads as marks-there-reads
-use Rattle.station.proofs.may_end.Reads as may-end-reads
 
 -- src/lib.rt:338:9
 marks-there-requires : tie.Need-marks-there-requires

@@ -8,15 +8,6 @@ use Rattle.station.proofs.Acting.{interval-past, interval-there}
 use borrow.Author.Needs.{needs}
 use Rattle.station.proofs.end_interval.Statement.{statement}
 use Rattle.station.proofs.end_interval.Tie as tie
-use Rattle.station.proofs.end_interval.Reads as reads
-use Rattle.station.proofs.end_interval.Lts as lts
-use Rattle.marks.proofs.marks_at.Reads as marks-at-reads
-use Rattle.marks.proofs.put.Reads as put-reads
-use Rattle.marks.proofs.with_marks.Reads as with-marks-reads
-use Rattle.marks.proofs.at_most_64.Reads as at-most-64-reads
-use Rattle.station.proofs.interval_marks.Reads as interval-marks-reads
-use Rattle.sending.proofs.silence.Reads as silence-reads
-use Rattle.station.proofs.tests_now.Reads as tests-now-reads
 
 -- src/lib.rt:182:8
 at-most-64-requires : tie.Need-at-most-64-requires

@@ -3,11 +3,6 @@ use Rattle.station.proofs.Acting.{spoken-past, spoken-there}
 use borrow.Author.Needs.{needs}
 use Rattle.station.proofs.end_quiet.Statement.{statement}
 use Rattle.station.proofs.end_quiet.Tie as tie
-use Rattle.station.proofs.end_quiet.Reads as reads
-use Rattle.station.proofs.end_quiet.Lts as lts
-use Rattle.marks.proofs.marks_at.Reads as marks-at-reads
-use Rattle.marks.proofs.with_marks.Reads as with-marks-reads
-use Rattle.marks.proofs.at_most_64.Reads as at-most-64-reads
 
 -- src/lib.rt:223:8
 at-most-64-requires : tie.Need-at-most-64-requires

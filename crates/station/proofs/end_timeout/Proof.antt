@@ -1,7 +1,6 @@
-use mathlib.Core.Path.{_≡_}
+use mathlib.Core.Path.{_≡_, refl, sym, subst⁻¹, _∙_}
 use lib.ListN.{length}
 use Rattle.station.proofs.Laid.{Fit}
-use mathlib.Core.Path.{refl, sym, subst⁻¹, _∙_}
 use native.Mathlib.Omega.{arith}
 use borrow.Author.Tests.{not-true, not-false}
 use Rattle.net.specs.Values.{networkOf}
@@ -12,18 +11,6 @@ use Rattle.station.proofs.Acting.{timeout-past, timeout-odd, timeout-ev
 use borrow.Author.Needs.{needs}
 use Rattle.station.proofs.end_timeout.Statement.{statement}
 use Rattle.station.proofs.end_timeout.Tie as tie
-use Rattle.station.proofs.end_timeout.Reads as reads
-use Rattle.station.proofs.end_timeout.Lts as lts
-use Rattle.marks.proofs.marks_at.Reads as marks-at-reads
-use Rattle.marks.proofs.with_marks.Reads as with-marks-reads
-use Rattle.reach.proofs.is_even.Reads as is-even-reads
-use Rattle.reach.proofs.purged.Reads as purged-reads
-use Rattle.reach.proofs.timed_out.Reads as timed-out-reads
-use Rattle.marks.proofs.at_most_64.Reads as at-most-64-reads
-use Rattle.sending.proofs.one_notice.Reads as one-notice-reads
-use Rattle.sending.proofs.silence.Reads as silence-reads
-use Rattle.station.proofs.test_ended.Reads as test-ended-reads
-use Rattle.sending.proofs.ways_but.Reads as ways-but-reads
 
 size : (c : tie.Start) → length (c .args .st .counters) ≡ 64
 size c = search needs

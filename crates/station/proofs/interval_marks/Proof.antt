@@ -1,8 +1,6 @@
 use Rattle.station.proofs.MarkLaws.{interval-turn, interval-neither}
 use Rattle.station.proofs.interval_marks.Statement.{statement}
 use Rattle.station.proofs.interval_marks.Tie as tie
-use Rattle.station.proofs.interval_marks.Reads as reads
-use Rattle.station.proofs.interval_marks.Lts as lts
 
 -- src/lib.rt:74:9
 returns : tie.Need-returns

@@ -9,10 +9,6 @@ use Rattle.reach.proofs.Tables.{if-yes, if-no}
 use borrow.Author.Needs.{needs}
 use Rattle.station.proofs.marks_there.Statement.{statement}
 use Rattle.station.proofs.marks_there.Tie as tie
-use Rattle.station.proofs.marks_there.Reads as reads
-use Rattle.station.proofs.marks_there.Lts as lts
-use Rattle.marks.proofs.marks_at.Reads as marks-at-reads
-use Rattle.marks.proofs.at_most_64.Reads as at-most-64-reads
 
 -- src/lib.rt:106:8
 at-most-64-requires : tie.Need-at-most-64-requires

@@ -2,8 +2,6 @@ use borrow.Author.Tests.{not-true, not-false}
 use Rattle.station.proofs.Allowed.{end-down, end-testing, end-quiet}
 use Rattle.station.proofs.may_end.Statement.{statement}
 use Rattle.station.proofs.may_end.Tie as tie
-use Rattle.station.proofs.may_end.Reads as reads
-use Rattle.station.proofs.may_end.Lts as lts
 
 -- src/lib.rt:326:9
 returns : tie.Need-returns

@@ -3,11 +3,6 @@ use Rattle.station.proofs.Recovery.{recover-does}
 use borrow.Author.Needs.{needs}
 use Rattle.station.proofs.recover.Statement.{statement}
 use Rattle.station.proofs.recover.Tie as tie
-use Rattle.station.proofs.recover.Reads as reads
-use Rattle.station.proofs.recover.Lts as lts
-use Rattle.marks.proofs.own_links.Reads as own-links-reads
-use Rattle.station.proofs.recovered_words.Reads as recovered-words-reads
-use Rattle.station.proofs.tests_on.Reads as tests-on-reads
 
 fit : (c : tie.Start) → Fit (c .args .st .marks)
 fit c = record { token = search needs; turn = search needs; testing = search needs; asked = search needs; quiet = search needs }

@@ -2,11 +2,6 @@ use Rattle.station.proofs.Recovery.{words-are}
 use borrow.Author.Needs.{needs}
 use Rattle.station.proofs.recovered_words.Statement.{statement}
 use Rattle.station.proofs.recovered_words.Tie as tie
-use Rattle.station.proofs.recovered_words.Reads as reads
-use Rattle.station.proofs.recovered_words.Lts as lts
-use Rattle.marks.proofs.join.Reads as join-reads
-use Rattle.marks.proofs.without.Reads as without-reads
-use Rattle.station.proofs.tests_on.Reads as tests-on-reads
 
 -- src/lib.rt:261:9
 without-requires : tie.Need-without-requires

@@ -2,9 +2,6 @@ use Rattle.station.proofs.Started.{start-is}
 use borrow.Author.Needs.{needs}
 use Rattle.station.proofs.start.Statement.{statement}
 use Rattle.station.proofs.start.Tie as tie
-use Rattle.station.proofs.start.Reads as reads
-use Rattle.station.proofs.start.Lts as lts
-use Rattle.marks.proofs.own_links.Reads as own-links-reads
 
 -- src/lib.rt:168:9
 own-links-requires : tie.Need-own-links-requires

@@ -1,20 +1,15 @@
-use lib.ListN.{length}
-use Prim.Native.Nat.{ℕ, _≤_, _-_, _+_}
+use lib.ListN.{length, set}
+use Prim.Native.Nat.{ℕ, _≤_, _-_}
 use mathlib.Core.List.{List}
-use mathlib.Core.Path.{_≡_, refl, sym, ap, ap₂, _∙_}
+use mathlib.Core.Path.{_≡_, refl, ap, ap₂, _∙_}
 use native.Mathlib.Omega.{arith}
 use borrow.Author.Needs.{needs}
-use lib.ListN.{set, replicate}
 use Rattle.lists.specs.Lists.{filled}
 use Rattle.lists.proofs.Fill.{filled-more}
 use Rattle.net.specs.Values.{linkCount}
 use Rattle.station.proofs.Recovery.{stop-is}
 use Rattle.station.proofs.stop.Statement.{statement}
 use Rattle.station.proofs.stop.Tie as tie
-use Rattle.station.proofs.stop.Reads as reads
-use Rattle.station.proofs.stop.Lts as lts
-use Rattle.marks.proofs.at_most_64.Reads as at-most-64-reads
-use Rattle.station.proofs.no_counters.Reads as no-counters-reads
 
 abbrev Inv-loop : tie.InvT-loop
 Inv-loop m counters₀ k₀ counters k = (counters ≡ filled (λ j. 1) counters₀ k) × (k ≤ m)

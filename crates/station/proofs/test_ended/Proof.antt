@@ -1,7 +1,5 @@
 use Rattle.station.proofs.test_ended.Statement.{statement}
 use Rattle.station.proofs.test_ended.Tie as tie
-use Rattle.station.proofs.test_ended.Reads as reads
-use Rattle.station.proofs.test_ended.Lts as lts
 
 -- src/lib.rt:86:9
 returns : tie.Need-returns

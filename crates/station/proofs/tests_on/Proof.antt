@@ -2,9 +2,6 @@ use Rattle.station.proofs.Recovery.{tests-are}
 use borrow.Author.Needs.{needs}
 use Rattle.station.proofs.tests_on.Statement.{statement}
 use Rattle.station.proofs.tests_on.Tie as tie
-use Rattle.station.proofs.tests_on.Reads as reads
-use Rattle.station.proofs.tests_on.Lts as lts
-use Rattle.marks.proofs.without.Reads as without-reads
 
 -- src/lib.rt:271:34
 without-requires : tie.Need-without-requires
