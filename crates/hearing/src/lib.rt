@@ -7,12 +7,13 @@ ghost use lib.ListN.{getD};
 ghost use Rattle.lists.specs.Lists.{if_then_else_};
 ghost use Rattle.net.specs.Values.{networkOf, linkCount};
 ghost use Rattle.reach.specs.Counters.{odd};
-ghost use Rattle.marks.specs.Marks.{wordBy, upTo, marksAt};
+ghost use Rattle.marks.specs.Marks.{wordBy, upTo, marksAt, wordsWith};
 ghost use Rattle.station.specs.Holding.{marked};
 ghost use Rattle.station.specs.Acts.{unchanged, repliedMarks, onRequest, received, answer, replyAnswer};
 ghost use Rattle.station.specs.Values.{holdingOf, Acts};
 ghost use Rattle.hearing.specs.Heard.{heals, levels, taken, noticeAnswer, heardNumbers};
 use marks::Marks;
+use marks::Words;
 use net::Body;
 use net::Letter;
 use net::Net;
@@ -183,13 +184,11 @@ fn told_over(links: u8, counters: Counters, k: u8, c: u16) -> u64
     marks::put(sending::known_links(links, counters), k, false)
 }
 
-// A reply that heals: everything that is known is told, and what is out of reach then is purged.
-fn hear_heals(net: Net, me: u8, k: u8, to: u16, st: Station) -> Acted
-    requires { ⌜ k < linkCount net ⌝ }
-    ensures { λ r. ⌜ Acts net me st (heals (networkOf net) me k to (holdingOf net st)) r ⌝ }
+// The marks after a reply to a test on link k: testing and asked off.
+fn replied_words(w: Words, k: u8) -> Words
+    ensures { λ r. ⌜ r ≡ wordsWith w k (repliedMarks (marksAt w k)) ⌝ }
 {
-    let i = k as usize;
-    let m = marks::marks_at(st.marks, k);
+    let m = marks::marks_at(w, k);
     let ended = Marks {
         token: m.token,
         turn: m.turn,
@@ -197,7 +196,16 @@ fn hear_heals(net: Net, me: u8, k: u8, to: u16, st: Station) -> Acted
         asked: false,
         quiet: m.quiet,
     };
-    let words = marks::with_marks(st.marks, k, ended);
+    marks::with_marks(w, k, ended)
+}
+
+// A reply that heals: everything that is known is told, and what is out of reach then is purged.
+fn hear_heals(net: Net, me: u8, k: u8, to: u16, st: Station) -> Acted
+    requires { ⌜ k < linkCount net ⌝ }
+    ensures { λ r. ⌜ Acts net me st (heals (networkOf net) me k to (holdingOf net st)) r ⌝ }
+{
+    let i = k as usize;
+    let words = replied_words(st.marks, k);
     let mut counters = st.counters;
     counters[i] = to;
     let subjects = sending::known_links(net.links, counters);
@@ -228,15 +236,7 @@ fn hear_levels(net: Net, me: u8, k: u8, to: u16, st: Station) -> Acted
     ensures { λ r. ⌜ Acts net me st (levels (networkOf net) me k to (holdingOf net st)) r ⌝ }
 {
     let i = k as usize;
-    let m = marks::marks_at(st.marks, k);
-    let ended = Marks {
-        token: m.token,
-        turn: m.turn,
-        testing: false,
-        asked: false,
-        quiet: m.quiet,
-    };
-    let words = marks::with_marks(st.marks, k, ended);
+    let words = replied_words(st.marks, k);
     let mut counters = st.counters;
     counters[i] = to;
     let ways = sending::open_ways(net, me, st.marks.quiet);
@@ -256,15 +256,7 @@ fn hear_equal(net: Net, me: u8, k: u8, st: Station) -> Acted
     requires { ⌜ k < linkCount net ⌝ }
     ensures { λ r. ⌜ Acts net me st (unchanged (marked k (repliedMarks (marksAt (st .marks) k)) (holdingOf net st))) r ⌝ }
 {
-    let m = marks::marks_at(st.marks, k);
-    let ended = Marks {
-        token: m.token,
-        turn: m.turn,
-        testing: false,
-        asked: false,
-        quiet: m.quiet,
-    };
-    let words = marks::with_marks(st.marks, k, ended);
+    let words = replied_words(st.marks, k);
     let counters = st.counters;
     let condition = st.condition;
     Acted {

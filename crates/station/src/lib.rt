@@ -171,7 +171,8 @@ pub fn end_interval(net: Net, me: u8, k: u8, st: Station) -> Acted
 pub fn end_timeout(net: Net, me: u8, k: u8, st: Station) -> Acted
     ensures { λ r. ⌜ Acts net me st (timeout (networkOf net) me k (holdingOf net st)) r ⌝ }
 {
-    let mut counters = st.counters;
+    let before = st.counters;
+    let mut counters = before;
     if marks::at_most_64(net.links) <= k {
         return Acted {
             station: st,

@@ -5,11 +5,9 @@ use borrow.Author.Needs.{needs}
 use Rattle.hearing.proofs.defers_to.Statement.{statement}
 use Rattle.hearing.proofs.defers_to.Tie as tie
 
--- src/lib.rt:461:9
 returns : tie.Need-returns
 returns c = ap (λ (b : Bool). b && ltb (c .before .args .sender) (c .before .args .me)) (sym (c .if1 .taken))
 
--- src/lib.rt:457:1
 returns-2 : tie.Need-returns-2
 returns-2 c = search needs
 

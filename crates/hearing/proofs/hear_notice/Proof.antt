@@ -12,23 +12,18 @@ size c = search needs
 fit : (c : tie.Start) → Fit (c .args .st .marks)
 fit c = record { token = search needs; turn = search needs; testing = search needs; asked = search needs; quiet = search needs }
 
--- src/lib.rt:533:5
 mul-counters : tie.Need-mul-counters
 mul-counters c = search needs
 
--- src/lib.rt:533:5
 array-write-counters : tie.Need-array-write-counters
 array-write-counters c = search needs
 
--- src/lib.rt:534:9
 ways-but-requires : tie.Need-ways-but-requires
 ways-but-requires c κs = search needs
 
--- src/lib.rt:537:75
 one-notice-requires : tie.Need-one-notice-requires
 one-notice-requires c κs = search needs
 
--- src/lib.rt:527:1
 returns : tie.Need-returns
 returns c =
     let a = c .before .before .before .before .args in

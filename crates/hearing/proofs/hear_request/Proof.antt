@@ -8,50 +8,39 @@ use Rattle.hearing.proofs.hear_request.Tie as tie
 size : (c : tie.Start) → length (c .args .st .counters) ≡ 64
 size c = search needs
 
--- src/lib.rt:438:9
 marks-at-requires : tie.Need-marks-at-requires
 marks-at-requires c κs = search needs
 
--- src/lib.rt:441:8
 defers-to-requires : tie.Need-defers-to-requires
 defers-to-requires c κs = search needs
 
--- src/lib.rt:443:13
 with-marks-requires : tie.Need-with-marks-requires
 with-marks-requires c κs = search needs
 
--- src/lib.rt:444:86
 silence-requires : tie.Need-silence-requires
 silence-requires c κs = search needs
 
--- src/lib.rt:444:9
 returns : tie.Need-returns
 returns c =
     let a = c .before .before .before .before .before .before .args in
     request-defers (a .net) (a .me) (a .st) (a .k) (a .sender) _ _ _ _ (c .before .before .before .before .before .before .pre) (c .before .before .before .before .before .marks-at .ensures) (sym (c .before .before .before .defers-to .ensures) ∙ c .before .before .if1 .taken)
     (c .before .with-marks .ensures) (c .silence .ensures)
 
--- src/lib.rt:447:9
 with-marks-requires-2 : tie.Need-with-marks-requires-2
 with-marks-requires-2 c κs = search needs
 
--- src/lib.rt:448:13
 mul-c : tie.Need-mul-c
 mul-c c = search needs
 
--- src/lib.rt:448:13
 array-read-c : tie.Need-array-read-c
 array-read-c c = search needs
 
--- src/lib.rt:449:9
 told-over-requires : tie.Need-told-over-requires
 told-over-requires c κs = search needs
 
--- src/lib.rt:450:9
 put-requires : tie.Need-put-requires
 put-requires c κs = search needs
 
--- src/lib.rt:433:1
 returns-2 : tie.Need-returns-2
 returns-2 c =
     let a = c .before .before .before .before .before .before .before .args in

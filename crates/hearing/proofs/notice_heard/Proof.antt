@@ -7,35 +7,28 @@ use borrow.Author.Needs.{needs}
 use Rattle.hearing.proofs.notice_heard.Statement.{statement}
 use Rattle.hearing.proofs.notice_heard.Tie as tie
 
--- src/lib.rt:383:8
 at-most-64-requires : tie.Need-at-most-64-requires
 at-most-64-requires c κs = search needs
 
--- src/lib.rt:384:9
 returns : tie.Need-returns
 returns c =
     let a = c .before .before .args in
     notice-past (a .links) (a .j) (a .c) (getD (a .t2) (a .j) 0) (omega (arith, c .before .at-most-64 .ensures, c .if1 .taken))
 
--- src/lib.rt:387:24
 mul-is-newer : tie.Need-mul-is-newer
 mul-is-newer c = search needs
 
--- src/lib.rt:387:24
 array-read-is-newer : tie.Need-array-read-is-newer
 array-read-is-newer c = search needs
 
--- src/lib.rt:387:8
 is-newer-requires : tie.Need-is-newer-requires
 is-newer-requires c κs = search needs
 
--- src/lib.rt:388:9
 returns-2 : tie.Need-returns-2
 returns-2 c =
     let a = c .before .before .before .before .args in
     notice-by (a .links) (a .j) (a .c) (getD (a .t2) (a .j) 0) true (omega (arith, c .before .before .before .at-most-64 .ensures, c .before .before .if1 .left)) (sym (c .before .is-newer .ensures) ∙ c .if2 .taken)
 
--- src/lib.rt:380:1
 returns-3 : tie.Need-returns-3
 returns-3 c =
     let a = c .before .before .before .before .args in

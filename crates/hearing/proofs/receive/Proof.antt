@@ -33,42 +33,33 @@ by-effect : (net : Net) (s : ℕ) (x : Letter) (st : Station) (said : Heard) (e 
 by-effect net s x st said e r p q a =
     subst⁻¹ (λ (d : Done). Acts net s st d r) (received-does (networkOf net) s x (holdingOf net st) said p ∙ ap (does (networkOf net) s x (holdingOf net st)) q) a
 
--- src/lib.rt:546:8
 at-most-64-requires : tie.Need-at-most-64-requires
 at-most-64-requires c κs = search needs
 
--- src/lib.rt:546:8
 cast-if1 : tie.Need-cast-if1
 cast-if1 c = search needs
 
--- src/lib.rt:547:43
 silence-requires : tie.Need-silence-requires
 silence-requires c κs = search needs
 
--- src/lib.rt:547:9
 returns : tie.Need-returns
 returns c =
     let a = c .before .before .before .before .args in
     subst⁻¹ (λ (x : Sending). Acts (a .net) (a .me) (a .st) (received (networkOf (a .net)) (a .me) (a .letter) (holdingOf (a .net) (a .st))) (record { station = a .st; send = x })) (c .silence .ensures)
     (dropped (a .net) (a .me) (a .letter) (a .st) _ _ (fit (c .before .before .before .before)) (received-past (a .net) (a .me) (a .letter) (a .st) (omega (arith, c .before .before .at-most-64 .ensures, c .before .if1 .taken))))
 
--- src/lib.rt:549:13
 cast-k : tie.Need-cast-k
 cast-k c = search needs
 
--- src/lib.rt:550:9
 hearing-requires : tie.Need-hearing-requires
 hearing-requires c κs = search needs
 
--- src/lib.rt:551:21
 enum-known-said : tie.Need-enum-known-said
 enum-known-said c = search needs
 
--- src/lib.rt:552:43
 silence-requires-2 : tie.Need-silence-requires-2
 silence-requires-2 c κs = search needs
 
--- src/lib.rt:552:9
 returns-2 : tie.Need-returns-2
 returns-2 c =
     let a = c .before .before .before .before .before .before .args in
@@ -77,43 +68,33 @@ returns-2 c =
     (received-does (networkOf (a .net)) (a .me) (a .letter) (holdingOf (a .net) (a .st)) (c .before .before .hearing .result) (c .before .before .hearing .ensures)
     ∙ drops (a .net) (a .me) (a .letter) (a .st) (c .before .before .hearing .result) (c .before .match .keys2)))
 
--- src/lib.rt:555:25
 enum-told : tie.Need-enum-told
 enum-told c = search needs
 
--- src/lib.rt:555:25
 hear-request-requires : tie.Need-hear-request-requires
 hear-request-requires c κs = search needs
 
--- src/lib.rt:556:23
 enum-known-effect : tie.Need-enum-known-effect
 enum-known-effect c = search needs
 
--- src/lib.rt:556:30
 hear-heals-requires : tie.Need-hear-heals-requires
 hear-heals-requires c κs = search needs
 
--- src/lib.rt:557:24
 enum-known-effect-2 : tie.Need-enum-known-effect-2
 enum-known-effect-2 c = search needs
 
--- src/lib.rt:557:31
 hear-levels-requires : tie.Need-hear-levels-requires
 hear-levels-requires c κs = search needs
 
--- src/lib.rt:558:26
 enum-told-2 : tie.Need-enum-told-2
 enum-told-2 c = search needs
 
--- src/lib.rt:558:26
 hear-equal-requires : tie.Need-hear-equal-requires
 hear-equal-requires c κs = search needs
 
--- src/lib.rt:559:23
 enum-known-effect-3 : tie.Need-enum-known-effect-3
 enum-known-effect-3 c = search needs
 
--- src/lib.rt:559:32
 hear-notice-requires : tie.Need-hear-notice-requires
 hear-notice-requires c κs =
     let a = c .before .before .before .before .before .before .before .before .before .before .args in (
@@ -123,25 +104,21 @@ hear-notice-requires c κs =
           (sym (ap heardNumbers (c .before .before .before .before .said .given .1 ∙ ap Does (c .before .effect3 .given .1))) ∙ c .before .before .before .before .before .before .hearing .ensures)),
     )
 
--- src/lib.rt:541:1
 returns-3 : tie.Need-returns-3
 returns-3 c =
     let a = c .before .before .before .before .before .before .before .before .before .before .args in
     by-effect (a .net) (a .me) (a .letter) (a .st) (c .before .before .before .before .before .before .hearing .result) (Asks) _ (c .before .before .before .before .before .before .hearing .ensures) (c .before .before .before .before .said .given .1 ∙ ap Does (c .before .enum-told .given .1)) (c .hear-request .ensures)
 
--- src/lib.rt:541:1
 returns-4 : tie.Need-returns-4
 returns-4 c =
     let a = c .before .before .before .before .before .before .before .before .before .before .before .args in
     by-effect (a .net) (a .me) (a .letter) (a .st) (c .before .before .before .before .before .before .before .hearing .result) (Heals _) _ (c .before .before .before .before .before .before .before .hearing .ensures) (c .before .before .before .before .before .said .given .1 ∙ ap Does (c .before .before .effect .given .1)) (c .hear-heals .ensures)
 
--- src/lib.rt:541:1
 returns-5 : tie.Need-returns-5
 returns-5 c =
     let a = c .before .before .before .before .before .before .before .before .before .before .before .args in
     by-effect (a .net) (a .me) (a .letter) (a .st) (c .before .before .before .before .before .before .before .hearing .result) (Levels _) _ (c .before .before .before .before .before .before .before .hearing .ensures) (c .before .before .before .before .before .said .given .1 ∙ ap Does (c .before .before .effect2 .given .1)) (c .hear-levels .ensures)
 
--- src/lib.rt:541:1
 returns-6 : tie.Need-returns-6
 returns-6 c =
     let a = c .before .before .before .before .before .before .before .before .before .before .args in
@@ -149,7 +126,6 @@ returns-6 c =
     by-effect (a .net) (a .me) (a .letter) (a .st) (c .before .before .before .before .before .before .hearing .result) (Equal) _ (c .before .before .before .before .before .before .hearing .ensures) (c .before .before .before .before .said .given .1 ∙ ap Does (c .before .enum-told2 .given .1))
     (subst⁻¹ (λ (m : Marks). Acts (a .net) (a .me) (a .st) (unchanged (marked (a .letter .link) (repliedMarks m) (holdingOf (a .net) (a .st)))) (c .hear-equal .result)) e (c .hear-equal .ensures))
 
--- src/lib.rt:541:1
 returns-7 : tie.Need-returns-7
 returns-7 c =
     let a = c .before .before .before .before .before .before .before .before .before .before .before .args in

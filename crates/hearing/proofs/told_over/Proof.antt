@@ -10,23 +10,18 @@ use borrow.Author.Needs.{needs}
 use Rattle.hearing.proofs.told_over.Statement.{statement}
 use Rattle.hearing.proofs.told_over.Tie as tie
 
--- src/lib.rt:470:8
 is-even-requires : tie.Need-is-even-requires
 is-even-requires c κs = search needs
 
--- src/lib.rt:471:9
 returns : tie.Need-returns
 returns c = if-no (odd (c .before .before .args .c)) _ 0 (ap not (sym (c .before .is-even .ensures) ∙ c .if1 .taken))
 
--- src/lib.rt:473:16
 known-links-requires : tie.Need-known-links-requires
 known-links-requires c κs = search needs
 
--- src/lib.rt:473:5
 put-requires : tie.Need-put-requires
 put-requires c κs = search needs
 
--- src/lib.rt:467:1
 returns-2 : tie.Need-returns-2
 returns-2 c =
     let a = c .before .before .before .before .args in

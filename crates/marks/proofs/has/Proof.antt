@@ -4,15 +4,12 @@ use borrow.Author.Needs.{needs}
 use Rattle.marks.proofs.has.Statement.{statement}
 use Rattle.marks.proofs.has.Tie as tie
 
--- src/lib.rt:35:10
 shr-result : tie.Need-shr-result
 shr-result c = search needs
 
--- src/lib.rt:31:1
 returns : tie.Need-returns
 returns c = search needs
 
--- src/lib.rt:31:1
 returns-2 : tie.Need-returns-2
 returns-2 c = sym (zero-is-out _ _ (beyond 64 _ _ (c .before .fits .w .fits) (c .if1 .left)))
 

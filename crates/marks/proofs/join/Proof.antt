@@ -2,7 +2,6 @@ use Rattle.marks.proofs.WordLaws.{join-is}
 use Rattle.marks.proofs.join.Statement.{statement}
 use Rattle.marks.proofs.join.Tie as tie
 
--- src/lib.rt:61:1
 returns : tie.Need-returns
 returns c = join-is (c .args .a) (c .args .b) (c .fits .a .fits) (c .fits .b .fits)
 

@@ -2,27 +2,21 @@ use borrow.Author.Needs.{needs}
 use Rattle.marks.proofs.marks_at.Statement.{statement}
 use Rattle.marks.proofs.marks_at.Tie as tie
 
--- src/lib.rt:69:16
 has-requires : tie.Need-has-requires
 has-requires c κs = search needs
 
--- src/lib.rt:70:15
 has-requires-2 : tie.Need-has-requires-2
 has-requires-2 c κs = search needs
 
--- src/lib.rt:71:18
 has-requires-3 : tie.Need-has-requires-3
 has-requires-3 c κs = search needs
 
--- src/lib.rt:72:16
 has-requires-4 : tie.Need-has-requires-4
 has-requires-4 c κs = search needs
 
--- src/lib.rt:73:16
 has-requires-5 : tie.Need-has-requires-5
 has-requires-5 c κs = search needs
 
--- src/lib.rt:65:1
 returns : tie.Need-returns
 returns c =
     λ i. record {

@@ -15,43 +15,33 @@ Inv-loop s net m own₀ k₀ own k = (k ≤ m) × (own ≡ wordBy (upTo (λ t. i
 abbrev μ-loop : tie.MeasureT-loop
 μ-loop s net m own₀ k₀ own k = m - k
 
--- src/lib.rt:109:9
 at-most-64-requires : tie.Need-at-most-64-requires Inv-loop μ-loop
 at-most-64-requires c κs = search needs
 
--- src/lib.rt:111:5
 loop-holds : tie.Need-loop-holds Inv-loop μ-loop
 loop-holds c = (omega arith, upto-none _)
 
--- src/lib.rt:112:17
 cast-i : tie.Need-cast-i Inv-loop μ-loop
 cast-i c = omega arith
 
--- src/lib.rt:113:34
 element-copy-out-is-end : tie.Need-element-copy-out-is-end Inv-loop μ-loop
 element-copy-out-is-end c = omega arith
 
--- src/lib.rt:113:46
 element-copy-out-is-end-2 : tie.Need-element-copy-out-is-end-2 Inv-loop μ-loop
 element-copy-out-is-end-2 c = omega arith
 
--- src/lib.rt:113:27
 is-end-requires : tie.Need-is-end-requires Inv-loop μ-loop
 is-end-requires c κs = search needs
 
--- src/lib.rt:113:9
 put-requires : tie.Need-put-requires Inv-loop μ-loop
 put-requires c κs = search needs
 
--- src/lib.rt:111:9
 add-k : tie.Need-add-k Inv-loop μ-loop
 add-k c = omega arith
 
--- src/lib.rt:111:5
 loop-less : tie.Need-loop-less Inv-loop μ-loop
 loop-less c = omega arith
 
--- src/lib.rt:111:5
 loop-again : tie.Need-loop-again Inv-loop μ-loop
 loop-again c =
     let a = c .before .before .before .before .before .before .before .args in
@@ -59,7 +49,6 @@ loop-again c =
     let h : l .k < linkCount (a .t1) = omega (arith, c .before .before .before .before .before .before .at-most-64 .ensures) in
     (omega arith, upto-more (λ t. isEnd (networkOf (a .t1)) t (a .s)) (l .k) (l .own) _ _ (l .inv .1) (own-read (a .t1) (a .s) (l .k) _ h (c .before .is-end .ensures)) (c .put .ensures))
 
--- src/lib.rt:106:1
 returns : tie.Need-returns Inv-loop μ-loop
 returns c =
     let a = c .before .before .before .args in

@@ -4,61 +4,51 @@ use borrow.Author.Needs.{needs}
 use Rattle.marks.proofs.put.Statement.{statement}
 use Rattle.marks.proofs.put.Tie as tie
 
--- src/lib.rt:46:9
 returns : tie.Need-returns
 returns c =
     let a = c .before .args in
     let f = c .before .fits .w .fits in
     put-beyond (a .w) (a .k) f (a .on) (c .if1 .taken)
 
--- src/lib.rt:48:8
 has-requires : tie.Need-has-requires
 has-requires c κs = search needs
 
--- src/lib.rt:50:13
 returns-2 : tie.Need-returns-2
 returns-2 c =
     let a = c .before .before .before .before .args in
     let f = c .before .before .before .before .fits .w .fits in
     put-already (a .w) (a .k) f (a .on) (sym (c .before .before .has .ensures) ∙ c .before .if2 .taken ∙ sym (c .if3 .taken))
 
--- src/lib.rt:52:21
 shl-result : tie.Need-shl-result
 shl-result c = search needs
 
--- src/lib.rt:52:16
 sub-result : tie.Need-sub-result
 sub-result c =
     let a = c .before .before .before .before .args in
     let f = c .before .before .before .before .fits .w .fits in
     off-fits (a .w) (a .k) (a .on) f (c .before .before .before .if1 .left) (sym (c .before .before .has .ensures) ∙ c .before .if2 .taken)
 
--- src/lib.rt:52:9
 returns-3 : tie.Need-returns-3
 returns-3 c =
     let a = c .before .before .before .before .args in
     let f = c .before .before .before .before .fits .w .fits in
     off-is (a .w) (a .k) (a .on) f (c .before .before .before .if1 .left) (sym (c .before .before .has .ensures) ∙ c .before .if2 .taken) (c .if3 .left)
 
--- src/lib.rt:54:18
 shl-result-2 : tie.Need-shl-result-2
 shl-result-2 c = search needs
 
--- src/lib.rt:54:13
 add-result : tie.Need-add-result
 add-result c =
     let a = c .before .before .before .before .args in
     let f = c .before .before .before .before .fits .w .fits in
     record { fits = on-fits (a .w) (a .k) (a .on) f (c .before .before .before .if1 .left) (sym (c .before .before .has .ensures) ∙ c .before .if2 .left) }
 
--- src/lib.rt:42:1
 returns-4 : tie.Need-returns-4
 returns-4 c =
     let a = c .before .before .before .before .args in
     let f = c .before .before .before .before .fits .w .fits in
     on-is (a .w) (a .k) (a .on) f (c .before .before .before .if1 .left) (sym (c .before .before .has .ensures) ∙ c .before .if2 .left) (c .if4 .taken)
 
--- src/lib.rt:42:1
 returns-5 : tie.Need-returns-5
 returns-5 c =
     let a = c .before .before .before .before .args in

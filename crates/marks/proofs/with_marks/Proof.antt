@@ -2,27 +2,21 @@ use borrow.Author.Needs.{needs}
 use Rattle.marks.proofs.with_marks.Statement.{statement}
 use Rattle.marks.proofs.with_marks.Tie as tie
 
--- src/lib.rt:82:16
 put-requires : tie.Need-put-requires
 put-requires c κs = search needs
 
--- src/lib.rt:83:15
 put-requires-2 : tie.Need-put-requires-2
 put-requires-2 c κs = search needs
 
--- src/lib.rt:84:18
 put-requires-3 : tie.Need-put-requires-3
 put-requires-3 c κs = search needs
 
--- src/lib.rt:85:16
 put-requires-4 : tie.Need-put-requires-4
 put-requires-4 c κs = search needs
 
--- src/lib.rt:86:16
 put-requires-5 : tie.Need-put-requires-5
 put-requires-5 c κs = search needs
 
--- src/lib.rt:78:1
 returns : tie.Need-returns
 returns c =
     λ i. record {

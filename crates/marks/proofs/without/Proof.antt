@@ -2,7 +2,6 @@ use Rattle.marks.proofs.WordLaws.{without-is}
 use Rattle.marks.proofs.without.Statement.{statement}
 use Rattle.marks.proofs.without.Tie as tie
 
--- src/lib.rt:58:1
 returns : tie.Need-returns
 returns c = without-is (c .args .a) (c .args .b) (c .fits .a .fits) (c .fits .b .fits)
 

@@ -17,39 +17,30 @@ Inv-loop net n m a₀ b₀ k₀ a b k = (k ≤ 64) × (every (placeHolds net) (b
 abbrev μ-loop : tie.MeasureT-loop
 μ-loop net n m a₀ b₀ k₀ a b k = 64 - k
 
--- src/lib.rt:56:9
 returns : tie.Need-returns Inv-loop μ-loop
 returns c = few-stations _ (c .if1 .taken)
 
--- src/lib.rt:59:9
 returns-2 : tie.Need-returns-2 Inv-loop μ-loop
 returns-2 c = many-stations _ (c .if2 .taken)
 
--- src/lib.rt:62:9
 returns-3 : tie.Need-returns-3 Inv-loop μ-loop
 returns-3 c = many-links _ (c .if3 .taken)
 
--- src/lib.rt:66:5
 loop-holds : tie.Need-loop-holds Inv-loop μ-loop
 loop-holds c = (omega arith, refl, inl refl)
 
--- src/lib.rt:67:17
 cast-i : tie.Need-cast-i Inv-loop μ-loop
 cast-i c = omega arith
 
--- src/lib.rt:68:19
 element-copy-out-low : tie.Need-element-copy-out-low Inv-loop μ-loop
 element-copy-out-low c = omega arith
 
--- src/lib.rt:69:20
 element-copy-out-high : tie.Need-element-copy-out-high Inv-loop μ-loop
 element-copy-out-high c = omega arith
 
--- src/lib.rt:70:13
 place-holds-requires : tie.Need-place-holds-requires Inv-loop μ-loop
 place-holds-requires c κs = search needs
 
--- src/lib.rt:71:13
 returns-4 : tie.Need-returns-4 Inv-loop μ-loop
 returns-4 c =
     let net = c .before .before .before .before .before .before .before .before .before .args .t1 in
@@ -58,15 +49,12 @@ returns-4 c =
     (place-seen net (l .k) (l .a) (l .b) _ false (c .before .before .before .before .before .before .before .if2 .left) (c .before .before .before .before .before .before .if3 .left) (l .inv .2) (c .before .place-holds .ensures) (not-true _ (c .if4 .taken))))
     ∙ holds-places net (c .before .before .before .before .before .before .before .before .if1 .left) (c .before .before .before .before .before .before .before .if2 .left) (c .before .before .before .before .before .before .if3 .left) (search needs) (search needs)
 
--- src/lib.rt:66:9
 add-k : tie.Need-add-k Inv-loop μ-loop
 add-k c = omega arith
 
--- src/lib.rt:66:5
 loop-less : tie.Need-loop-less Inv-loop μ-loop
 loop-less c = omega arith
 
--- src/lib.rt:66:5
 loop-again : tie.Need-loop-again Inv-loop μ-loop
 loop-again c =
     let net = c .before .before .before .before .before .before .before .before .before .args .t1 in
@@ -77,7 +65,6 @@ loop-again c =
       before-more net (l .k) _ _ refl refl,
     )
 
--- src/lib.rt:50:1
 returns-5 : tie.Need-returns-5 Inv-loop μ-loop
 returns-5 c =
     let net = c .before .before .before .before .before .args .t1 in

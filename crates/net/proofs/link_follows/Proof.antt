@@ -2,37 +2,31 @@ use Rattle.net.proofs.Sheet.{follows-ends, follows-range, follows-first
 use Rattle.net.proofs.link_follows.Statement.{statement}
 use Rattle.net.proofs.link_follows.Tie as tie
 
--- src/lib.rt:257:9
 returns : tie.Need-returns
 returns c =
     let a = c .before .args in
     follows-ends (a .stations) (a .first) (a .a) (a .b) (a .low) (a .high) (c .if1 .taken)
 
--- src/lib.rt:260:9
 returns-2 : tie.Need-returns-2
 returns-2 c =
     let a = c .before .before .args in
     follows-range (a .stations) (a .first) (a .a) (a .b) (a .low) (a .high) (c .if2 .taken)
 
--- src/lib.rt:263:9
 returns-3 : tie.Need-returns-3
 returns-3 c =
     let a = c .before .before .before .args in
     follows-first (a .stations) (a .first) (a .a) (a .b) (a .low) (a .high) (c .before .before .if1 .left) (c .before .if2 .left) (c .if3 .taken)
 
--- src/lib.rt:266:9
 returns-4 : tie.Need-returns-4
 returns-4 c =
     let a = c .before .before .before .before .args in
     follows-above (a .stations) (a .first) (a .a) (a .b) (a .low) (a .high) (c .before .before .before .if1 .left) (c .before .before .if2 .left) (c .if4 .taken)
 
--- src/lib.rt:269:9
 returns-5 : tie.Need-returns-5
 returns-5 c =
     let a = c .before .before .before .before .before .args in
     follows-same (a .stations) (a .first) (a .a) (a .b) (a .low) (a .high) (c .before .before .before .before .if1 .left) (c .before .before .before .if2 .left) (c .before .before .if3 .left) (c .before .if4 .left) (c .if5 .taken)
 
--- src/lib.rt:253:1
 returns-6 : tie.Need-returns-6
 returns-6 c =
     let a = c .before .before .before .before .before .args in

@@ -3,23 +3,19 @@ use borrow.Author.Needs.{needs}
 use Rattle.net.proofs.place_holds.Statement.{statement}
 use Rattle.net.proofs.place_holds.Tie as tie
 
--- src/lib.rt:41:9
 link-follows-requires : tie.Need-link-follows-requires
 link-follows-requires c κs = search needs
 
--- src/lib.rt:41:9
 returns : tie.Need-returns
 returns c =
     let a = c .before .before .args in
     place-used (a .links) (a .stations) (a .k) (a .a) (a .b) (a .low) (a .high) _ (c .before .if1 .taken) (c .link-follows .ensures)
 
--- src/lib.rt:44:9
 returns-2 : tie.Need-returns-2
 returns-2 c =
     let a = c .before .before .args in
     place-zero (a .links) (a .stations) (a .k) (a .a) (a .b) (a .low) (a .high) (c .before .if1 .left) (c .if2 .taken)
 
--- src/lib.rt:37:1
 returns-3 : tie.Need-returns-3
 returns-3 c =
     let a = c .before .before .args in

@@ -4,15 +4,12 @@ use borrow.Author.Needs.{needs}
 use Rattle.reach.proofs.bit_of.Statement.{statement}
 use Rattle.reach.proofs.bit_of.Tie as tie
 
--- src/lib.rt:91:10
 shr-result : tie.Need-shr-result
 shr-result c = search needs
 
--- src/lib.rt:87:1
 returns : tie.Need-returns
 returns c = search needs
 
--- src/lib.rt:87:1
 returns-2 : tie.Need-returns-2
 returns-2 c = sym (beyond 32 _ _ (c .before .fits .w .fits) (c .if1 .left))
 

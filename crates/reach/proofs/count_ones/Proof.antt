@@ -5,11 +5,9 @@ use Rattle.reach.specs.Values.{onesOf}
 use Rattle.reach.proofs.count_ones.Statement.{statement}
 use Rattle.reach.proofs.count_ones.Tie as tie
 
--- src/lib.rt:172:5
 cast-result : tie.Need-cast-result
 cast-result c = omega (arith, ones-le 32 (c .args .word) (c .fits .word .fits))
 
--- src/lib.rt:169:1
 returns : tie.Need-returns
 unfolding onesOf
 returns c = ones-bits 32 (c .args .word) (c .fits .word .fits)

@@ -6,21 +6,17 @@ use borrow.Author.Needs.{needs}
 use Rattle.reach.proofs.has_end.Statement.{statement}
 use Rattle.reach.proofs.has_end.Tie as tie
 
--- src/lib.rt:200:8
 bit-of-requires : tie.Need-bit-of-requires
 bit-of-requires c κs = search needs
 
--- src/lib.rt:201:9
 returns : tie.Need-returns
 returns c =
     let a = c .before .before .args in
     end-first (a .w) (a .a) (a .b) (sym (c .before .bit-of .ensures) ∙ c .if1 .taken)
 
--- src/lib.rt:203:5
 bit-of-requires-2 : tie.Need-bit-of-requires-2
 bit-of-requires-2 c κs = search needs
 
--- src/lib.rt:197:1
 returns-2 : tie.Need-returns-2
 returns-2 c =
     let a = c .before .before .before .args in

@@ -6,29 +6,24 @@ use borrow.Author.Needs.{needs}
 use Rattle.reach.proofs.heal.Statement.{statement}
 use Rattle.reach.proofs.heal.Tie as tie
 
--- src/lib.rt:61:9
 larger-of-requires : tie.Need-larger-of-requires
 larger-of-requires c κs = search needs
 
--- src/lib.rt:63:9
 returns : tie.Need-returns
 returns c =
     let a = c .before .before .args in
     let m = c .before .larger-of .ensures in
     healing-fits (a .own) (a .carried) _ (healed-even _ _ (omega (arith, m, c .if1 .taken)) ∙ sym m) (omega (arith, m, c .before .before .fits .own, c .before .before .fits .carried))
 
--- src/lib.rt:66:9
 returns-2 : tie.Need-returns-2
 returns-2 c =
     let a = c .before .before .before .args in
     let m = c .before .before .larger-of .ensures in
     healing-over (a .own) (a .carried) _ (healed-odd _ _ (λ e. c .before .if1 .left (ap (λ (x : ℕ). x % 2) m ∙ e))) (omega (arith, m, c .if2 .taken))
 
--- src/lib.rt:68:16
 add-t4 : tie.Need-add-t4
 add-t4 c = search needs
 
--- src/lib.rt:58:1
 returns-3 : tie.Need-returns-3
 returns-3 c =
     let a = c .before .before .before .args in

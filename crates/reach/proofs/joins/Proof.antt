@@ -8,37 +8,30 @@ use borrow.Author.Needs.{needs}
 use Rattle.reach.proofs.joins.Statement.{statement}
 use Rattle.reach.proofs.joins.Tie as tie
 
--- src/lib.rt:109:9
 is-even-requires : tie.Need-is-even-requires
 is-even-requires c κs = search needs
 
--- src/lib.rt:110:9
 returns : tie.Need-returns
 returns c =
     let a = c .before .before .args in
     crosses-odd (a .n) (a .a) (a .b) (a .c) (a .w) (sym (c .before .is-even .ensures) ∙ not-true _ (c .if1 .taken))
 
--- src/lib.rt:113:9
 returns-2 : tie.Need-returns-2
 returns-2 c =
     let a = c .before .before .before .args in
     crosses-low (a .n) (a .a) (a .b) (a .c) (a .w) (c .if2 .taken)
 
--- src/lib.rt:116:9
 returns-3 : tie.Need-returns-3
 returns-3 c =
     let a = c .before .before .before .before .args in
     crosses-high (a .n) (a .a) (a .b) (a .c) (a .w) (c .if3 .taken)
 
--- src/lib.rt:118:5
 bit-of-requires : tie.Need-bit-of-requires
 bit-of-requires c κs = search needs
 
--- src/lib.rt:118:21
 bit-of-requires-2 : tie.Need-bit-of-requires-2
 bit-of-requires-2 c κs = search needs
 
--- src/lib.rt:106:1
 returns-4 : tie.Need-returns-4
 returns-4 c =
     let a = c .before .before .before .before .before .before .args in

@@ -4,25 +4,20 @@ use borrow.Author.Needs.{needs}
 use Rattle.reach.proofs.link_shown.Statement.{statement}
 use Rattle.reach.proofs.link_shown.Tie as tie
 
--- src/lib.rt:231:8
 has-end-requires : tie.Need-has-end-requires
 has-end-requires c κs = search needs
 
--- src/lib.rt:232:12
 is-even-requires : tie.Need-is-even-requires
 is-even-requires c κs = search needs
 
--- src/lib.rt:228:1
 returns : tie.Need-returns
 returns c =
     shown-even _ (c .before .before .before .before .args .counter) (sym (c .before .before .before .has-end .ensures) ∙ c .before .before .if1 .taken) (sym (c .before .is-even .ensures) ∙ c .if2 .taken)
 
--- src/lib.rt:228:1
 returns-2 : tie.Need-returns-2
 returns-2 c =
     shown-odd _ (c .before .before .before .before .args .counter) (sym (c .before .before .before .has-end .ensures) ∙ c .before .before .if1 .taken) (sym (c .before .is-even .ensures) ∙ c .if2 .left)
 
--- src/lib.rt:228:1
 returns-3 : tie.Need-returns-3
 returns-3 c = shown-none _ (c .before .before .args .counter) (sym (c .before .has-end .ensures) ∙ c .if1 .left)
 

@@ -5,24 +5,19 @@ use borrow.Author.Needs.{needs}
 use Rattle.reach.proofs.lowest_missing.Statement.{statement}
 use Rattle.reach.proofs.lowest_missing.Tie as tie
 
--- src/lib.rt:179:9
 at-most-requires : tie.Need-at-most-requires
 at-most-requires c κs = search needs
 
--- src/lib.rt:181:12
 cast-if1 : tie.Need-cast-if1
 cast-if1 c = search needs
 
--- src/lib.rt:181:23
 cast-result : tie.Need-cast-result
 cast-result c = search needs
 
--- src/lib.rt:176:1
 returns : tie.Need-returns
 returns c =
     lowest-run _ _ _ (run 32 (c .before .before .args .word) (c .before .before .fits .word .fits)) (omega (arith, c .before .at-most .ensures, c .if1 .taken))
 
--- src/lib.rt:176:1
 returns-2 : tie.Need-returns-2
 returns-2 c =
     lowest-none _ _ _ (run 32 (c .before .before .args .word) (c .before .before .fits .word .fits)) (omega (arith, c .before .at-most .ensures, c .if1 .left))

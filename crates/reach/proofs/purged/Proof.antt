@@ -17,59 +17,45 @@ Inv-loop s net counters m w next₀ k₀ next k = (next ≡ filled (purgedAt net
 abbrev μ-loop : tie.MeasureT-loop
 μ-loop s net counters m w next₀ k₀ next k = m - k
 
--- src/lib.rt:213:9
 at-most-requires : tie.Need-at-most-requires Inv-loop μ-loop
 at-most-requires c κs = search needs
 
--- src/lib.rt:214:9
 reach-word-requires : tie.Need-reach-word-requires Inv-loop μ-loop
 reach-word-requires c κs = search needs
 
--- src/lib.rt:216:5
 loop-holds : tie.Need-loop-holds Inv-loop μ-loop
 loop-holds c = (refl, omega arith)
 
--- src/lib.rt:217:17
 cast-i : tie.Need-cast-i Inv-loop μ-loop
 cast-i c = omega arith
 
--- src/lib.rt:218:29
 element-copy-out-purge-one : tie.Need-element-copy-out-purge-one Inv-loop μ-loop
 element-copy-out-purge-one c = omega arith
 
--- src/lib.rt:218:41
 element-copy-out-purge-one-2 : tie.Need-element-copy-out-purge-one-2 Inv-loop μ-loop
 element-copy-out-purge-one-2 c = omega arith
 
--- src/lib.rt:218:54
 mul-purge-one : tie.Need-mul-purge-one Inv-loop μ-loop
 mul-purge-one c = omega arith
 
--- src/lib.rt:218:54
 array-read-purge-one : tie.Need-array-read-purge-one Inv-loop μ-loop
 array-read-purge-one c = omega arith
 
--- src/lib.rt:218:19
 purge-one-requires : tie.Need-purge-one-requires Inv-loop μ-loop
 purge-one-requires c κs = search needs
 
--- src/lib.rt:218:9
 mul-next : tie.Need-mul-next Inv-loop μ-loop
 mul-next c = omega arith
 
--- src/lib.rt:218:9
 array-write-next : tie.Need-array-write-next Inv-loop μ-loop
 array-write-next c = omega arith
 
--- src/lib.rt:216:9
 add-k : tie.Need-add-k Inv-loop μ-loop
 add-k c = omega arith
 
--- src/lib.rt:216:5
 loop-less : tie.Need-loop-less Inv-loop μ-loop
 loop-less c = omega arith
 
--- src/lib.rt:216:5
 loop-again : tie.Need-loop-again Inv-loop μ-loop
 loop-again c =
     let a = c .before .before .before .before .before .before .before .args in
@@ -80,7 +66,6 @@ loop-again c =
       omega arith,
     )
 
--- src/lib.rt:210:1
 returns : tie.Need-returns Inv-loop μ-loop
 returns c =
     let a = c .before .before .before .before .args in

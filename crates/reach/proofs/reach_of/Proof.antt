@@ -3,19 +3,15 @@ use borrow.Author.Needs.{needs}
 use Rattle.reach.proofs.reach_of.Statement.{statement}
 use Rattle.reach.proofs.reach_of.Tie as tie
 
--- src/lib.rt:188:9
 reach-word-requires : tie.Need-reach-word-requires
 reach-word-requires c κs = search needs
 
--- src/lib.rt:189:9
 count-ones-requires : tie.Need-count-ones-requires
 count-ones-requires c κs = search needs
 
--- src/lib.rt:190:9
 lowest-missing-requires : tie.Need-lowest-missing-requires
 lowest-missing-requires c κs = search needs
 
--- src/lib.rt:185:1
 returns : tie.Need-returns
 returns c =
     let a = c .before .before .before .args in

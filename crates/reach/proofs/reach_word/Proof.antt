@@ -23,63 +23,48 @@ Inv-grow s net counters n m from w₀ w = Growing net counters s w
 abbrev μ-grow : tie.MeasureT-grow
 μ-grow s net counters n m from w₀ w = 2 ^ 32 - w
 
--- src/lib.rt:144:9
 at-most-requires : tie.Need-at-most-requires Inv-search μ-search Inv-grow μ-grow
 at-most-requires c κs = search needs
 
--- src/lib.rt:145:9
 at-most-requires-2 : tie.Need-at-most-requires-2 Inv-search μ-search Inv-grow μ-grow
 at-most-requires-2 c κs = search needs
 
--- src/lib.rt:147:9
 returns : tie.Need-returns Inv-search μ-search Inv-grow μ-grow
 returns c = nobody _ _ _ (omega (arith, c .before .before .at-most .ensures, c .if1 .taken))
 
--- src/lib.rt:149:9
 with-bit-requires : tie.Need-with-bit-requires Inv-search μ-search Inv-grow μ-grow
 with-bit-requires c κs = (omega (arith, c .before .before .at-most .ensures, c .if1 .left), none-in (c .before .before .before .args .s))
 
--- src/lib.rt:150:5
 grow-holds : tie.Need-grow-holds Inv-search μ-search Inv-grow μ-grow
 grow-holds c = start _ _ _ (search needs) (omega (arith, c .before .before .before .at-most .ensures, c .before .if1 .left)) _ (c .with-bit .ensures)
 
--- src/lib.rt:152:13
 search-holds : tie.Need-search-holds Inv-search μ-search Inv-grow μ-grow
 search-holds c = record { le = omega arith; none = λ j h. absurd (omega arith) }
 
--- src/lib.rt:156:21
 cast-i : tie.Need-cast-i Inv-search μ-search Inv-grow μ-grow
 cast-i c = omega arith
 
--- src/lib.rt:157:25
 element-copy-out-joins : tie.Need-element-copy-out-joins Inv-search μ-search Inv-grow μ-grow
 element-copy-out-joins c = omega arith
 
--- src/lib.rt:157:37
 element-copy-out-joins-2 : tie.Need-element-copy-out-joins-2 Inv-search μ-search Inv-grow μ-grow
 element-copy-out-joins-2 c = omega arith
 
--- src/lib.rt:157:50
 mul-joins : tie.Need-mul-joins Inv-search μ-search Inv-grow μ-grow
 mul-joins c = omega arith
 
--- src/lib.rt:157:50
 array-read-joins : tie.Need-array-read-joins Inv-search μ-search Inv-grow μ-grow
 array-read-joins c = omega arith
 
--- src/lib.rt:157:16
 joins-requires : tie.Need-joins-requires Inv-search μ-search Inv-grow μ-grow
 joins-requires c κs = search needs
 
--- src/lib.rt:160:13
 add-k : tie.Need-add-k Inv-search μ-search Inv-grow μ-grow
 add-k c = omega arith
 
--- src/lib.rt:152:13
 search-less : tie.Need-search-less Inv-search μ-search Inv-grow μ-grow
 search-less c = omega arith
 
--- src/lib.rt:152:13
 search-again : tie.Need-search-again Inv-search μ-search Inv-grow μ-grow
 search-again c =
     let a = c .before .before .before .before .before .before .before .before .before .before .before .args in
@@ -91,19 +76,15 @@ search-again c =
           (test-seen (a .t1) (a .t2) w (i .k) _ _ false (c .before .before .before .before .before .before .before .before .before .before .at-most .ensures) (c .before .joins .ensures) (c .if2 .left));
     }
 
--- src/lib.rt:162:17
 cast-j : tie.Need-cast-j Inv-search μ-search Inv-grow μ-grow
 cast-j c = omega arith
 
--- src/lib.rt:163:19
 element-copy-out-grown : tie.Need-element-copy-out-grown Inv-search μ-search Inv-grow μ-grow
 element-copy-out-grown c = omega arith
 
--- src/lib.rt:163:31
 element-copy-out-grown-2 : tie.Need-element-copy-out-grown-2 Inv-search μ-search Inv-grow μ-grow
 element-copy-out-grown-2 c = omega arith
 
--- src/lib.rt:163:9
 grown-requires : tie.Need-grown-requires Inv-search μ-search Inv-grow μ-grow
 grown-requires c κs =
     let a = c .before .before .before .before .before .before .before .before .before .before .before .before .before .args in
@@ -112,11 +93,9 @@ grown-requires c κs =
     (test-seen (a .t1) (a .t2) (c .before .before .before .before .before .before .before .before .grow .w) k _ _ true (c .before .before .before .before .before .before .before .before .before .before .before .before .at-most .ensures) (c .before .before .before .joins .ensures) (c .before .before .if2 .taken)) in
     (omega (arith, x .low), omega (arith, x .high), x .apart)
 
--- src/lib.rt:150:5
 grow-less : tie.Need-grow-less Inv-search μ-search Inv-grow μ-grow
 grow-less c = omega (arith, c .grown .ensures .more, pow-pos (c .grown .ensures .new), c .before .before .before .before .before .before .before .before .before .grow .inv .fits)
 
--- src/lib.rt:150:5
 grow-again : tie.Need-grow-again Inv-search μ-search Inv-grow μ-grow
 grow-again c =
     let a = c .before .before .before .before .before .before .before .before .before .before .before .before .before .before .args in
@@ -124,7 +103,6 @@ grow-again c =
     (test-seen (a .t1) (a .t2) (c .before .before .before .before .before .before .before .before .before .grow .w) (c .before .before .before .before .before .before .before .before .search .k) _ _ true (c .before .before .before .before .before .before .before .before .before .before .before .before .before .at-most .ensures) (c .before .before .before .before .joins .ensures) (c .before .before .before .if2 .taken))
     (c .grown .ensures)
 
--- src/lib.rt:141:1
 returns-2 : tie.Need-returns-2 Inv-search μ-search Inv-grow μ-grow
 returns-2 c = done _ _ _ _ _ (c .before .before .grow .inv) (c .before .search .inv) (omega (arith, c .before .before .before .before .before .at-most2 .ensures, c .search-test .taken))
 

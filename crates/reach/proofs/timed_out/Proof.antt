@@ -5,19 +5,15 @@ use borrow.Author.Needs.{needs}
 use Rattle.reach.proofs.timed_out.Statement.{statement}
 use Rattle.reach.proofs.timed_out.Tie as tie
 
--- src/lib.rt:39:8
 is-even-requires : tie.Need-is-even-requires
 is-even-requires c κs = search needs
 
--- src/lib.rt:39:23
 add-result : tie.Need-add-result
 add-result c = omega (arith, even-is (c .before .before .args .own) (sym (c .before .is-even .ensures) ∙ c .if1 .taken), c .before .before .fits .own)
 
--- src/lib.rt:36:1
 returns : tie.Need-returns
 returns c = timed-even _ (even-is _ (sym (c .before .is-even .ensures) ∙ c .if1 .taken))
 
--- src/lib.rt:36:1
 returns-2 : tie.Need-returns-2
 returns-2 c = timed-odd _ (odd-is _ (sym (c .before .is-even .ensures) ∙ c .if1 .left))
 

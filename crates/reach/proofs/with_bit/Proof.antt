@@ -5,17 +5,14 @@ use borrow.Author.Needs.{needs}
 use Rattle.reach.proofs.with_bit.Statement.{statement}
 use Rattle.reach.proofs.with_bit.Tie as tie
 
--- src/lib.rt:102:10
 shl-result : tie.Need-shl-result
 shl-result c = search needs
 
--- src/lib.rt:102:5
 add-result : tie.Need-add-result
 add-result c =
     rw (one-mul, mod-eq-of-lt (pow-lt {i = c .args .t} {j = 32} (c .pre .0)))
     (record { fits = put-fits _ _ 32 (c .pre .0) (c .fits .w .fits) (c .pre .1) })
 
--- src/lib.rt:98:1
 returns : tie.Need-returns
 returns c = simp (one-mul, mod-eq-of-lt (pow-lt {i = c .args .t} {j = 32} (c .pre .0)))
 

@@ -10,39 +10,30 @@ Inv-loop links counters k₀ k = k ≤ links
 abbrev μ-loop : tie.MeasureT-loop
 μ-loop links counters k₀ k = links - k
 
--- src/main.rt:62:5
 loop-holds : tie.Need-loop-holds Inv-loop μ-loop
 loop-holds c = omega arith
 
--- src/main.rt:63:17
 cast-i : tie.Need-cast-i Inv-loop μ-loop
 cast-i c = omega arith
 
--- src/main.rt:64:23
 mul-print-counter : tie.Need-mul-print-counter Inv-loop μ-loop
 mul-print-counter c = omega arith
 
--- src/main.rt:64:23
 array-read-print-counter : tie.Need-array-read-print-counter Inv-loop μ-loop
 array-read-print-counter c = omega arith
 
--- src/main.rt:64:9
 print-counter-requires : tie.Need-print-counter-requires Inv-loop μ-loop
 print-counter-requires c κs = search needs
 
--- src/main.rt:62:9
 add-k : tie.Need-add-k Inv-loop μ-loop
 add-k c = omega arith
 
--- src/main.rt:62:5
 loop-less : tie.Need-loop-less Inv-loop μ-loop
 loop-less c = omega arith
 
--- src/main.rt:62:5
 loop-again : tie.Need-loop-again Inv-loop μ-loop
 loop-again c = omega arith
 
--- src/main.rt:59:1
 returns : tie.Need-returns Inv-loop μ-loop
 returns c = search needs
 

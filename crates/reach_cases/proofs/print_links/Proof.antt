@@ -10,55 +10,42 @@ Inv-loop word links net counters k₀ k = k ≤ links
 abbrev μ-loop : tie.MeasureT-loop
 μ-loop word links net counters k₀ k = links - k
 
--- src/main.rt:67:5
 loop-holds : tie.Need-loop-holds Inv-loop μ-loop
 loop-holds c = omega arith
 
--- src/main.rt:68:17
 cast-i : tie.Need-cast-i Inv-loop μ-loop
 cast-i c = omega arith
 
--- src/main.rt:69:39
 element-copy-out-link-shown : tie.Need-element-copy-out-link-shown Inv-loop μ-loop
 element-copy-out-link-shown c = omega arith
 
--- src/main.rt:69:51
 element-copy-out-link-shown-2 : tie.Need-element-copy-out-link-shown-2 Inv-loop μ-loop
 element-copy-out-link-shown-2 c = omega arith
 
--- src/main.rt:69:64
 mul-link-shown : tie.Need-mul-link-shown Inv-loop μ-loop
 mul-link-shown c = omega arith
 
--- src/main.rt:69:64
 array-read-link-shown : tie.Need-array-read-link-shown Inv-loop μ-loop
 array-read-link-shown c = omega arith
 
--- src/main.rt:69:13
 link-shown-requires : tie.Need-link-shown-requires Inv-loop μ-loop
 link-shown-requires c κs = search needs
 
--- src/main.rt:70:15
 cast-print : tie.Need-cast-print Inv-loop μ-loop
 cast-print c = omega arith
 
--- src/main.rt:70:9
 print-requires : tie.Need-print-requires Inv-loop μ-loop
 print-requires c κs = search needs
 
--- src/main.rt:67:9
 add-k : tie.Need-add-k Inv-loop μ-loop
 add-k c = omega arith
 
--- src/main.rt:67:5
 loop-less : tie.Need-loop-less Inv-loop μ-loop
 loop-less c = omega arith
 
--- src/main.rt:67:5
 loop-again : tie.Need-loop-again Inv-loop μ-loop
 loop-again c = omega arith
 
--- src/main.rt:64:1
 returns : tie.Need-returns Inv-loop μ-loop
 returns c = search needs
 

@@ -11,47 +11,36 @@ Inv-loop cases left₀ at₀ left at = at + left * 259 ≤ length cases
 abbrev μ-loop : tie.MeasureT-loop
 μ-loop cases left₀ at₀ left at = left
 
--- src/main.rt:102:5
 loop-holds : tie.Need-loop-holds Inv-loop μ-loop
 loop-holds c = omega arith
 
--- src/main.rt:103:24
 add-run : tie.Need-add-run Inv-loop μ-loop
 add-run c = omega arith
 
--- src/main.rt:103:13
 sub-run : tie.Need-sub-run Inv-loop μ-loop
 sub-run c = omega arith
 
--- src/main.rt:103:13
 part-run-start : tie.Need-part-run-start Inv-loop μ-loop
 part-run-start c = omega arith
 
--- src/main.rt:103:13
 part-run-end : tie.Need-part-run-end Inv-loop μ-loop
 part-run-end c = omega arith
 
--- src/main.rt:103:9
 run-requires : tie.Need-run-requires Inv-loop μ-loop
 run-requires c κs = search needs
 
--- src/main.rt:104:9
 add-at : tie.Need-add-at Inv-loop μ-loop
 add-at c = omega arith
 
--- src/main.rt:105:9
 sub-left : tie.Need-sub-left Inv-loop μ-loop
 sub-left c = omega arith
 
--- src/main.rt:102:5
 loop-less : tie.Need-loop-less Inv-loop μ-loop
 loop-less c = omega arith
 
--- src/main.rt:102:5
 loop-again : tie.Need-loop-again Inv-loop μ-loop
 loop-again c = omega arith
 
--- src/main.rt:99:1
 returns : tie.Need-returns Inv-loop μ-loop
 returns c = search needs
 

@@ -15,46 +15,36 @@ Inv-loop links counters m known₀ k₀ known k = (k ≤ m) × (known ≡ wordBy
 abbrev μ-loop : tie.MeasureT-loop
 μ-loop links counters m known₀ k₀ known k = m - k
 
--- src/lib.rt:152:9
 at-most-64-requires : tie.Need-at-most-64-requires Inv-loop μ-loop
 at-most-64-requires c κs = search needs
 
--- src/lib.rt:154:5
 loop-holds : tie.Need-loop-holds Inv-loop μ-loop
 loop-holds c = (omega arith, upto-none _)
 
--- src/lib.rt:155:17
 cast-i : tie.Need-cast-i Inv-loop μ-loop
 cast-i c = omega arith
 
--- src/lib.rt:156:17
 mul-c : tie.Need-mul-c Inv-loop μ-loop
 mul-c c = omega arith
 
--- src/lib.rt:156:17
 array-read-c : tie.Need-array-read-c Inv-loop μ-loop
 array-read-c c = omega arith
 
--- src/lib.rt:157:9
 put-requires : tie.Need-put-requires Inv-loop μ-loop
 put-requires c κs = search needs
 
--- src/lib.rt:154:9
 add-k : tie.Need-add-k Inv-loop μ-loop
 add-k c = omega arith
 
--- src/lib.rt:154:5
 loop-less : tie.Need-loop-less Inv-loop μ-loop
 loop-less c = omega arith
 
--- src/lib.rt:154:5
 loop-again : tie.Need-loop-again Inv-loop μ-loop
 loop-again c =
     let a = c .before .before .before .before .args in
     let l = c .before .before .loop in
     (omega arith, upto-more (λ j. ltb 1 (getD (a .t2) j 0)) (l .k) (l .known) _ _ (l .inv .1) refl (c .put .ensures))
 
--- src/lib.rt:149:1
 returns : tie.Need-returns Inv-loop μ-loop
 returns c =
     let a = c .before .before .before .args in

@@ -3,11 +3,9 @@ use borrow.Author.Needs.{needs}
 use Rattle.sending.proofs.one_notice.Statement.{statement}
 use Rattle.sending.proofs.one_notice.Tie as tie
 
--- src/lib.rt:130:9
 put-requires : tie.Need-put-requires
 put-requires c κs = search needs
 
--- src/lib.rt:127:1
 returns : tie.Need-returns
 returns c = λ i. record { requests = 0; subjects = c .put .ensures i; ways = c .before .args .ways; told = c .before .args .told; replies = false; reply = 0; link = 0 }
 

@@ -3,15 +3,12 @@ use borrow.Author.Needs.{needs}
 use Rattle.sending.proofs.open_ways.Statement.{statement}
 use Rattle.sending.proofs.open_ways.Tie as tie
 
--- src/lib.rt:138:20
 own-links-requires : tie.Need-own-links-requires
 own-links-requires c κs = search needs
 
--- src/lib.rt:138:5
 without-requires : tie.Need-without-requires
 without-requires c κs = search needs
 
--- src/lib.rt:135:1
 returns : tie.Need-returns
 returns c = open-ways-is (c .before .before .args .net) (c .before .before .args .me) (c .before .before .args .quiet) _ _ (c .before .own-links .ensures) (c .without .ensures)
 

@@ -5,15 +5,12 @@ use borrow.Author.Needs.{needs}
 use Rattle.sending.proofs.ways_but.Statement.{statement}
 use Rattle.sending.proofs.ways_but.Tie as tie
 
--- src/lib.rt:145:16
 open-ways-requires : tie.Need-open-ways-requires
 open-ways-requires c κs = search needs
 
--- src/lib.rt:145:5
 put-requires : tie.Need-put-requires
 put-requires c κs = search needs
 
--- src/lib.rt:142:1
 returns : tie.Need-returns
 returns c =
     let a = c .before .before .args in

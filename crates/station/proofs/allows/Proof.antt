@@ -7,49 +7,39 @@ use borrow.Author.Needs.{needs}
 use Rattle.station.proofs.allows.Statement.{statement}
 use Rattle.station.proofs.allows.Tie as tie
 
--- src/lib.rt:338:9
 marks-there-requires : tie.Need-marks-there-requires
 marks-there-requires c κs = search needs
 
--- src/lib.rt:340:9
 is-down-requires : tie.Need-is-down-requires
 is-down-requires c κs = search needs
 
--- src/lib.rt:340:9
 returns : tie.Need-returns
 returns c =
     let a = c .before .before .before .args in
     c .is-down .ensures ∙ allowed-at 1 (a .kind) (a .condition) (marksThere (a .links) (a .words) (a .k)) (c .before .if1 .taken)
 
--- src/lib.rt:343:17
 is-down-requires-2 : tie.Need-is-down-requires-2
 is-down-requires-2 c κs = search needs
 
--- src/lib.rt:343:9
 returns-2 : tie.Need-returns-2
 returns-2 c =
     let a = c .before .before .before .before .args in
     ap not (c .is-down2 .ensures) ∙ allowed-at 2 (a .kind) (a .condition) (marksThere (a .links) (a .words) (a .k)) (c .before .if2 .taken)
 
--- src/lib.rt:346:9
 is-waiting-requires : tie.Need-is-waiting-requires
 is-waiting-requires c κs = search needs
 
--- src/lib.rt:346:9
 returns-3 : tie.Need-returns-3
 returns-3 c =
     let a = c .before .before .before .before .before .args in
     c .is-waiting .ensures ∙ allowed-at 3 (a .kind) (a .condition) (marksThere (a .links) (a .words) (a .k)) (c .before .if3 .taken)
 
--- src/lib.rt:349:24
 is-live-requires : tie.Need-is-live-requires
 is-live-requires c κs = search needs
 
--- src/lib.rt:349:9
 may-end-requires : tie.Need-may-end-requires
 may-end-requires c κs = search needs
 
--- src/lib.rt:349:9
 returns-4 : tie.Need-returns-4
 returns-4 c =
     let a = c .before .before .before .before .before .before .before .args in
@@ -57,19 +47,16 @@ returns-4 c =
     ∙ ap₂ (λ (b : Bool) (m : Marks). b && (not (m .testing) && not (m .quiet))) (c .before .is-live .ensures) (c .before .before .before .before .before .before .marks-there .ensures)
     ∙ allowed-at 4 (a .kind) (a .condition) (marksThere (a .links) (a .words) (a .k)) (c .before .before .if4 .taken)
 
--- src/lib.rt:352:9
 returns-5 : tie.Need-returns-5
 returns-5 c =
     let a = c .before .before .before .before .before .before .args in
     ap (λ (m : Marks). m .testing) (c .before .before .before .before .before .marks-there .ensures) ∙ allowed-at 5 (a .kind) (a .condition) (marksThere (a .links) (a .words) (a .k)) (c .if5 .taken)
 
--- src/lib.rt:355:9
 returns-6 : tie.Need-returns-6
 returns-6 c =
     let a = c .before .before .before .before .before .before .before .args in
     ap (λ (m : Marks). m .quiet) (c .before .before .before .before .before .before .marks-there .ensures) ∙ allowed-at 6 (a .kind) (a .condition) (marksThere (a .links) (a .words) (a .k)) (c .if6 .taken)
 
--- src/lib.rt:335:1
 returns-7 : tie.Need-returns-7
 returns-7 c =
     let a = c .before .before .before .before .before .before .before .args in

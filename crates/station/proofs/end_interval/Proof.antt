@@ -9,42 +9,33 @@ use borrow.Author.Needs.{needs}
 use Rattle.station.proofs.end_interval.Statement.{statement}
 use Rattle.station.proofs.end_interval.Tie as tie
 
--- src/lib.rt:182:8
 at-most-64-requires : tie.Need-at-most-64-requires
 at-most-64-requires c κs = search needs
 
--- src/lib.rt:183:43
 silence-requires : tie.Need-silence-requires
 silence-requires c κs = search needs
 
--- src/lib.rt:183:9
 returns : tie.Need-returns
 returns c =
     let a = c .before .before .before .before .args in
     subst⁻¹ (λ (x : Sending). Acts (a .net) (a .me) (a .st) (interval (networkOf (a .net)) (a .me) (a .k) (holdingOf (a .net) (a .st))) (record { station = a .st; send = x })) (c .silence .ensures)
     (interval-past (a .net) (a .me) (a .st) (a .k) _ (record { token = search needs; turn = search needs; testing = search needs; asked = search needs; quiet = search needs }) (omega (arith, c .before .before .at-most-64 .ensures, c .before .if1 .taken)))
 
--- src/lib.rt:185:9
 marks-at-requires : tie.Need-marks-at-requires
 marks-at-requires c κs = search needs
 
--- src/lib.rt:186:48
 interval-marks-requires : tie.Need-interval-marks-requires
 interval-marks-requires c κs = search needs
 
--- src/lib.rt:186:9
 with-marks-requires : tie.Need-with-marks-requires
 with-marks-requires c κs = search needs
 
--- src/lib.rt:187:37
 tests-now-requires : tie.Need-tests-now-requires
 tests-now-requires c κs = search needs
 
--- src/lib.rt:187:9
 put-requires : tie.Need-put-requires
 put-requires c κs = search needs
 
--- src/lib.rt:178:1
 returns-2 : tie.Need-returns-2
 returns-2 c =
     let a = c .before .before .before .before .before .before .before .before .args in

@@ -4,25 +4,20 @@ use borrow.Author.Needs.{needs}
 use Rattle.station.proofs.end_quiet.Statement.{statement}
 use Rattle.station.proofs.end_quiet.Tie as tie
 
--- src/lib.rt:223:8
 at-most-64-requires : tie.Need-at-most-64-requires
 at-most-64-requires c κs = search needs
 
--- src/lib.rt:224:9
 returns : tie.Need-returns
 returns c =
     let a = c .before .before .args in
     spoken-past (a .net) 0 (a .st) (a .k) (record { token = search needs; turn = search needs; testing = search needs; asked = search needs; quiet = search needs }) (omega (arith, c .before .at-most-64 .ensures, c .if1 .taken))
 
--- src/lib.rt:226:9
 marks-at-requires : tie.Need-marks-at-requires
 marks-at-requires c κs = search needs
 
--- src/lib.rt:228:9
 with-marks-requires : tie.Need-with-marks-requires
 with-marks-requires c κs = search needs
 
--- src/lib.rt:220:1
 returns-2 : tie.Need-returns-2
 returns-2 c =
     let a = c .before .before .before .before .before .args in

@@ -18,50 +18,39 @@ size c = search needs
 fit : (c : tie.Start) → Fit (c .args .st .marks)
 fit c = record { token = search needs; turn = search needs; testing = search needs; asked = search needs; quiet = search needs }
 
--- src/lib.rt:200:8
 at-most-64-requires : tie.Need-at-most-64-requires
 at-most-64-requires c κs = search needs
 
--- src/lib.rt:201:43
 silence-requires : tie.Need-silence-requires
 silence-requires c κs = search needs
 
--- src/lib.rt:201:9
 returns : tie.Need-returns
 returns c =
     let a = c .before .before .before .before .args in
     subst⁻¹ (λ (x : Sending). Acts (a .net) (a .me) (a .st) (timeout (networkOf (a .net)) (a .me) (a .k) (holdingOf (a .net) (a .st))) (record { station = a .st; send = x })) (c .silence .ensures)
     (timeout-past (a .net) (a .me) (a .st) (a .k) _ (fit (c .before .before .before .before)) (size (c .before .before .before .before)) (omega (arith, c .before .before .at-most-64 .ensures, c .before .if1 .taken)))
 
--- src/lib.rt:205:13
 mul-c : tie.Need-mul-c
 mul-c c = search needs
 
--- src/lib.rt:205:13
 array-read-c : tie.Need-array-read-c
 array-read-c c = search needs
 
--- src/lib.rt:206:24
 marks-at-requires : tie.Need-marks-at-requires
 marks-at-requires c κs = search needs
 
--- src/lib.rt:206:9
 test-ended-requires : tie.Need-test-ended-requires
 test-ended-requires c κs = search needs
 
--- src/lib.rt:207:9
 is-even-requires : tie.Need-is-even-requires
 is-even-requires c κs = search needs
 
--- src/lib.rt:208:13
 with-marks-requires : tie.Need-with-marks-requires
 with-marks-requires c κs = search needs
 
--- src/lib.rt:209:86
 silence-requires-2 : tie.Need-silence-requires-2
 silence-requires-2 c κs = search needs
 
--- src/lib.rt:209:9
 returns-2 : tie.Need-returns-2
 returns-2 c =
     let a = c .before .before .before .before .before .before .before .before .before .args in
@@ -69,35 +58,27 @@ returns-2 c =
     (timeout-odd (a .net) (a .me) (a .st) (a .k) _ _ _ _ (omega (arith, c .before .before .before .before .before .before .before .at-most-64 .ensures, c .before .before .before .before .before .before .if1 .left)) (size (c .before .before .before .before .before .before .before .before .before))
     (sym (c .before .before .before .is-even .ensures) ∙ not-true _ (c .before .before .if2 .taken)) (c .before .before .before .before .before .marks-at .ensures) (c .before .before .before .before .test-ended .ensures) (c .before .with-marks .ensures))
 
--- src/lib.rt:211:19
 timed-out-requires : tie.Need-timed-out-requires
 timed-out-requires c κs = search needs
 
--- src/lib.rt:211:5
 mul-counters : tie.Need-mul-counters
 mul-counters c = search needs
 
--- src/lib.rt:211:5
 array-write-counters : tie.Need-array-write-counters
 array-write-counters c = search needs
 
--- src/lib.rt:213:9
 with-marks-requires-2 : tie.Need-with-marks-requires-2
 with-marks-requires-2 c κs = search needs
 
--- src/lib.rt:214:9
 ways-but-requires : tie.Need-ways-but-requires
 ways-but-requires c κs = search needs
 
--- src/lib.rt:215:9
 purged-requires : tie.Need-purged-requires
 purged-requires c κs = search needs
 
--- src/lib.rt:216:82
 one-notice-requires : tie.Need-one-notice-requires
 one-notice-requires c κs = search needs
 
--- src/lib.rt:196:1
 returns-3 : tie.Need-returns-3
 returns-3 c =
     let a = c .before .before .before .before .before .before .before .before .before .before .before .before .args in

@@ -2,15 +2,12 @@ use Rattle.station.proofs.MarkLaws.{interval-turn, interval-neither}
 use Rattle.station.proofs.interval_marks.Statement.{statement}
 use Rattle.station.proofs.interval_marks.Tie as tie
 
--- src/lib.rt:74:9
 returns : tie.Need-returns
 returns c = simp (c .if1 .taken)
 
--- src/lib.rt:77:9
 returns-2 : tie.Need-returns-2
 returns-2 c = interval-turn (c .before .before .args .m) (c .before .if1 .left) (c .if2 .taken)
 
--- src/lib.rt:70:1
 returns-3 : tie.Need-returns-3
 returns-3 c = interval-neither (c .before .before .args .m) (c .before .if1 .left) (c .if2 .left)
 

@@ -10,19 +10,15 @@ use borrow.Author.Needs.{needs}
 use Rattle.station.proofs.marks_there.Statement.{statement}
 use Rattle.station.proofs.marks_there.Tie as tie
 
--- src/lib.rt:106:8
 at-most-64-requires : tie.Need-at-most-64-requires
 at-most-64-requires c κs = search needs
 
--- src/lib.rt:107:9
 returns : tie.Need-returns
 returns c = if-no (ltb (c .before .before .args .k) (min (c .before .before .args .links) 64)) (marksAt (c .before .before .args .w) (c .before .before .args .k)) noMarks (le-ltb (c .before .before .args .k) (min (c .before .before .args .links) 64) (omega (arith, c .before .at-most-64 .ensures, c .if1 .taken)))
 
--- src/lib.rt:109:5
 marks-at-requires : tie.Need-marks-at-requires
 marks-at-requires c κs = search needs
 
--- src/lib.rt:103:1
 returns-2 : tie.Need-returns-2
 returns-2 c = c .marks-at .ensures ∙ if-yes (ltb (c .before .before .before .args .k) (min (c .before .before .before .args .links) 64)) _ noMarks (lt-ltb (c .before .before .before .args .k) (min (c .before .before .before .args .links) 64) (omega (arith, c .before .before .at-most-64 .ensures, c .before .if1 .left)))
 

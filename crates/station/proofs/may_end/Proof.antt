@@ -3,15 +3,12 @@ use Rattle.station.proofs.Allowed.{end-down, end-testing, end-quiet}
 use Rattle.station.proofs.may_end.Statement.{statement}
 use Rattle.station.proofs.may_end.Tie as tie
 
--- src/lib.rt:326:9
 returns : tie.Need-returns
 returns c = end-down (c .before .args .live) (c .before .args .m) (not-true (c .before .args .live) (c .if1 .taken))
 
--- src/lib.rt:329:9
 returns-2 : tie.Need-returns-2
 returns-2 c = end-testing (c .before .before .args .live) (c .before .before .args .m) (not-false (c .before .before .args .live) (c .before .if1 .left)) (c .if2 .taken)
 
--- src/lib.rt:322:1
 returns-3 : tie.Need-returns-3
 returns-3 c = end-quiet (c .before .before .before .args .live) (c .before .before .before .args .m) (not-false (c .before .before .before .args .live) (c .before .before .if1 .left)) (c .before .if2 .left)
 

@@ -7,19 +7,15 @@ use Rattle.station.proofs.recover.Tie as tie
 fit : (c : tie.Start) → Fit (c .args .st .marks)
 fit c = record { token = search needs; turn = search needs; testing = search needs; asked = search needs; quiet = search needs }
 
--- src/lib.rt:279:9
 own-links-requires : tie.Need-own-links-requires
 own-links-requires c κs = search needs
 
--- src/lib.rt:280:9
 recovered-words-requires : tie.Need-recovered-words-requires
 recovered-words-requires c κs = search needs
 
--- src/lib.rt:281:9
 tests-on-requires : tie.Need-tests-on-requires
 tests-on-requires c κs = search needs
 
--- src/lib.rt:276:1
 returns : tie.Need-returns
 returns c =
     let a = c .before .before .before .before .args in

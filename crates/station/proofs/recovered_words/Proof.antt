@@ -3,35 +3,27 @@ use borrow.Author.Needs.{needs}
 use Rattle.station.proofs.recovered_words.Statement.{statement}
 use Rattle.station.proofs.recovered_words.Tie as tie
 
--- src/lib.rt:261:9
 without-requires : tie.Need-without-requires
 without-requires c κs = search needs
 
--- src/lib.rt:262:28
 without-requires-2 : tie.Need-without-requires-2
 without-requires-2 c κs = search needs
 
--- src/lib.rt:262:59
 without-requires-3 : tie.Need-without-requires-3
 without-requires-3 c κs = search needs
 
--- src/lib.rt:262:9
 join-requires : tie.Need-join-requires
 join-requires c κs = search needs
 
--- src/lib.rt:263:42
 tests-on-requires : tie.Need-tests-on-requires
 tests-on-requires c κs = search needs
 
--- src/lib.rt:263:9
 join-requires-2 : tie.Need-join-requires-2
 join-requires-2 c κs = search needs
 
--- src/lib.rt:264:20
 without-requires-4 : tie.Need-without-requires-4
 without-requires-4 c κs = search needs
 
--- src/lib.rt:258:1
 returns : tie.Need-returns
 returns c =
     let a = c .before .before .before .before .before .before .before .args in

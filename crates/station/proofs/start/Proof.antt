@@ -3,11 +3,9 @@ use borrow.Author.Needs.{needs}
 use Rattle.station.proofs.start.Statement.{statement}
 use Rattle.station.proofs.start.Tie as tie
 
--- src/lib.rt:168:9
 own-links-requires : tie.Need-own-links-requires
 own-links-requires c κs = search needs
 
--- src/lib.rt:165:1
 returns : tie.Need-returns
 returns c =
     let a = c .before .before .args in

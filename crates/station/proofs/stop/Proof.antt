@@ -17,45 +17,35 @@ Inv-loop m counters₀ k₀ counters k = (counters ≡ filled (λ j. 1) counters
 abbrev μ-loop : tie.MeasureT-loop
 μ-loop m counters₀ k₀ counters k = m - k
 
--- src/lib.rt:238:9
 at-most-64-requires : tie.Need-at-most-64-requires Inv-loop μ-loop
 at-most-64-requires c κs = search needs
 
--- src/lib.rt:239:24
 no-counters-requires : tie.Need-no-counters-requires Inv-loop μ-loop
 no-counters-requires c κs = search needs
 
--- src/lib.rt:240:5
 loop-holds : tie.Need-loop-holds Inv-loop μ-loop
 loop-holds c = (refl, omega arith)
 
--- src/lib.rt:241:17
 cast-i : tie.Need-cast-i Inv-loop μ-loop
 cast-i c = omega arith
 
--- src/lib.rt:242:9
 mul-counters : tie.Need-mul-counters Inv-loop μ-loop
 mul-counters c = omega arith
 
--- src/lib.rt:242:9
 array-write-counters : tie.Need-array-write-counters Inv-loop μ-loop
 array-write-counters c = omega arith
 
--- src/lib.rt:240:9
 add-k : tie.Need-add-k Inv-loop μ-loop
 add-k c = omega arith
 
--- src/lib.rt:240:5
 loop-less : tie.Need-loop-less Inv-loop μ-loop
 loop-less c = omega arith
 
--- src/lib.rt:240:5
 loop-again : tie.Need-loop-again Inv-loop μ-loop
 loop-again c =
     let l = c .before .loop in
     (ap (λ (xs : List ℕ). set xs (l .k) 1) (l .inv .0) ∙ filled-more (λ j. 1) (c .before .before .no-counters .result) (l .k) (omega (arith, ap length (c .before .before .no-counters .ensures))), omega arith)
 
--- src/lib.rt:235:1
 returns : tie.Need-returns Inv-loop μ-loop
 returns c =
     let net = c .before .before .before .before .args .net in

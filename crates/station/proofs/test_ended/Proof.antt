@@ -1,11 +1,9 @@
 use Rattle.station.proofs.test_ended.Statement.{statement}
 use Rattle.station.proofs.test_ended.Tie as tie
 
--- src/lib.rt:86:9
 returns : tie.Need-returns
 returns c = simp (c .if1 .taken)
 
--- src/lib.rt:82:1
 returns-2 : tie.Need-returns-2
 returns-2 c = simp (c .if1 .left)
 

@@ -3,19 +3,15 @@ use borrow.Author.Needs.{needs}
 use Rattle.station.proofs.tests_on.Statement.{statement}
 use Rattle.station.proofs.tests_on.Tie as tie
 
--- src/lib.rt:271:34
 without-requires : tie.Need-without-requires
 without-requires c κs = search needs
 
--- src/lib.rt:271:9
 without-requires-2 : tie.Need-without-requires-2
 without-requires-2 c κs = search needs
 
--- src/lib.rt:272:5
 without-requires-3 : tie.Need-without-requires-3
 without-requires-3 c κs = search needs
 
--- src/lib.rt:268:1
 returns : tie.Need-returns
 returns c = tests-are (c .before .before .before .args .own) (c .before .before .before .args .w) _ _ _ (c .before .before .without .ensures) (c .before .without2 .ensures) (c .without3 .ensures)
 
