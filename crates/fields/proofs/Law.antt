@@ -22,7 +22,7 @@ cut-written tag value rest =
     ∙ simp (le-ltb (length (value ++ rest)) (length value) (omega (arith, length-append value rest)), take-append-seam value rest, drop-append-seam value rest)
 
 -- what a value that was cut says of the bytes
-value-cut : (tag n : ℕ) (bytes : List ℕ) (t : ℕ) (v r : List ℕ) → cutValue tag n bytes ≡ field t v r → (tag ≡ t) × (length v ≡ n) × (bytes ≡ v ++ r)
+pub value-cut : (tag n : ℕ) (bytes : List ℕ) (t : ℕ) (v r : List ℕ) → cutValue tag n bytes ≡ field t v r → (tag ≡ t) × (length v ≡ n) × (bytes ≡ v ++ r)
 value-cut tag n bytes t v r e = go (ltb (length bytes) n) refl e
   where
     go : (b : Bool) → ltb (length bytes) n ≡ b → (if b then short else field tag (take n bytes) (drop n bytes)) ≡ field t v r → (tag ≡ t) × (length v ≡ n) × (bytes ≡ v ++ r)
