@@ -1,5 +1,5 @@
 -- What a judgement says of the field: read backwards. Assumes nothing.
-use Prim.Native.Nat.{ℕ}
+use Prim.Native.Nat.{ℕ, zero, suc}
 use mathlib.Core.Bool.{Bool, true, false, not, _&&_}
 use mathlib.Core.Path.{_≡_, refl, sym, ap, _∙_, subst}
 use mathlib.Core.List.{List, [], _∷_, _++_}
@@ -10,7 +10,7 @@ use Rattle.lists.specs.Lists.{if_then_else_}
 use Rattle.lists.proofs.Tests.{and-l, and-r, if-elim}
 use Rattle.fields.specs.Fields.{Field, short, field, isField, isEmpty}
 use Rattle.net.specs.Network.{Ends, precedes, endsHold}
-use Rattle.sheet.specs.Sheet.{Opening, faulty, stations, stationsHold, opened, Verdict, wrong, link, last, linkOf, judged}
+use Rattle.sheet.specs.Sheet.{Sheet, refused, sheet, Opening, faulty, stations, stationsHold, opened, Verdict, wrong, link, last, linkOf, judged, readLinks}
 
 not-not : (b : Bool) → T (not (not b)) → T b
 not-not true t = tt
@@ -107,3 +107,19 @@ is-last n prev (field t v r) p =
   where
     P : Verdict → Type 0
     P x = x ≡ last → field t v r ≡ field 15 [] []
+
+-- ---- what a field that is no link leads to, whatever room is left
+pub wrong-read : (room n : ℕ) (so : List Ends) (k : ℕ) → readLinks room n so (wrong k) ≡ refused k
+unfolding readLinks
+wrong-read zero n so k = refl
+wrong-read (suc room) n so k = refl
+
+pub last-read : (room n : ℕ) (so : List Ends) → readLinks room n so last ≡ sheet (record { stations = n; links = so })
+unfolding readLinks
+last-read zero n so = refl
+last-read (suc room) n so = refl
+
+-- a link for which there is no room
+pub full-read : (n : ℕ) (so : List Ends) (e : Ends) (rest : List ℕ) → readLinks 0 n so (link e rest) ≡ refused 5
+unfolding readLinks
+full-read n so e rest = refl

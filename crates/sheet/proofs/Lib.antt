@@ -4,3 +4,4 @@ pub mod Steps
 pub mod Loop
 pub mod Output
 pub mod Laws
+pub mod Refusals

@@ -18,7 +18,7 @@ use Rattle.sheet.specs.declared.Next.the-variants.{Wrong, Link, Last}
 use Rattle.sheet.specs.Sheet.{Sheet, refused, sheet, Opening, faulty, stations, opened, Verdict, wrong, link, last, noLink, judged, readLinks, readOpened, readSheet}
 use Rattle.sheet.specs.Values.{numberOf, roomOf, valueOf, sheetNumber, sheetNet, Says}
 use Rattle.sheet.specs.Steps.{refusedAs, endsOf, verdictOf, linksOf}
-use Rattle.sheet.proofs.Judged.{IsLink, is-link, IsStations, is-stations}
+use Rattle.sheet.proofs.Judged.{IsLink, is-link, IsStations, is-stations, wrong-read, last-read}
 
 -- ---- the room
 pub length-room : (xs : List ℕ) → length xs ≤ 64 → length (roomOf xs) ≡ 64
@@ -36,16 +36,6 @@ room-more xs x k e h =
     ∙ ap (λ (m : ℕ). (xs ++ (x ∷ [])) ++ replicate m 0) q
 
 -- ---- at a field
-links-wrong : (room n : ℕ) (so : List Ends) (j : ℕ) → readLinks room n so (wrong j) ≡ refused j
-unfolding readLinks
-links-wrong zero n so j = refl
-links-wrong (suc room) n so j = refl
-
-links-last : (room n : ℕ) (so : List Ends) → readLinks room n so last ≡ sheet (record { stations = n; links = so })
-unfolding readLinks
-links-last zero n so = refl
-links-last (suc room) n so = refl
-
 pub record Standing (whole : Sheet) (n : ℕ) (bytes low high : List ℕ) (a b k at : ℕ) : Type 0 where
   pub so : List Ends
   pub count : length so ≡ k
@@ -75,13 +65,13 @@ module _ (whole : Sheet) (n : ℕ) (bytes low high : List ℕ) (a b k at : ℕ) 
   module _ (next : Next) (p : verdictOf part next ≡ here part) where
     pub standing-wrong : (answer : Answer) (r : Reading) → next ≡ Wrong answer → r ≡ refusedAs answer → Says r whole
     standing-wrong answer r q g =
-        let is = told (wrong (numberOf answer)) next p (ap (verdictOf (drop at bytes)) q) ∙ links-wrong (64 - k) n (s .so) (numberOf answer) in
+        let is = told (wrong (numberOf answer)) next p (ap (verdictOf (drop at bytes)) q) ∙ wrong-read (64 - k) n (s .so) (numberOf answer) in
         subst (λ (x : Reading). Says x whole) (sym g) (record { number = ap sheetNumber (sym is); net = ap sheetNet (sym is) })
 
     pub standing-last : next ≡ Last → Says (record { answer = Good; net = record { stations = n; links = k; low = low; high = high } }) whole
     unfolding valueOf
     standing-last q =
-        let is = told last next p (ap (verdictOf (drop at bytes)) q) ∙ links-last (64 - k) n (s .so) in
+        let is = told last next p (ap (verdictOf (drop at bytes)) q) ∙ last-read (64 - k) n (s .so) in
         record {
           number = ap sheetNumber (sym is);
           net = (λ i. record { stations = n; links = sym (s .count) i; low = s .lows i; high = s .highs i }) ∙ ap sheetNet (sym is);
