@@ -30,8 +30,7 @@ value-cut tag n bytes t v r e = go (ltb (length bytes) n) refl e
     go false p q =
         let tags : tag ≡ t = cc in
         let values : take n bytes ≡ v = cc in
-        let rests : drop n bytes ≡ r = cc in
-        (
+        let rests : drop n bytes ≡ r = cc in (
           tags,
           ap length (sym values) ∙ length-take-le n bytes (ltb-false (length bytes) n p),
           sym (take-append-drop n bytes) ∙ ap₂ (λ (x y : List ℕ). x ++ y) values rests,

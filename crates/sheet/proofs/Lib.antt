@@ -5,3 +5,5 @@ pub mod Loop
 pub mod Output
 pub mod Laws
 pub mod Refusals
+pub mod ValueLaws
+pub mod Cases

@@ -139,9 +139,8 @@ module _ (net : Net) (r : Bool) (e : r ≡ netHolds net) where
           pub write-all : (three last : List ℕ) → last ≡ onto (writeField 15 []) (take (length two - (4 + 5 * net .links)) (drop (4 + 5 * net .links) two))
               → three ≡ take (4 + 5 * net .links) two ++ (last ++ drop (length two - (4 + 5 * net .links)) (drop (4 + 5 * net .links) two))
               → (wroteNumbers (Bytes (4 + 5 * net .links + 3)) ≡ writingNumbers (writing net old)) × (three ≡ writingOutput (writing net old) old)
-          write-all three last f w =
-              (
-                ap (λ (n : ℕ). 0 ∷ n ∷ []) (sym sheet-length) ∙ ap writingNumbers (sym written),
-                w ∙ lent-more (front ++ middle) (writeField 15 []) old two last (4 + 5 * net .links) two-is both-length f
+          write-all three last f w = (
+            ap (λ (n : ℕ). 0 ∷ n ∷ []) (sym sheet-length) ∙ ap writingNumbers (sym written),
+            w ∙ lent-more (front ++ middle) (writeField 15 []) old two last (4 + 5 * net .links) two-is both-length f
                 ∙ ap (λ (b : List ℕ). onto b old) (sym sheet-bytes) ∙ ap (λ (x : Writing). writingOutput x old) (sym written),
-              )
+          )

@@ -48,9 +48,9 @@ unfoldable pub judged : ℕ → Ends → Field → Verdict
 judged n prev short = wrong 1
 judged n prev (field t v rest) =
     if isField 2 2 t v then
-      (if not (endsHold n (linkOf v)) then wrong 3
-      else (if not (precedes prev (linkOf v)) then wrong 4
-      else link (linkOf v) rest))
+    (if not (endsHold n (linkOf v)) then wrong 3
+    else (if not (precedes prev (linkOf v)) then wrong 4
+    else link (linkOf v) rest))
     else (if isField 15 0 t v && isEmpty rest then last else wrong 2)
 
 -- a sheet of n stations with the links so far, at a later field; `on` is what a link and the bytes after it lead to
