@@ -12,6 +12,7 @@ use Rattle.lists.proofs.Tests.{and-l, and-r, is-T}
 use Rattle.lists.proofs.Numbers.{below-snoc, length-map-below}
 use Rattle.lists.proofs.Fill.{map-append}
 use Rattle.fields.specs.Fields.{writeField, onto}
+use Rattle.fields.specs.Output.{Writing, denied, bytes, fitting, writingNumbers, writingOutput}
 use Rattle.fields.proofs.Seen.{length-field, length-onto, lent-more}
 use Rattle.net.specs.declared.Net.{Net}
 use Rattle.net.specs.Network.{Ends, Network, sheetHolds}
@@ -19,7 +20,7 @@ use Rattle.net.specs.Values.{networkOf, linkCount, isZero, netHolds}
 use Rattle.sheet.specs.declared.Wrote.{Wrote}
 use Rattle.sheet.specs.declared.Wrote.the-variants.{Bytes, OutputShort, BadNetwork}
 use Rattle.sheet.specs.Sheet.{linkBytes, writeLinks, writeSheet}
-use Rattle.sheet.specs.Values.{Writing, denied, bytes, writing, writingNumbers, wroteNumbers, writingOutput}
+use Rattle.sheet.specs.Values.{writing, wroteNumbers}
 use Rattle.sheet.specs.Steps.{endsOf, firstEnds}
 
 -- ---- the links
@@ -108,14 +109,14 @@ module _ (net : Net) (r : Bool) (e : r ≡ netHolds net) where
         ∙ omega (arith, length-append front middle, front-length, first-length (net .low) (net .high) (net .links), length-field 15 [])
 
     pub write-short : (old : List ℕ) → length old < 4 + 5 * net .links + 3 → (wroteNumbers OutputShort ≡ writingNumbers (writing net old)) × (old ≡ writingOutput (writing net old) old)
-    unfolding writing
+    unfolding writing fitting
     write-short old l =
         let s = lt-ltb (length old) (length (writeSheet (networkOf net))) (omega (arith, sheet-length)) in
         (simp (good, s), simp (good, s))
 
     module _ (old : List ℕ) (l : 4 + 5 * net .links + 3 ≤ length old) where
       written : writing net old ≡ bytes (writeSheet (networkOf net))
-      unfolding writing
+      unfolding writing fitting
       written = let s = le-ltb (length old) (length (writeSheet (networkOf net))) (omega (arith, sheet-length)) in simp (good, s)
 
       -- the output after the first field, after the links, and at the end

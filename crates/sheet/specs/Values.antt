@@ -3,10 +3,9 @@ use Prim.Native.Nat.{ℕ, _-_}
 use mathlib.Core.Bool.{Bool, true, false, not}
 use mathlib.Core.Path.{_≡_}
 use mathlib.Core.List.{List, [], _∷_, _++_, map}
-use lib.Dec.{ltb}
 use lib.ListN.{length, replicate}
 use Rattle.lists.specs.Lists.{if_then_else_}
-use Rattle.fields.specs.Fields.{onto}
+use Rattle.fields.specs.Output.{Writing, denied, bytes, fitting}
 use Rattle.net.specs.declared.Net.{Net}
 use Rattle.net.specs.Network.{Ends, Network}
 use Rattle.net.specs.Values.{networkOf, netHolds}
@@ -55,28 +54,13 @@ pub record Says (r : Reading) (s : Sheet) : Type 0 where
   pub net : r .net ≡ sheetNet s
 
 -- ---- writing
--- the number of a refusal, or the bytes
-pub data Writing : Type 0 where
-  denied : ℕ → Writing
-  bytes : List ℕ → Writing
-
 unfoldable pub writing : Net → List ℕ → Writing
 writing net old =
     if not (netHolds net) then denied 11
-    else (if ltb (length old) (length (writeSheet (networkOf net))) then denied 10
-    else bytes (writeSheet (networkOf net)))
+    else fitting (writeSheet (networkOf net)) old
 
 -- the number, and how many bytes were written
-abbrev pub writingNumbers : Writing → List ℕ
-writingNumbers (denied k) = k ∷ []
-writingNumbers (bytes bs) = 0 ∷ length bs ∷ []
-
 abbrev pub wroteNumbers : Wrote → List ℕ
 wroteNumbers (Bytes n) = 0 ∷ n ∷ []
 wroteNumbers OutputShort = 10 ∷ []
 wroteNumbers BadNetwork = 11 ∷ []
-
--- the output after: the bytes and the old tail; after a refusal the old contents
-abbrev pub writingOutput : Writing → List ℕ → List ℕ
-writingOutput (denied k) old = old
-writingOutput (bytes bs) old = onto bs old

@@ -1,0 +1,1 @@
+-- What the private steps of the code answer. Assumes nothing.
