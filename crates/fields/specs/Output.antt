@@ -10,18 +10,18 @@ use Rattle.fields.specs.Fields.{onto}
 -- the number of a refusal, or the bytes that are written
 pub data Writing : Type 0 where
   denied : ℕ → Writing
-  bytes : List ℕ → Writing
+  writes : List ℕ → Writing
 
 -- bytes for an output: 10 where it is too short
 unfoldable pub fitting : List ℕ → List ℕ → Writing
-fitting new old = if ltb (length old) (length new) then denied 10 else bytes new
+fitting new old = if ltb (length old) (length new) then denied 10 else writes new
 
 -- the number, and how many bytes were written
 abbrev pub writingNumbers : Writing → List ℕ
 writingNumbers (denied k) = k ∷ []
-writingNumbers (bytes new) = 0 ∷ length new ∷ []
+writingNumbers (writes new) = 0 ∷ length new ∷ []
 
 -- the output after: the bytes and the old tail; after a refusal the old contents
 abbrev pub writingOutput : Writing → List ℕ → List ℕ
 writingOutput (denied k) old = old
-writingOutput (bytes new) old = onto new old
+writingOutput (writes new) old = onto new old

@@ -4,7 +4,7 @@ use Prim.Native.Nat.{ℕ}
 use mathlib.Core.Bool.{Bool, true, false, not}
 use mathlib.Core.List.{List, [], _∷_}
 use Rattle.lists.specs.Lists.{if_then_else_}
-use Rattle.fields.specs.Output.{Writing, denied, bytes, fitting}
+use Rattle.fields.specs.Output.{Writing, denied, fitting}
 use Rattle.net.specs.declared.Net.{Net}
 use Rattle.net.specs.declared.Letter.{Letter}
 use Rattle.net.specs.Values.{networkOf, netHolds}

@@ -12,7 +12,7 @@ use Rattle.lists.proofs.Tests.{and-l, and-r, is-T}
 use Rattle.lists.proofs.Numbers.{below-snoc, length-map-below}
 use Rattle.lists.proofs.Fill.{map-append}
 use Rattle.fields.specs.Fields.{writeField, onto}
-use Rattle.fields.specs.Output.{Writing, denied, bytes, fitting, writingNumbers, writingOutput}
+use Rattle.fields.specs.Output.{Writing, denied, writes, fitting, writingNumbers, writingOutput}
 use Rattle.fields.proofs.Seen.{length-field, length-onto, lent-more}
 use Rattle.net.specs.declared.Net.{Net}
 use Rattle.net.specs.Network.{Ends, Network, sheetHolds}
@@ -115,7 +115,7 @@ module _ (net : Net) (r : Bool) (e : r ≡ netHolds net) where
         (simp (good, s), simp (good, s))
 
     module _ (old : List ℕ) (l : 4 + 5 * net .links + 3 ≤ length old) where
-      written : writing net old ≡ bytes (writeSheet (networkOf net))
+      written : writing net old ≡ writes (writeSheet (networkOf net))
       unfolding writing fitting
       written = let s = le-ltb (length old) (length (writeSheet (networkOf net))) (omega (arith, sheet-length)) in simp (good, s)
 
