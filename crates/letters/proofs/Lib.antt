@@ -1,3 +1,4 @@
 pub mod Steps
 pub mod Against
 pub mod Forms
+pub mod Laws
