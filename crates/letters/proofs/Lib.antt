@@ -2,3 +2,4 @@ pub mod Steps
 pub mod Against
 pub mod Forms
 pub mod Laws
+pub mod Refusals

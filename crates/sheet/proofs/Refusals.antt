@@ -6,13 +6,18 @@ use mathlib.Core.Path.{_≡_, refl, sym, ap, ap₂, _∙_, subst, subst⁻¹}
 use mathlib.Core.Logic.{_⊎_, inl, inr, ⊎-elim}
 use mathlib.Core.List.{List, [], _∷_, _++_, append-nil, append-assoc}
 use native.Mathlib.Omega.{arith}
-use lib.Dec.{T}
+use lib.Dec.{T, ltb}
+use borrow.Author.Tests.{lt-ltb, ltb-true}
 use lib.ListN.{length, getD}
 use Rattle.lists.specs.Lists.{if_then_else_}
 use Rattle.lists.proofs.Tests.{and-i}
 use Rattle.fields.specs.Fields.{Field, short, field, firstField, writeField, isField, isEmpty, areBytes}
+use Rattle.fields.specs.Output.{Writing, denied, writes, fitting}
+use Rattle.net.specs.declared.Net.{Net}
+use Rattle.net.specs.Values.{networkOf, netHolds}
 use Rattle.net.specs.Network.{Ends, Network, precedes, endsHold, sheetHolds}
-use Rattle.sheet.specs.Sheet.{Sheet, refused, sheet, Opening, faulty, stations, stationsHold, opened, Verdict, wrong, link, last, linkOf, noLink, judged, readLinks, readOpened, readSheet, linkBytes, writeLinks}
+use Rattle.sheet.specs.Sheet.{Sheet, refused, sheet, Opening, faulty, stations, stationsHold, opened, Verdict, wrong, link, last, linkOf, noLink, judged, readLinks, readOpened, readSheet, linkBytes, writeLinks, writeSheet}
+use Rattle.sheet.specs.Values.{writing}
 use Rattle.sheet.proofs.Rising.{rising, Rules, rules-of, of-rules}
 use Rattle.sheet.proofs.Judged.{IsStations, is-stations, IsLink, is-link, wrong-read, full-read}
 use Rattle.sheet.proofs.Laws.{lastOf, reads-on, stations-written, link-written, rest-bytes}
@@ -176,3 +181,25 @@ refused-when bytes k (full net rest e more b l p) =
     let z : 64 - length (net .links) ≡ 0 = omega arith in
     ap readSheet (b .front) ∙ reads-on net rest (rules-of net (b .holds))
     ∙ ap₂ (λ (m : ℕ) (v : Verdict). readLinks m (net .stations) (net .links) v) z p ∙ full-read (net .stations) (net .links) e more
+
+-- ---- writing: 11, then 10
+pub data Denied (net : Net) (old : List ℕ) : ℕ → Type 0 where
+  bad-network : netHolds net ≡ false → Denied net old 11
+  too-short : netHolds net ≡ true → length old < length (writeSheet (networkOf net)) → Denied net old 10
+
+pub denied-only : (net : Net) (old : List ℕ) (k : ℕ) → writing net old ≡ denied k → Denied net old k
+unfolding writing fitting
+denied-only net old k e = go (netHolds net) (ltb (length old) (length new)) refl refl e
+  where
+    new : List ℕ
+    new = writeSheet (networkOf net)
+
+    go : (a b : Bool) → netHolds net ≡ a → ltb (length old) (length new) ≡ b → (if not a then denied 11 else (if b then denied 10 else writes new)) ≡ denied k → Denied net old k
+    go false b p q e = let n : 11 ≡ k = cc in subst (Denied net old) n (bad-network p)
+    go true true p q e = let n : 10 ≡ k = cc in subst (Denied net old) n (too-short p (ltb-true (length old) (length new) q))
+    go true false p q e = let n : _≡_ {A = ℕ} 0 1 = cc in absurd (omega arith)
+
+pub denied-when : (net : Net) (old : List ℕ) (k : ℕ) → Denied net old k → writing net old ≡ denied k
+unfolding writing fitting
+denied-when net old k (bad-network p) = rw p
+denied-when net old k (too-short p q) = rw (p, lt-ltb (length old) (length (writeSheet (networkOf net))) q)

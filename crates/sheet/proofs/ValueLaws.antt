@@ -19,8 +19,10 @@ use Rattle.net.specs.Values.{networkOf, placeEnds, linkCount, isZero, netHolds}
 use Rattle.sheet.specs.declared.Answer.{Answer}
 use Rattle.sheet.specs.declared.Answer.the-variants.{Good, Short, Malformed, OutOfRange, OutOfOrder, TooManyLinks}
 use Rattle.sheet.specs.declared.Reading.{Reading}
+use Rattle.sheet.specs.declared.Wrote.{Wrote}
+use Rattle.sheet.specs.declared.Wrote.the-variants.{Bytes, OutputShort, BadNetwork}
 use Rattle.sheet.specs.Sheet.{Sheet, refused, sheet, noLink, readSheet, writeSheet}
-use Rattle.sheet.specs.Values.{numberOf, roomOf, valueOf, sheetNumber, sheetNet, Says}
+use Rattle.sheet.specs.Values.{numberOf, roomOf, valueOf, sheetNumber, sheetNet, Says, wroteNumbers}
 use Rattle.sheet.proofs.Rising.{Rules, rules-of}
 use Rattle.sheet.proofs.Laws.{reads-back, read-holds}
 
@@ -169,3 +171,15 @@ pub value-read : (r : Reading) (v : Net) → T (netHolds v) → length (v .low) 
 value-read r v t ll lh a =
     let e = reads-back (networkOf v) (good-network v t ll lh) in
     (number-one (r .answer) Good (a .number ∙ ap sheetNumber e), a .net ∙ ap sheetNet e ∙ value-back v t ll lh)
+
+-- and so for writing
+pub one-wrote : (a b : Wrote) → wroteNumbers a ≡ wroteNumbers b → a ≡ b
+one-wrote a b e = sym (is a) ∙ ap back e ∙ is b
+  where
+    back : List ℕ → Wrote
+    back l = if eqb (getD l 0 0) 0 then Bytes (getD l 1 0) else (if eqb (getD l 0 0) 10 then OutputShort else BadNetwork)
+
+    is : (x : Wrote) → back (wroteNumbers x) ≡ x
+    is (Bytes n) = refl
+    is OutputShort = refl
+    is BadNetwork = refl
