@@ -81,7 +81,7 @@ reads-back net x t =
     let e = isEnd net k (x .sender) in
     let u = and-l (a && e) (bodyHolds net b) t in
     let good : valuesHold net k side b ≡ true = T-is (valuesHold net k side b)
-        (and-i (a && leb side 1) _ (and-i a _ (and-l a e u) (side-small net k (x .sender))) (and-r (a && e) (bodyHolds net b) t)) in
+    (and-i (a && leb side 1) _ (and-i a _ (and-l a e u) (side-small net k (x .sender))) (and-r (a && e) (bodyHolds net b) t)) in
     ap (λ (l : List ℕ). letterFrom net (firstField l)) (bytes-are k side b ∙ sym (append-nil (writeField (tagOf b) v)))
     ∙ ap (letterFrom net) (cut-written (tagOf b) v [])
     ∙ ap (λ (f : Form). judged net k side f []) (form-back k side b)

@@ -136,8 +136,7 @@ module _ (tag : ℕ) (value old : List ℕ) (small : length value ≤ 5) (n : �
       go (yes h) = absurd (z (s ∙ sym (put-short tag value old h .0)))
       go (no h) =
           let t = le-ltb (length old) (length (writeField tag value)) (omega (arith, length-field tag value)) in
-          let e : n ≡ length (writeField tag value) = omega (arith, s, size-written tag value old (omega arith) (omega arith), length-field tag value) in
-          (
+          let e : n ≡ length (writeField tag value) = omega (arith, s, size-written tag value old (omega arith) (omega arith), length-field tag value) in (
             ap (λ (m : ℕ). 0 ∷ m ∷ []) e ∙ simp t,
             o ∙ put-written tag value old (omega arith) (omega arith) ∙ simp t,
           )
