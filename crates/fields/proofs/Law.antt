@@ -1,18 +1,18 @@
 -- The law of fields, for sheets and letters alike: what is written is cut back, and what is cut was written so.
 -- Assumes nothing.
-use Prim.Native.Nat.{ℕ, _+_, _*_, _/_, _%_, _≤_, _<_}
-use mathlib.Core.Bool.{Bool, true, false, not, _&&_}
-use mathlib.Core.Path.{_≡_, refl, sym, ap, ap₂, _∙_, subst}
+use Prim.Native.Nat.{ℕ, _/_, _%_, _≤_, _<_}
+use mathlib.Core.Bool.{Bool, true, false}
+use mathlib.Core.Path.{_≡_, refl, sym, ap, ap₂, _∙_, subst, subst⁻¹}
 use mathlib.Core.List.{List, [], _∷_, _++_}
 use native.Mathlib.Nat.{div-add-mod'}
 use native.Mathlib.Omega.{arith}
-use lib.Dec.{T, ltb, ltb→lt}
+use lib.Dec.{T, ltb, ltb→lt, lt→ltb}
 use lib.ListN.{length, take, drop, length-append, take-append-drop}
 use lib.Seq.{take-append-seam, drop-append-seam, length-take-le}
 use borrow.Author.Tests.{le-ltb, ltb-false}
-use Rattle.lists.specs.Lists.{if_then_else_, every}
-use Rattle.lists.proofs.Tests.{and-l, and-r, every-append}
-use Rattle.fields.specs.Fields.{Field, short, field, wide, cutValue, firstField, writeField, areBytes}
+use Rattle.lists.specs.Lists.{if_then_else_}
+use Rattle.lists.proofs.Tests.{and-l, and-r, and-i, every-append}
+use Rattle.fields.specs.Fields.{short, field, wide, cutValue, firstField, writeField, areBytes}
 
 -- what was written is cut back, whatever follows
 pub cut-written : (tag : ℕ) (value rest : List ℕ) → firstField (writeField tag value ++ rest) ≡ field tag value rest
@@ -57,3 +57,15 @@ pub parts-bytes : (xs ys : List ℕ) → T (areBytes (xs ++ ys)) → T (areBytes
 parts-bytes xs ys t =
     let u = subst T (every-append (λ b. ltb b 256) xs ys) t in
     (and-l (areBytes xs) _ u, and-r (areBytes xs) _ u)
+
+pub bytes-append : (xs ys : List ℕ) → T (areBytes xs) → T (areBytes ys) → T (areBytes (xs ++ ys))
+bytes-append xs ys t u = subst⁻¹ T (every-append (λ b. ltb b 256) xs ys) (and-i (areBytes xs) _ t u)
+
+-- a field of bytes whose length fits in two bytes is written in bytes
+pub field-bytes : (tag : ℕ) (value : List ℕ) → tag < 256 → length value ≤ 65535 → T (areBytes value) → T (areBytes (writeField tag value))
+unfolding writeField
+field-bytes tag value h l t =
+    let high : length value / 256 < 256 = omega arith in
+    let low : length value % 256 < 256 = omega arith in
+    and-i (ltb tag 256) _ (lt→ltb tag 256 h) (and-i (ltb (length value / 256) 256) _ (lt→ltb (length value / 256) 256 high)
+    (and-i (ltb (length value % 256) 256) _ (lt→ltb (length value % 256) 256 low) t))

@@ -1,19 +1,14 @@
 -- For callers: what an answer of `cut_first` says of the bytes, and what `put` leaves where the field fits. Assumes nothing.
-use Prim.Native.Nat.{ℕ, suc, _+_, _-_, _≤_, _<_}
-use mathlib.Core.Bool.{Bool, true, false, _&&_}
+use Prim.Native.Nat.{ℕ, _+_, _-_, _≤_, _<_}
 use mathlib.Core.Path.{_≡_, refl, sym, ap, ap₂, _∙_}
-use mathlib.Core.Logic.{_⊎_, inl, inr}
-use mathlib.Core.List.{List, [], _∷_, _++_, append-assoc, append-nil}
+use mathlib.Core.List.{List, [], _++_, append-assoc, append-nil}
 use native.Mathlib.Decide.{decLt}
 use native.Mathlib.Omega.{arith}
-use lib.Dec.{ltb, leb}
 use lib.ListN.{length, getD, take, drop, length-drop, length-append, drop-of-length-le}
 use lib.Seq.{take-at, drop-at, take-all, drop-drop, length-take-le, getD-take, getD-drop}
 use borrow.Author.Tests.{lt-ltb, le-ltb, le-leb}
-use Rattle.lists.specs.Lists.{if_then_else_}
-use Rattle.fields.specs.declared.Cut.{Cut}
 use Rattle.fields.specs.declared.Cut.the-variants.{Short, Whole}
-use Rattle.fields.specs.Fields.{Field, short, field, wide, cutValue, firstField, writeField, onto, cutOf, fieldFits, putField, putSize}
+use Rattle.fields.specs.Fields.{Field, short, field, wide, cutValue, firstField, writeField, onto, cutOf, putField, putSize}
 use Rattle.fields.proofs.Law.{value-cut}
 use Rattle.fields.proofs.Steps.{head-short, head-whole}
 

@@ -1,19 +1,15 @@
 -- What the code sees of the field at the front, and what its stores leave. Assumes nothing.
-use Prim.Native.Nat.{ℕ, suc, _+_, _-_, _*_, _/_, _%_, _≤_, _<_}
-use mathlib.Core.Bool.{Bool, true, false, _&&_}
-use mathlib.Core.Path.{_≡_, refl, sym, ap, ap₂, _∙_}
-use mathlib.Core.List.{List, [], _∷_, _++_}
+use Prim.Native.Nat.{ℕ, suc, _+_, _-_, _/_, _%_, _≤_, _<_}
+use mathlib.Core.Path.{_≡_, refl, sym, ap, _∙_}
+use mathlib.Core.List.{List, [], _∷_}
 use native.Mathlib.Numerals.{add-one}
 use native.Mathlib.Omega.{arith}
-use lib.Dec.{ltb, leb}
-use lib.ListN.{length, getD, take, drop, set, length-drop, length-set}
-use lib.Seq.{sets, sets-eq, length-sets, paste, take-length, length-take-le, paste-zero, paste-suc, length-paste}
+use lib.ListN.{length, getD, drop, set, length-drop}
+use lib.Seq.{sets, length-sets, paste, take-length, length-take-le, paste-zero, paste-suc, length-paste}
 use borrow.Author.Tests.{lt-ltb, le-ltb, le-leb, lt-leb}
-use Rattle.lists.specs.Lists.{if_then_else_}
 use Rattle.lists.proofs.Tests.{and-no}
-use Rattle.fields.specs.declared.Cut.{Cut}
 use Rattle.fields.specs.declared.Cut.the-variants.{Short, Whole}
-use Rattle.fields.specs.Fields.{Field, short, field, wide, cutValue, firstField, writeField, onto, cutOf, fieldFits, putField, putSize}
+use Rattle.fields.specs.Fields.{short, wide, cutValue, firstField, writeField, onto, cutOf, putField, putSize}
 
 -- ---- cutting
 pub head-short : (bytes : List ℕ) → length bytes < 3 → firstField bytes ≡ short

@@ -1,16 +1,16 @@
 -- What the returns of `read` and `write` say, against a network. Assumes nothing.
-use Prim.Native.Nat.{ℕ, _+_, _-_, _*_, _/_, _%_, _≤_, _<_, min}
-use mathlib.Core.Bool.{Bool, true, false, not, _&&_, _||_}
+use Prim.Native.Nat.{ℕ, _+_, _≤_, _<_}
+use mathlib.Core.Bool.{Bool, true, false, not, _&&_}
 use mathlib.Core.Path.{_≡_, refl, sym, ap, ap₂, _∙_, subst}
 use mathlib.Core.List.{List, [], _∷_}
 use native.Mathlib.Omega.{arith}
-use lib.Dec.{T, eqb, leb, ltb, leb→le, ltb→lt}
+use lib.Dec.{leb, ltb, leb→le, ltb→lt}
 use lib.ListN.{length, getD, take, drop, length-drop, drop-of-length-le}
 use borrow.Author.Tests.{lt-ltb, le-ltb, not-true, not-false}
-use Rattle.lists.specs.Lists.{if_then_else_, every}
-use Rattle.lists.proofs.Tests.{and-l, and-r, and-no, is-T, if-elim}
-use Rattle.fields.specs.Fields.{Field, short, field, wide, firstField, writeField, isField, isEmpty}
-use Rattle.fields.specs.Output.{Writing, denied, writes, fitting, writingNumbers, writingOutput}
+use Rattle.lists.specs.Lists.{every}
+use Rattle.lists.proofs.Tests.{and-l, and-r, and-no, is-T}
+use Rattle.fields.specs.Fields.{short, firstField, isEmpty}
+use Rattle.fields.specs.Output.{Writing, fitting, writingNumbers, writingOutput}
 use Rattle.fields.proofs.Seen.{Seen, value-at}
 use Rattle.net.specs.declared.Net.{Net}
 use Rattle.net.specs.declared.Body.{Body}
@@ -24,7 +24,7 @@ use Rattle.letters.specs.declared.Shape.{Shape}
 use Rattle.letters.specs.declared.Shape.the-variants.{Unknown, Says}
 use Rattle.letters.specs.declared.Wrote.{Wrote}
 use Rattle.letters.specs.declared.Wrote.the-variants as wrote
-use Rattle.letters.specs.Letters.{Letters, refused, letter, Form, unknown, says, formOf, senderOf, sideOf, valuesHold, judged, letterFrom, readLetter, bodyBytes, writeLetter}
+use Rattle.letters.specs.Letters.{refused, letter, Form, says, formOf, senderOf, sideOf, valuesHold, judged, letterFrom, readLetter, bodyBytes, writeLetter}
 use Rattle.letters.specs.Values.{reading, writing, wroteNumbers}
 use Rattle.letters.proofs.Forms.{IsForm, is-form}
 use Rattle.letters.specs.Steps.{formIn, bodyTest, valuesTest, senderIn, endIn, sideIn}

@@ -1,17 +1,15 @@
 -- What a known form says of the field: read backwards. Assumes nothing.
-use Prim.Native.Nat.{ℕ, _+_, _*_, _/_, _%_, _≤_, _<_}
-use mathlib.Core.Bool.{Bool, true, false, not, _&&_}
+use Prim.Native.Nat.{ℕ, _/_, _%_, _≤_, _<_}
 use mathlib.Core.Path.{_≡_, refl, sym, ap, ap₂, _∙_, subst}
-use mathlib.Core.List.{List, [], _∷_, _++_}
+use mathlib.Core.List.{List, [], _∷_}
 use native.Mathlib.Omega.{arith}
 use lib.Dec.{T, eqb, ltb, ltb→lt, eqb→eq}
 use lib.ListN.{length, getD, drop}
-use Rattle.lists.specs.Lists.{if_then_else_, every}
 use Rattle.lists.proofs.Tests.{and-l, and-r, if-elim, every-at}
 use Rattle.fields.specs.Fields.{wide, writeField, isField, areBytes}
 use Rattle.net.specs.declared.Body.{Body}
 use Rattle.net.specs.declared.Body.the-variants.{Request, Reply, Notice}
-use Rattle.letters.specs.Letters.{Form, unknown, says, formOf, bodyBytes}
+use Rattle.letters.specs.Letters.{Form, says, formOf, bodyBytes}
 
 -- the tag of a body, and what stands in the value after link and side
 abbrev pub tagOf : Body → ℕ

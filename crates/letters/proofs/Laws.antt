@@ -1,27 +1,29 @@
 -- The letter's format: what is written reads back; bytes that read to a letter are exactly what writing it gives; what is
 -- read may travel in the network. Assumes nothing.
-use Prim.Native.Nat.{ℕ, zero, suc, _+_, _*_, _/_, _%_, _≤_, _<_}
+use Prim.Native.Nat.{ℕ, zero, suc, _/_, _%_, _≤_, _<_}
 use mathlib.Core.Bool.{Bool, true, false, not, _&&_, _||_}
 use mathlib.Core.Path.{_≡_, refl, sym, ap, ap₂, _∙_, subst, subst⁻¹}
-use mathlib.Core.Logic.{_⊎_, inl, inr, ⊎-elim}
 use mathlib.Core.List.{List, [], _∷_, _++_, append-nil}
 use native.Mathlib.Nat.{div-add-mod'}
 use native.Mathlib.Omega.{arith}
-use lib.Dec.{T, eqb, leb, ltb, leb→le, ltb→lt, eqb→eq, eqb-refl}
-use lib.ListN.{length, getD}
-use borrow.Author.Tests.{ne-eqb, eqb-true, not-true, not-false}
+use lib.Dec.{T, eqb, leb, ltb, leb→le, ltb→lt, lt→ltb, eqb→eq, eqb-refl}
+use lib.ListN.{length, getD, drop}
+use borrow.Author.Tests.{ne-eqb, eqb-true}
 use Rattle.lists.specs.Lists.{if_then_else_, every}
-use Rattle.lists.proofs.Tests.{and-l, and-r, and-i, or-left, or-right, T-is, is-T, if-elim, eq→eqb}
+use Rattle.lists.proofs.Tests.{and-l, and-r, and-i, or-left, or-right, T-is, is-T, if-elim}
 use Rattle.lists.proofs.Numbers.{below-at}
-use Rattle.fields.specs.Fields.{Field, short, field, wide, firstField, writeField, isField, isEmpty, areBytes}
-use Rattle.fields.proofs.Law.{cut-written, written-cut, parts-bytes}
+use Rattle.fields.specs.Fields.{Field, short, field, firstField, writeField, isEmpty, areBytes}
+use Rattle.fields.proofs.Law.{cut-written, written-cut, parts-bytes, field-bytes}
 use Rattle.net.specs.declared.Body.{Body}
 use Rattle.net.specs.declared.Body.the-variants.{Request, Reply, Notice}
 use Rattle.net.specs.declared.Letter.{Letter}
-use Rattle.net.specs.Network.{Ends, Network, ends, linkNumbers, isEnd, endsHold, linkHolds, sheetHolds}
+use Rattle.net.specs.Network.{Network, ends, isEnd, endsHold, linkHolds, sheetHolds}
+use Rattle.net.specs.declared.Net.{Net}
+use Rattle.net.specs.Values.{networkOf, linkCount, isZero, netHolds}
 use Rattle.net.specs.Letters.{isCounter, bodyHolds, letterHolds}
-use Rattle.letters.specs.Letters.{Letters, refused, letter, Form, unknown, says, formOf, senderOf, sideOf, valuesHold, judged, letterFrom, readLetter, bodyBytes, writeLetter}
-use Rattle.letters.proofs.Forms.{tagOf, payload, bytes-are, IsForm, is-form}
+use Rattle.letters.specs.Letters.{refused, letter, Form, unknown, says, formOf, senderOf, sideOf, valuesHold, judged, letterFrom, readLetter, bodyBytes, writeLetter}
+use Rattle.letters.specs.Values.{reading}
+use Rattle.letters.proofs.Forms.{tagOf, payload, bytes-are, is-form}
 
 -- ---- side and sender
 module _ (net : Network) (k : ℕ) where
@@ -62,6 +64,21 @@ link-ends net k t h =
     let m = length (net .links) in
     let l = below-at (linkHolds net) m (and-r (leb 1 n && leb n 32 && leb m 64) _ t) k h in
     ltb→lt (ends net k .low) (ends net k .high) (and-l (ltb (ends net k .low) (ends net k .high)) _ (and-l (endsHold n (ends net k)) _ l))
+
+few-links : (net : Network) → T (sheetHolds net) → length (net .links) ≤ 64
+unfolding sheetHolds
+few-links net t =
+    let n = net .stations in
+    let m = length (net .links) in
+    leb→le m 64 (and-r (leb 1 n && leb n 32) _ (and-l (leb 1 n && leb n 32 && leb m 64) _ t))
+
+sheet-good : (net : Net) → T (netHolds net) → T (sheetHolds (networkOf net))
+unfolding netHolds
+sheet-good net t =
+    let a = leb (net .stations) 32 && leb (net .links) 64 in
+    let lows = every isZero (drop (linkCount net) (net .low)) in
+    let highs = every isZero (drop (linkCount net) (net .high)) in
+    and-r a (sheetHolds (networkOf net)) (and-l (a && sheetHolds (networkOf net)) lows (and-l (a && sheetHolds (networkOf net) && lows) highs t))
 
 -- ---- what was written reads back
 form-back : (k side : ℕ) (b : Body) → formOf (tagOf b) (k ∷ side ∷ payload b) ≡ says b
@@ -168,3 +185,76 @@ one-writing net bytes x good t e =
 -- so two byte strings never read to one letter
 pub same-bytes : (net : Network) (xs ys : List ℕ) (x : Letter) → T (sheetHolds net) → T (areBytes xs) → T (areBytes ys) → readLetter net xs ≡ letter x → readLetter net ys ≡ letter x → xs ≡ ys
 same-bytes net xs ys x good t u p q = one-writing net xs x good t p ∙ sym (one-writing net ys x good u q)
+
+-- and what is written is bytes: so a letter that may travel in a good network has exactly one writing
+pub writes-bytes : (net : Network) (x : Letter) → T (sheetHolds net) → T (letterHolds net x) → T (areBytes (writeLetter net x))
+unfolding writeLetter letterHolds
+writes-bytes net x good t =
+    subst⁻¹ (λ (l : List ℕ). T (areBytes l)) (bytes-are k side (x .body))
+    (field-bytes (tagOf (x .body)) (k ∷ side ∷ payload (x .body)) (tag-small (x .body)) (payload-small (x .body))
+    (and-i (ltb k 256) _ (lt→ltb k 256 (omega (arith, few, ltb→lt k m (and-l a e u))))
+    (and-i (ltb side 256) _ (lt→ltb side 256 (omega (arith, leb→le side 1 (side-small net k (x .sender)))))
+    (payload-bytes (x .body) (and-r (a && e) (bodyHolds net (x .body)) t)))))
+  where
+    k : ℕ
+    k = x .link
+
+    m : ℕ
+    m = length (net .links)
+
+    side : ℕ
+    side = sideOf net k (x .sender)
+
+    a : Bool
+    a = ltb k m
+
+    e : Bool
+    e = isEnd net k (x .sender)
+
+    u : T (a && e)
+    u = and-l (a && e) (bodyHolds net (x .body)) t
+
+    few : m ≤ 64
+    few = few-links net good
+
+    tag-small : (b : Body) → tagOf b < 256
+    tag-small Request = omega arith
+    tag-small (Reply c) = omega arith
+    tag-small (Notice s c) = omega arith
+
+    payload-small : (b : Body) → length (k ∷ side ∷ payload b) ≤ 65535
+    payload-small Request = omega arith
+    payload-small (Reply c) = omega arith
+    payload-small (Notice s c) = omega arith
+
+    two-bytes : (c : ℕ) → T (isCounter c) → T (areBytes (c / 256 ∷ c % 256 ∷ []))
+    two-bytes c h =
+        let l = leb→le c 65535 (and-r (leb 1 c) _ h) in
+        and-i (ltb (c / 256) 256) _ (lt→ltb (c / 256) 256 (omega arith)) (and-i (ltb (c % 256) 256) _ (lt→ltb (c % 256) 256 (omega arith)) tt)
+
+    payload-bytes : (b : Body) → T (bodyHolds net b) → T (areBytes (payload b))
+    payload-bytes Request h = tt
+    payload-bytes (Reply c) h = two-bytes c h
+    payload-bytes (Notice s c) h =
+        and-i (ltb s 256) _ (lt→ltb s 256 (omega (arith, few, ltb→lt s m (and-l (ltb s m) _ h)))) (two-bytes c (and-r (ltb s m) _ h))
+
+-- ---- the same for a network value, as the code is given one
+module _ (net : Net) (x : Letter) where
+  pub written-read : T (netHolds net) → T (letterHolds (networkOf net) x) → reading net (writeLetter (networkOf net) x) ≡ letter x
+  unfolding reading
+  written-read g t = let h = T-is (netHolds net) g in rw h (reads-back (networkOf net) x t)
+
+  -- a letter was read, so the network was good
+  was-good : (bytes : List ℕ) → reading net bytes ≡ letter x → T (netHolds net) × (readLetter (networkOf net) bytes ≡ letter x)
+  unfolding reading
+  was-good bytes e = go (netHolds net) refl e
+    where
+      go : (b : Bool) → netHolds net ≡ b → (if not b then refused 11 else readLetter (networkOf net) bytes) ≡ letter x → T (netHolds net) × (readLetter (networkOf net) bytes ≡ letter x)
+      go false p q = let z : _≡_ {A = ℕ} 0 1 = cc in absurd (omega arith)
+      go true p q = (is-T (netHolds net) p, q)
+
+  pub read-written : (bytes : List ℕ) → T (areBytes bytes) → reading net bytes ≡ letter x → bytes ≡ writeLetter (networkOf net) x
+  read-written bytes t e = let w = was-good bytes e in one-writing (networkOf net) bytes x (sheet-good net (w .0)) t (w .1)
+
+  pub read-travels : (bytes : List ℕ) → reading net bytes ≡ letter x → T (letterHolds (networkOf net) x)
+  read-travels bytes e = read-holds (networkOf net) bytes x (was-good bytes e .1)

@@ -1,17 +1,17 @@
 -- A letter is refused with a number when, and only when, the list of numbers says so: 11 first, then the field in the order
 -- 1, 2, 3, then bytes after it; to write 11, 3, 10. And each answer of the code is the only one that is allowed.
 -- Assumes nothing.
-use Prim.Native.Nat.{ℕ, _≤_, _<_}
-use mathlib.Core.Bool.{Bool, true, false, not, _&&_}
+use Prim.Native.Nat.{ℕ, _<_}
+use mathlib.Core.Bool.{Bool, true, false, not}
 use mathlib.Core.Path.{_≡_, refl, sym, ap, _∙_, subst}
-use mathlib.Core.List.{List, [], _∷_}
+use mathlib.Core.List.{List}
 use native.Mathlib.Omega.{arith}
 use lib.Dec.{ltb, eqb}
 use lib.ListN.{length, getD}
 use borrow.Author.Tests.{lt-ltb, ltb-true}
 use Rattle.lists.specs.Lists.{if_then_else_}
 use Rattle.fields.specs.Fields.{Field, short, field, wide, firstField, isField, isEmpty}
-use Rattle.fields.specs.Output.{Writing, denied, writes, fitting}
+use Rattle.fields.specs.Output.{denied, writes, fitting}
 use Rattle.net.specs.declared.Net.{Net}
 use Rattle.net.specs.declared.Body.{Body}
 use Rattle.net.specs.declared.Body.the-variants.{Request, Reply, Notice}

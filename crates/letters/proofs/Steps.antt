@@ -1,24 +1,23 @@
 -- What each return of the private steps says, in the order in which the code asks. Assumes nothing.
-use Prim.Native.Nat.{ℕ, _+_, _-_, _*_, _/_, _%_, _≤_, _<_}
-use mathlib.Core.Bool.{Bool, true, false, not, _&&_, _||_}
-use mathlib.Core.Path.{_≡_, refl, sym, ap, ap₂, _∙_}
+use Prim.Native.Nat.{ℕ, _+_, _≤_, _<_}
+use mathlib.Core.Bool.{Bool, true, false, _&&_}
+use mathlib.Core.Path.{_≡_, sym, ap, ap₂, _∙_}
 use mathlib.Core.List.{List, [], _∷_}
 use native.Mathlib.Decide.{decLt}
 use native.Mathlib.Omega.{arith}
-use lib.Dec.{eqb, leb, ltb}
+use lib.Dec.{eqb, leb}
 use lib.ListN.{length, getD, take, drop, length-drop}
 use lib.Seq.{length-take-le}
 use borrow.Author.Tests.{eq-eqb, ne-eqb, lt-ltb, le-ltb, le-leb, lt-leb}
 use Rattle.lists.specs.Lists.{if_then_else_}
 use Rattle.lists.proofs.Tests.{and-no, and-yes}
-use Rattle.fields.specs.Fields.{wide, writeField, onto, putSize, putField}
-use Rattle.fields.specs.Output.{Writing, denied, writes, fitting, writingNumbers, writingOutput}
+use Rattle.fields.specs.Fields.{wide, writeField, putSize, putField}
+use Rattle.fields.specs.Output.{Writing, fitting, writingNumbers, writingOutput}
 use Rattle.fields.proofs.Steps.{put-short}
 use Rattle.fields.proofs.Seen.{value-at, put-written, size-written, length-field}
 use Rattle.net.specs.declared.Body.{Body}
 use Rattle.net.specs.declared.Body.the-variants.{Request, Reply, Notice}
 use Rattle.net.specs.Letters.{isCounter}
-use Rattle.letters.specs.declared.Wrote.{Wrote}
 use Rattle.letters.specs.declared.Wrote.the-variants as wrote
 use Rattle.letters.specs.Letters.{Form, unknown, says, formOf}
 use Rattle.letters.specs.Values.{wroteNumbers}

@@ -1,6 +1,6 @@
 -- What the private steps of the code answer. Assumes nothing.
 use Prim.Native.Nat.{ℕ}
-use mathlib.Core.Bool.{Bool, true, false, _&&_, _||_}
+use mathlib.Core.Bool.{Bool, true, _&&_, _||_}
 use lib.Dec.{eqb, ltb, leb}
 use Rattle.lists.specs.Lists.{if_then_else_}
 use Rattle.net.specs.declared.Body.{Body}

@@ -1,7 +1,7 @@
 -- What the code's answers mean: the paper's number for each case, and the value with it. A network given that breaks the
 -- sheet rules, or has unused room not zero, comes before all else. Assumes nothing.
 use Prim.Native.Nat.{ℕ}
-use mathlib.Core.Bool.{Bool, true, false, not}
+use mathlib.Core.Bool.{not}
 use mathlib.Core.List.{List, [], _∷_}
 use Rattle.lists.specs.Lists.{if_then_else_}
 use Rattle.fields.specs.Output.{Writing, denied, fitting}

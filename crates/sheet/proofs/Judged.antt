@@ -1,16 +1,15 @@
 -- What a judgement says of the field: read backwards. Assumes nothing.
 use Prim.Native.Nat.{ℕ, zero, suc}
 use mathlib.Core.Bool.{Bool, true, false, not, _&&_}
-use mathlib.Core.Path.{_≡_, refl, sym, ap, _∙_, subst}
-use mathlib.Core.List.{List, [], _∷_, _++_}
+use mathlib.Core.Path.{_≡_, refl, ap, subst}
+use mathlib.Core.List.{List, [], _∷_}
 use native.Mathlib.Omega.{arith}
 use lib.Dec.{T, eqb, eqb→eq}
 use lib.ListN.{length, getD}
-use Rattle.lists.specs.Lists.{if_then_else_}
 use Rattle.lists.proofs.Tests.{and-l, and-r, if-elim}
 use Rattle.fields.specs.Fields.{Field, short, field, isField, isEmpty}
 use Rattle.net.specs.Network.{Ends, precedes, endsHold}
-use Rattle.sheet.specs.Sheet.{Sheet, refused, sheet, Opening, faulty, stations, stationsHold, opened, Verdict, wrong, link, last, linkOf, judged, readLinks}
+use Rattle.sheet.specs.Sheet.{refused, sheet, Opening, stations, stationsHold, opened, Verdict, wrong, link, last, linkOf, judged, readLinks}
 
 not-not : (b : Bool) → T (not (not b)) → T b
 not-not true t = tt

@@ -1,20 +1,19 @@
 -- The sheet's format: what is written reads back; bytes that read to a network are exactly what writing it gives; what is
 -- read keeps the sheet rules. Assumes nothing.
-use Prim.Native.Nat.{ℕ, zero, suc, _+_, _-_, _≤_, _<_}
-use mathlib.Core.Bool.{Bool, true, false, not, _&&_}
-use mathlib.Core.Path.{_≡_, refl, sym, ap, ap₂, _∙_, subst, subst⁻¹}
+use Prim.Native.Nat.{ℕ, zero, suc, _+_, _-_, _≤_}
+use mathlib.Core.Bool.{_&&_}
+use mathlib.Core.Path.{_≡_, refl, sym, ap, _∙_, subst, subst⁻¹}
 use mathlib.Core.List.{List, [], _∷_, _++_, append-nil, append-assoc}
 use native.Mathlib.Omega.{arith}
-use lib.Dec.{T, eqb}
+use lib.Dec.{T, leb, ltb, ltb→lt, lt→ltb, leb→le}
 use lib.ListN.{length, getD}
-use Rattle.lists.specs.Lists.{if_then_else_}
 use Rattle.lists.proofs.Tests.{and-l, and-r, and-i, T-is}
-use Rattle.fields.specs.Fields.{Field, short, field, firstField, writeField, isField, isEmpty, areBytes}
-use Rattle.fields.proofs.Law.{cut-written, written-cut, parts-bytes}
+use Rattle.fields.specs.Fields.{firstField, writeField, areBytes}
+use Rattle.fields.proofs.Law.{cut-written, written-cut, parts-bytes, bytes-append, field-bytes}
 use Rattle.net.specs.Network.{Ends, Network, precedes, endsHold, sheetHolds}
-use Rattle.sheet.specs.Sheet.{Sheet, refused, sheet, Opening, faulty, stations, stationsHold, opened, Verdict, wrong, link, last, linkOf, noLink, judged, readOn, readLinks, readOpened, readSheet, linkBytes, writeLinks, writeSheet}
+use Rattle.sheet.specs.Sheet.{sheet, Opening, faulty, stations, stationsHold, opened, Verdict, wrong, link, last, noLink, judged, readLinks, readOpened, readSheet, linkBytes, writeLinks, writeSheet}
 use Rattle.sheet.proofs.Rising.{rising, Rules, rules-of, of-rules}
-use Rattle.sheet.proofs.Judged.{IsStations, is-stations, IsLink, is-link, is-last, last-read}
+use Rattle.sheet.proofs.Judged.{is-stations, is-link, is-last, last-read}
 
 -- ---- what was written is judged good
 pub open-written : (n : ℕ) (rest : List ℕ) → T (stationsHold n) → opened (firstField (writeField 1 (n ∷ []) ++ rest)) ≡ stations n rest
@@ -190,3 +189,28 @@ one-writing bytes net t e = whole bytes net e .wrote t
 -- so two byte strings never read to one network
 pub same-bytes : (xs ys : List ℕ) (net : Network) → T (areBytes xs) → T (areBytes ys) → readSheet xs ≡ sheet net → readSheet ys ≡ sheet net → xs ≡ ys
 same-bytes xs ys net t u p q = one-writing xs net t p ∙ sym (one-writing ys net u q)
+
+-- and what is written is bytes: so a good network has exactly one writing
+links-bytes : (n : ℕ) (prev : Ends) (es : List Ends) → n ≤ 256 → T (rising n prev es) → T (areBytes (writeLinks es))
+unfolding writeLinks
+links-bytes n prev [] h t = tt
+links-bytes n prev (e ∷ es) h t =
+    let u = and-l (endsHold n e) _ (and-l (endsHold n e && precedes prev e) _ t) in
+    let high = ltb→lt (e .high) n (and-r (ltb (e .low) (e .high)) _ u) in
+    let low = ltb→lt (e .low) (e .high) (and-l (ltb (e .low) (e .high)) _ u) in
+    bytes-append (linkBytes e) (writeLinks es)
+    (field-bytes 2 (e .low ∷ e .high ∷ []) (omega arith) (omega arith)
+    (and-i (ltb (e .low) 256) _ (lt→ltb (e .low) 256 (omega arith)) (and-i (ltb (e .high) 256) _ (lt→ltb (e .high) 256 (omega arith)) tt)))
+    (links-bytes n e es h (and-r (endsHold n e && precedes prev e) _ t))
+
+pub writes-bytes : (net : Network) → T (sheetHolds net) → T (areBytes (writeSheet net))
+unfolding writeSheet
+writes-bytes net t =
+    let r = rules-of net t in
+    let n = net .stations in
+    let few : n ≤ 32 = leb→le n 32 (and-r (leb 1 n) _ (r .count)) in
+    bytes-append (writeField 1 (n ∷ []) ++ writeLinks (net .links)) (writeField 15 [])
+    (bytes-append (writeField 1 (n ∷ [])) (writeLinks (net .links))
+    (field-bytes 1 (n ∷ []) (omega arith) (omega arith) (and-i (ltb n 256) _ (lt→ltb n 256 (omega arith)) tt))
+    (links-bytes n noLink (net .links) (omega arith) (r .order)))
+    (field-bytes 15 [] (omega arith) (omega arith) tt)

@@ -1,6 +1,6 @@
 -- Where the loop over a sheet's links stands, and what each field it meets leads to. Assumes nothing.
-use Prim.Native.Nat.{ℕ, zero, suc, _+_, _-_, _≤_, _<_}
-use mathlib.Core.Path.{_≡_, refl, sym, ap, ap₂, _∙_, subst}
+use Prim.Native.Nat.{ℕ, suc, _+_, _-_, _≤_, _<_}
+use mathlib.Core.Path.{_≡_, refl, sym, ap, _∙_, subst}
 use mathlib.Core.List.{List, [], _∷_, _++_, map, append-assoc}
 use native.Mathlib.Omega.{arith}
 use lib.ListN.{length, take, drop, set, replicate, length-append, length-take, length-drop, length-map, length-replicate}
@@ -8,17 +8,16 @@ use lib.Seq.{set-at, drop-drop, take-all}
 use Rattle.lists.proofs.Fill.{map-append}
 use Rattle.fields.specs.Fields.{firstField}
 use Rattle.fields.proofs.Seen.{field-size}
-use Rattle.net.specs.declared.Net.{Net}
-use Rattle.net.specs.Network.{Ends, Network}
+use Rattle.net.specs.Network.{Ends}
 use Rattle.sheet.specs.declared.Answer.{Answer}
 use Rattle.sheet.specs.declared.Answer.the-variants.{Good, TooManyLinks}
 use Rattle.sheet.specs.declared.Reading.{Reading}
 use Rattle.sheet.specs.declared.Next.{Next}
 use Rattle.sheet.specs.declared.Next.the-variants.{Wrong, Link, Last}
-use Rattle.sheet.specs.Sheet.{Sheet, refused, sheet, Opening, faulty, stations, opened, Verdict, wrong, link, last, noLink, judged, readLinks, readOpened, readSheet}
+use Rattle.sheet.specs.Sheet.{Sheet, Opening, faulty, stations, opened, Verdict, wrong, link, last, judged, readLinks, readOpened, readSheet}
 use Rattle.sheet.specs.Values.{numberOf, roomOf, valueOf, sheetNumber, sheetNet, Says}
 use Rattle.sheet.specs.Steps.{refusedAs, endsOf, verdictOf, linksOf}
-use Rattle.sheet.proofs.Judged.{IsLink, is-link, IsStations, is-stations, wrong-read, last-read}
+use Rattle.sheet.proofs.Judged.{is-link, is-stations, wrong-read, last-read}
 
 -- ---- the room
 pub length-room : (xs : List ℕ) → length xs ≤ 64 → length (roomOf xs) ≡ 64

@@ -1,23 +1,22 @@
 -- What is written, field by field, and what each return of `write` says. Assumes nothing.
-use Prim.Native.Nat.{ℕ, zero, suc, _+_, _-_, _*_, _≤_, _<_, min}
+use Prim.Native.Nat.{ℕ, _+_, _-_, _*_, _≤_, _<_, min}
 use mathlib.Core.Bool.{Bool, true, false, not, _&&_}
-use mathlib.Core.Path.{_≡_, refl, sym, ap, ap₂, _∙_, subst}
+use mathlib.Core.Path.{_≡_, refl, sym, ap, ap₂, _∙_}
 use mathlib.Core.List.{List, [], _∷_, _++_, map, append-assoc, append-nil}
 use native.Mathlib.Omega.{arith}
-use lib.Dec.{T, leb, leb→le, ltb}
+use lib.Dec.{T, leb, leb→le}
 use lib.ListN.{length, getD, take, drop, length-append, length-take, length-drop}
 use borrow.Author.Tests.{lt-ltb, le-ltb, not-true, not-false}
-use Rattle.lists.specs.Lists.{if_then_else_, below, every}
+use Rattle.lists.specs.Lists.{below, every}
 use Rattle.lists.proofs.Tests.{and-l, and-r, is-T}
 use Rattle.lists.proofs.Numbers.{below-snoc, length-map-below}
 use Rattle.lists.proofs.Fill.{map-append}
 use Rattle.fields.specs.Fields.{writeField, onto}
-use Rattle.fields.specs.Output.{Writing, denied, writes, fitting, writingNumbers, writingOutput}
+use Rattle.fields.specs.Output.{Writing, writes, fitting, writingNumbers, writingOutput}
 use Rattle.fields.proofs.Seen.{length-field, length-onto, lent-more}
 use Rattle.net.specs.declared.Net.{Net}
-use Rattle.net.specs.Network.{Ends, Network, sheetHolds}
+use Rattle.net.specs.Network.{Ends, sheetHolds}
 use Rattle.net.specs.Values.{networkOf, linkCount, isZero, netHolds}
-use Rattle.sheet.specs.declared.Wrote.{Wrote}
 use Rattle.sheet.specs.declared.Wrote.the-variants.{Bytes, OutputShort, BadNetwork}
 use Rattle.sheet.specs.Sheet.{linkBytes, writeLinks, writeSheet}
 use Rattle.sheet.specs.Values.{writing, wroteNumbers}

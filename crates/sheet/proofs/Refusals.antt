@@ -1,10 +1,10 @@
 -- A sheet is refused with a number when, and only when, the list of numbers says so: a good beginning, then the field that is
 -- at fault, judged in the order 1, 2, 3, 4, 5. Assumes nothing.
-use Prim.Native.Nat.{ℕ, zero, suc, _+_, _-_, _≤_, _<_}
+use Prim.Native.Nat.{ℕ, zero, suc, _-_, _≤_, _<_}
 use mathlib.Core.Bool.{Bool, true, false, not, _&&_}
 use mathlib.Core.Path.{_≡_, refl, sym, ap, ap₂, _∙_, subst, subst⁻¹}
 use mathlib.Core.Logic.{_⊎_, inl, inr, ⊎-elim}
-use mathlib.Core.List.{List, [], _∷_, _++_, append-nil, append-assoc}
+use mathlib.Core.List.{List, [], _∷_, _++_, append-assoc}
 use native.Mathlib.Omega.{arith}
 use lib.Dec.{T, ltb}
 use borrow.Author.Tests.{lt-ltb, ltb-true}
@@ -12,14 +12,14 @@ use lib.ListN.{length, getD}
 use Rattle.lists.specs.Lists.{if_then_else_}
 use Rattle.lists.proofs.Tests.{and-i}
 use Rattle.fields.specs.Fields.{Field, short, field, firstField, writeField, isField, isEmpty, areBytes}
-use Rattle.fields.specs.Output.{Writing, denied, writes, fitting}
+use Rattle.fields.specs.Output.{denied, writes, fitting}
 use Rattle.net.specs.declared.Net.{Net}
 use Rattle.net.specs.Values.{networkOf, netHolds}
 use Rattle.net.specs.Network.{Ends, Network, precedes, endsHold, sheetHolds}
-use Rattle.sheet.specs.Sheet.{Sheet, refused, sheet, Opening, faulty, stations, stationsHold, opened, Verdict, wrong, link, last, linkOf, noLink, judged, readLinks, readOpened, readSheet, linkBytes, writeLinks, writeSheet}
+use Rattle.sheet.specs.Sheet.{refused, Opening, faulty, stations, stationsHold, opened, Verdict, wrong, link, last, linkOf, noLink, judged, readLinks, readOpened, readSheet, linkBytes, writeLinks, writeSheet}
 use Rattle.sheet.specs.Values.{writing}
-use Rattle.sheet.proofs.Rising.{rising, Rules, rules-of, of-rules}
-use Rattle.sheet.proofs.Judged.{IsStations, is-stations, IsLink, is-link, wrong-read, full-read}
+use Rattle.sheet.proofs.Rising.{rising, rules-of, of-rules}
+use Rattle.sheet.proofs.Judged.{is-stations, is-link, wrong-read, full-read}
 use Rattle.sheet.proofs.Laws.{lastOf, reads-on, stations-written, link-written, rest-bytes}
 
 -- ---- the list of numbers

@@ -1,15 +1,14 @@
 -- The sheet rules along the list of links: each is good and comes after the one before it. Assumes nothing.
-use Prim.Native.Nat.{ℕ, zero, suc, _+_, _-_, _≤_, _<_}
-use mathlib.Core.Bool.{Bool, true, false, not, _&&_, _||_}
-use mathlib.Core.Path.{_≡_, refl, sym, ap, _∙_, subst, subst⁻¹}
-use mathlib.Core.Logic.{_⊎_, inl, inr, ⊎-elim}
-use mathlib.Core.List.{List, [], _∷_, _++_}
+use Prim.Native.Nat.{ℕ, zero, suc, _-_, _≤_, _<_}
+use mathlib.Core.Bool.{Bool, true, _&&_, _||_}
+use mathlib.Core.Path.{_≡_, ap, _∙_, subst, subst⁻¹}
+use mathlib.Core.List.{List, [], _∷_}
 use native.Mathlib.Nat.{not-suc-le-zero, le-of-suc-le-suc}
 use native.Mathlib.Omega.{arith}
 use lib.Dec.{T, eqb, leb, ltb, ltb→lt, lt→ltb, leb→le, le→leb, eqb·suc-zero}
 use lib.ListN.{length, getD}
-use Rattle.lists.specs.Lists.{if_then_else_, every, below}
-use Rattle.lists.proofs.Tests.{and-l, and-r, and-i, or-cases, or-left, or-right, eq→eqb}
+use Rattle.lists.specs.Lists.{every}
+use Rattle.lists.proofs.Tests.{and-l, and-r, and-i, or-left}
 use Rattle.lists.proofs.Numbers.{below-at, at-below}
 use Rattle.net.specs.Network.{Ends, Network, ends, linkNumbers, precedes, endsHold, linkHolds, sheetHolds}
 use Rattle.sheet.specs.Sheet.{stationsHold, noLink}

@@ -1,22 +1,22 @@
 -- What each return of the private steps says, in the order in which the code asks. Assumes nothing.
-use Prim.Native.Nat.{ℕ, zero, suc, _+_, _-_, _≤_, _<_}
-use mathlib.Core.Bool.{Bool, true, false, not, _&&_, _||_}
+use Prim.Native.Nat.{ℕ, _+_, _≤_, _<_}
+use mathlib.Core.Bool.{Bool, true, false, not, _&&_}
 use mathlib.Core.Path.{_≡_, refl, sym, ap, ap₂, _∙_}
-use mathlib.Core.List.{List, [], _∷_, _++_}
+use mathlib.Core.List.{List, [], _∷_}
 use native.Mathlib.Omega.{arith}
-use lib.Dec.{eqb, leb, ltb}
+use lib.Dec.{eqb}
 use lib.ListN.{length, getD, take, drop, replicate, length-drop, drop-of-length-le}
 use borrow.Author.Tests.{eq-eqb, ne-eqb, lt-ltb, le-ltb, le-leb, lt-leb}
 use Rattle.lists.specs.Lists.{if_then_else_}
 use Rattle.lists.proofs.Tests.{and-no}
-use Rattle.fields.specs.Fields.{Field, short, field, firstField, isEmpty, cutOf}
+use Rattle.fields.specs.Fields.{short, firstField, isEmpty}
 use Rattle.fields.proofs.Seen.{Seen, value-at}
 use Rattle.net.specs.Network.{Ends, precedes, endsHold}
 use Rattle.sheet.specs.declared.Answer.the-variants.{OutOfRange, OutOfOrder}
 use Rattle.sheet.specs.declared.Next.{Next}
-use Rattle.sheet.specs.declared.Next.the-variants.{Wrong, Link, Last}
+use Rattle.sheet.specs.declared.Next.the-variants.{Wrong, Link}
 use Rattle.sheet.specs.Sheet.{Opening, faulty, stations, stationsHold, opened, Verdict, wrong, link, last, linkOf, judged}
-use Rattle.sheet.specs.Values.{numberOf, roomOf}
+use Rattle.sheet.specs.Values.{roomOf}
 use Rattle.sheet.specs.Steps.{endsOf, linkVerdict, verdictOf}
 
 -- ---- the first field

@@ -1,17 +1,16 @@
 -- The network value that reading hands out: it means the network that was read and keeps the rules with its unused room
 -- zero; and a good value is determined by its meaning. Assumes nothing.
 use Prim.Native.Nat.{ℕ, _+_, _-_, _≤_, _<_, min}
-use mathlib.Core.Bool.{Bool, true, false, not, _&&_}
-use mathlib.Core.Path.{_≡_, refl, sym, ap, ap₂, _∙_, subst, subst⁻¹}
-use mathlib.Core.Logic.{_⊎_, inl, inr}
-use mathlib.Core.List.{List, [], _∷_, _++_, map}
+use mathlib.Core.Bool.{Bool, true, _&&_}
+use mathlib.Core.Path.{_≡_, refl, sym, ap, _∙_, subst, subst⁻¹}
+use mathlib.Core.List.{List, _++_, map}
 use native.Mathlib.Decide.{decLt}
 use native.Mathlib.Omega.{arith}
-use lib.Dec.{T, eqb, leb, leb→le, le→leb, eqb→eq, eqb-refl}
-use lib.ListN.{length, getD, take, drop, replicate, length-append, length-map, length-replicate, getD-replicate, List·getD-append, List·getD-map, length-drop}
+use lib.Dec.{T, eqb, leb, leb→le, le→leb, eqb→eq}
+use lib.ListN.{length, getD, drop, replicate, length-append, length-map, length-replicate, getD-replicate, List·getD-append, List·getD-map, length-drop}
 use lib.Seq.{ext-getD, drop-at, getD-append-add, getD-drop}
 use Rattle.lists.specs.Lists.{if_then_else_, every, below}
-use Rattle.lists.proofs.Tests.{and-l, and-r, and-i, T-is, is-T, every-at, at-every}
+use Rattle.lists.proofs.Tests.{and-l, and-r, and-i, T-is, every-at, at-every}
 use Rattle.lists.proofs.Numbers.{getD-map-below, length-map-below}
 use Rattle.net.specs.declared.Net.{Net}
 use Rattle.net.specs.Network.{Ends, Network, sheetHolds}
@@ -21,7 +20,7 @@ use Rattle.sheet.specs.declared.Answer.the-variants.{Good, Short, Malfor
 use Rattle.sheet.specs.declared.Reading.{Reading}
 use Rattle.sheet.specs.declared.Wrote.{Wrote}
 use Rattle.sheet.specs.declared.Wrote.the-variants.{Bytes, OutputShort, BadNetwork}
-use Rattle.sheet.specs.Sheet.{Sheet, refused, sheet, noLink, readSheet, writeSheet}
+use Rattle.sheet.specs.Sheet.{Sheet, sheet, noLink, readSheet, writeSheet}
 use Rattle.sheet.specs.Values.{numberOf, roomOf, valueOf, sheetNumber, sheetNet, Says, wroteNumbers}
 use Rattle.sheet.proofs.Rising.{Rules, rules-of}
 use Rattle.sheet.proofs.Laws.{reads-back, read-holds}

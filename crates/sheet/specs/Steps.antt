@@ -1,6 +1,6 @@
 -- What the private steps of the code answer. Assumes nothing.
 use Prim.Native.Nat.{ℕ}
-use mathlib.Core.Bool.{Bool, true, false, not}
+use mathlib.Core.Bool.{not}
 use mathlib.Core.List.{List, [], map}
 use lib.ListN.{getD, drop}
 use Rattle.lists.specs.Lists.{if_then_else_, below}

@@ -1,13 +1,13 @@
 -- What the code's answers mean: the paper's number for each case, and the value beside it. Assumes nothing.
 use Prim.Native.Nat.{ℕ, _-_}
-use mathlib.Core.Bool.{Bool, true, false, not}
+use mathlib.Core.Bool.{not}
 use mathlib.Core.Path.{_≡_}
 use mathlib.Core.List.{List, [], _∷_, _++_, map}
 use lib.ListN.{length, replicate}
 use Rattle.lists.specs.Lists.{if_then_else_}
 use Rattle.fields.specs.Output.{Writing, denied, fitting}
 use Rattle.net.specs.declared.Net.{Net}
-use Rattle.net.specs.Network.{Ends, Network}
+use Rattle.net.specs.Network.{Network}
 use Rattle.net.specs.Values.{networkOf, netHolds}
 use Rattle.sheet.specs.declared.Answer.{Answer}
 use Rattle.sheet.specs.declared.Answer.the-variants.{Good, Short, Malformed, OutOfRange, OutOfOrder, TooManyLinks}

@@ -1,17 +1,11 @@
-use Rattle.fields.proofs.Steps.{put-none, put-length, put-more, put-done}
-use mathlib.Core.List.{List}
-use mathlib.Core.Path.{sym, ap, _∙_, subst⁻¹}
-use Prim.Native.Nat.{_<_}
-use native.Mathlib.Numerals.{add-one}
-use lib.ListN.{set, getD}
+use Rattle.fields.proofs.Steps.{put-none, put-length, put-more, put-done, put-long, put-short}
 use denote.Ref.{now}
-use Prim.Native.Nat.{ℕ, _+_, _-_, _≤_}
-use mathlib.Core.Path.{_≡_, refl}
+use Prim.Native.Nat.{_-_, _≤_}
+use mathlib.Core.Path.{_≡_}
 use native.Mathlib.Omega.{arith}
 use borrow.Author.Needs.{needs}
-use lib.ListN.{length, length-set}
-use lib.Seq.{paste, paste-zero, paste-suc, length-paste}
-use Rattle.fields.proofs.Steps.{put-long, put-short, put-all}
+use lib.ListN.{length-set}
+use lib.Seq.{paste}
 use Rattle.fields.proofs.put.Statement.{statement}
 use Rattle.fields.proofs.put.Tie as tie
 use Rattle.fields.proofs.put.Reads as reads

@@ -1,10 +1,8 @@
 use borrow.Author.Needs.{needs}
-use mathlib.Core.Path.{sym, ap, _∙_}
 use denote.Ref.{now}
-use Rattle.sheet.specs.Steps.{verdictOf}
 use Prim.Native.Nat.{_-_}
 use Rattle.sheet.specs.Steps.{linksOf}
-use Rattle.sheet.proofs.Loop.{Standing, standing-first, standing-wrong, standing-last, standing-full, standing-link, length-room}
+use Rattle.sheet.proofs.Loop.{Standing, standing-first, standing-wrong, standing-last, standing-full, standing-link}
 use Rattle.sheet.proofs.read_links.Statement.{statement}
 use Rattle.sheet.proofs.read_links.Tie as tie
 use Rattle.sheet.proofs.read_links.Reads as reads

@@ -1,6 +1,6 @@
 use mathlib.Core.Path.{refl}
 use denote.Ref.{now}
-use Rattle.sheet.proofs.Output.{few-links, write-bad, write-short, links-room, two-length, write-all}
+use Rattle.sheet.proofs.Output.{few-links, write-bad, write-short, links-room, write-all}
 use borrow.Author.Needs.{needs}
 use Rattle.sheet.proofs.write.Statement.{statement}
 use Rattle.sheet.proofs.write.Tie as tie

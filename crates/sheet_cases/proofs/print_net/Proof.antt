@@ -1,8 +1,5 @@
-use Prim.Native.Nat.{_≤_, _-_, _+_, _*_}
-use mathlib.Core.Path.{_≡_}
-use native.Mathlib.Omega.{arith}
+use Prim.Native.Nat.{_≤_, _-_}
 use borrow.Author.Needs.{needs}
-use lib.ListN.{length}
 use Rattle.sheet_cases.proofs.print_net.Statement.{statement}
 use Rattle.sheet_cases.proofs.print_net.Tie as tie
 use Rattle.sheet_cases.proofs.print_net.Reads as reads
