@@ -2,12 +2,12 @@ use Prim.Native.Nat.{_≤_, _-_}
 use mathlib.Core.Path.{_≡_}
 use borrow.Author.Needs.{needs}
 use lib.ListN.{length}
-use Rattle.letter_cases.proofs.print_bytes.Statement.{statement}
-use Rattle.letter_cases.proofs.print_bytes.Tie as tie
-use Rattle.letter_cases.proofs.print_bytes.Reads as reads
-use Rattle.letter_cases.proofs.print_bytes.Lts as lts
+use Rattle.byte_cases.proofs.print_bytes.Statement.{statement}
+use Rattle.byte_cases.proofs.print_bytes.Tie as tie
+use Rattle.byte_cases.proofs.print_bytes.Reads as reads
+use Rattle.byte_cases.proofs.print_bytes.Lts as lts
 use Rattle.io.proofs.write_all.Reads as write-all-reads
-use Rattle.letter_cases.proofs.print_hex.Reads as print-hex-reads
+use Rattle.byte_cases.proofs.print_hex.Reads as print-hex-reads
 
 abbrev Inv-loop : tie.InvT-loop
 Inv-loop bytes i₀ i-end i = (i ≤ length bytes) × (i-end ≡ length bytes)

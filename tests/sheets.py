@@ -1,21 +1,16 @@
-#!/usr/bin/env python3
-"""Cases for the sheet library and what is wanted for them, read from document 01's sections "Bytes" and "The numbers that
-say no" without looking at the code under test.
+"""Sheets: document 01's sections "Bytes" and "The numbers that say no", read without looking at the code under test.
 
-  python3 tests/sheet_cases.py            compare: exit 1 where the stored files differ from what this script makes
-  python3 tests/sheet_cases.py --write    write crates/sheet_cases/stdin and stdout anew
-  python3 tests/sheet_cases.py --list     the cases, one to a line, in the order of the file
-
-A case is six bytes and what follows them: 0 for a sheet to read or 1 for a network to write, how many bytes follow (in three
-bytes), and the length of the output to write to (in two). The network of a sheet that was read is written too; a refused
-sheet gives none, and the zero value that stands in its place is a bad network.
+Kind 0 is a sheet to read; the network that it gives is written too. A refused sheet gives none, and the zero value that stands
+in its place is a bad network. Kind 1 is a network to write, in 130 bytes: stations, links, 64 lower ends, 64 higher ends.
 """
 import random
-import sys
-from pathlib import Path
 
-HERE = Path(__file__).resolve().parent.parent / 'crates' / 'sheet_cases'
-OLD = 0xEE
+OLD = 0xEE  # what stands in the output before
+
+
+def case(kind, room, data):
+    """The six bytes and what follows them."""
+    return bytes([kind]) + len(data).to_bytes(3, 'big') + room.to_bytes(2, 'big') + data
 
 
 def field(tag, value, length=None):
@@ -83,7 +78,7 @@ class Sheet:
         self.name, self.data, self.room = name, bytes(data), room
 
     def bytes(self):
-        return bytes([0]) + len(self.data).to_bytes(3, 'big') + self.room.to_bytes(2, 'big') + self.data
+        return case(0, self.room, self.data)
 
     def wanted(self):
         number, network = read(self.data)
@@ -102,7 +97,7 @@ class Network:
         self.low, self.high = [a for a, _ in places], [b for _, b in places]
 
     def bytes(self):
-        return bytes([1, 0, 0, 130]) + self.room.to_bytes(2, 'big') + bytes([self.stations, self.count] + self.low + self.high)
+        return case(1, self.room, bytes([self.stations, self.count] + self.low + self.high))
 
     def wanted(self):
         good = keeps(self.stations, self.count, self.low, self.high)
@@ -205,23 +200,3 @@ def cases():
         for _ in range(dice.choice([0, 0, 1, 1, 2])):
             data[dice.randrange(len(data))] = dice.choice([0, 1, 2, 15, 31, 32, 33, 255])
         yield Sheet('random %d' % i, data, len(data) + dice.choice([-1, 0, 0, 3]))
-
-
-def main():
-    made = list(cases())
-    stdin = b''.join(c.bytes() for c in made)
-    stdout = ''.join('\n'.join(c.wanted()) + '\n' for c in made).encode()
-    if '--list' in sys.argv:
-        for i, c in enumerate(made):
-            print(i, c.name)
-    elif '--write' in sys.argv:
-        (HERE / 'stdin').write_bytes(stdin)
-        (HERE / 'stdout').write_bytes(stdout)
-        print('%d cases, %d bytes in, %d out' % (len(made), len(stdin), len(stdout)))
-    else:
-        same = (HERE / 'stdin').read_bytes() == stdin and (HERE / 'stdout').read_bytes() == stdout
-        print('%d cases, %s' % (len(made), 'as stored' if same else 'the stored files differ'))
-        sys.exit(0 if same else 1)
-
-
-main()

@@ -1,11 +1,11 @@
 use Prim.Native.Nat.{_≤_, _-_}
 use borrow.Author.Needs.{needs}
-use Rattle.sheet_cases.proofs.print_net.Statement.{statement}
-use Rattle.sheet_cases.proofs.print_net.Tie as tie
-use Rattle.sheet_cases.proofs.print_net.Reads as reads
-use Rattle.sheet_cases.proofs.print_net.Lts as lts
-use Rattle.sheet_cases.proofs.is_shown.Reads as is-shown-reads
-use Rattle.sheet_cases.proofs.print_byte.Reads as print-byte-reads
+use Rattle.byte_cases.proofs.print_net.Statement.{statement}
+use Rattle.byte_cases.proofs.print_net.Tie as tie
+use Rattle.byte_cases.proofs.print_net.Reads as reads
+use Rattle.byte_cases.proofs.print_net.Lts as lts
+use Rattle.byte_cases.proofs.is_shown.Reads as is-shown-reads
+use Rattle.byte_cases.proofs.print_byte.Reads as print-byte-reads
 
 abbrev Inv-loop : tie.InvT-loop
 Inv-loop net i₀ i = i ≤ 64

@@ -1,9 +1,9 @@
 use Prim.Native.Nat.{_≤_, _-_}
 use borrow.Author.Needs.{needs}
-use Rattle.sheet_cases.proofs.net_of.Statement.{statement}
-use Rattle.sheet_cases.proofs.net_of.Tie as tie
-use Rattle.sheet_cases.proofs.net_of.Reads as reads
-use Rattle.sheet_cases.proofs.net_of.Lts as lts
+use Rattle.byte_cases.proofs.net_of.Statement.{statement}
+use Rattle.byte_cases.proofs.net_of.Tie as tie
+use Rattle.byte_cases.proofs.net_of.Reads as reads
+use Rattle.byte_cases.proofs.net_of.Lts as lts
 
 abbrev Inv-loop : tie.InvT-loop
 Inv-loop case low₀ high₀ i₀ low high i = i ≤ 64

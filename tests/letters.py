@@ -1,21 +1,12 @@
-#!/usr/bin/env python3
-"""Cases for the letters library and what is wanted for them, read from document 01's sections "Bytes" and "The numbers that
-say no" without looking at the code under test.
+"""Letters: document 01's sections "Bytes" and "The numbers that say no", read without looking at the code under test.
 
-  python3 tests/letter_cases.py            compare: exit 1 where the stored files differ from what this script makes
-  python3 tests/letter_cases.py --write    write crates/letter_cases/stdin and stdout anew
-  python3 tests/letter_cases.py --list     the cases, one to a line, in the order of the file
-
-A case is six bytes and what follows them: 0 for bytes to read or 1 for a letter to write, how many bytes follow (in three
-bytes), and the length of the output to write to (in two). Then a network in 130 bytes, and the bytes, or the letter in 8 bytes:
-link, sender (two bytes each), kind (0 request, 1 reply, 2 notice), subject, counter (two bytes).
+Kind 2 is a network and a letter's bytes to read; the letter that they give is written too. Kind 3 is a network and a letter to
+write, in 8 bytes: link, sender (two bytes each), 0, 1 or 2 for request, reply and notice, subject, counter (two bytes).
 """
 import random
-import sys
-from pathlib import Path
 
-HERE = Path(__file__).resolve().parent.parent / 'crates' / 'letter_cases'
-OLD = 0xEE
+from sheets import OLD, case, field, keeps
+
 KINDS = {0x21: ('request', 2), 0x22: ('reply', 4), 0x23: ('notice', 5)}
 
 
@@ -30,18 +21,10 @@ class Net:
         self.links = places[:self.count]
 
     def keeps(self):
-        """The sheet rules, with the unused room zero."""
-        links = self.links
-        return (1 <= self.stations <= 32 and self.count <= 64 and all(a < b < self.stations for a, b in links)
-                and sorted(set(links)) == links and not any(a or b for a, b in self.places[self.count:]))
+        return keeps(self.stations, self.count, [a for a, _ in self.places], [b for _, b in self.places])
 
     def bytes(self):
         return bytes([self.stations, self.count] + [a for a, _ in self.places] + [b for _, b in self.places])
-
-
-def field(tag, value, length=None):
-    n = len(value) if length is None else length
-    return bytes([tag, n >> 8, n & 255]) + bytes(value)
 
 
 def read(net, data):
@@ -97,8 +80,7 @@ class Read:
         self.name, self.net, self.data, self.room = name, net, bytes(data), room
 
     def bytes(self):
-        body = self.net.bytes() + self.data
-        return bytes([0]) + len(body).to_bytes(3, 'big') + self.room.to_bytes(2, 'big') + body
+        return case(2, self.room, self.net.bytes() + self.data)
 
     def wanted(self):
         number, letter = read(self.net, self.data)
@@ -116,8 +98,8 @@ class Write:
     def bytes(self):
         link, sender, kind, subject, counter = self.letter
         code = ['request', 'reply', 'notice'].index(kind)
-        body = self.net.bytes() + link.to_bytes(2, 'big') + sender.to_bytes(2, 'big') + bytes([code, subject]) + counter.to_bytes(2, 'big')
-        return bytes([1]) + len(body).to_bytes(3, 'big') + self.room.to_bytes(2, 'big') + body
+        letter = link.to_bytes(2, 'big') + sender.to_bytes(2, 'big') + bytes([code, subject]) + counter.to_bytes(2, 'big')
+        return case(3, self.room, self.net.bytes() + letter)
 
     def wanted(self):
         return [written(self.net, self.letter, self.room)]
@@ -201,23 +183,3 @@ def cases():
         if dice.randrange(4) == 0:
             data[dice.randrange(len(data))] = dice.randrange(256)
         yield Read('random %d' % i, dice.choice([SMALL, MANY, PAIR]), data + bytes(dice.choice([0, 0, 0, 1])), dice.randrange(12))
-
-
-def main():
-    made = list(cases())
-    stdin = b''.join(c.bytes() for c in made)
-    stdout = ''.join('\n'.join(c.wanted()) + '\n' for c in made).encode()
-    if '--list' in sys.argv:
-        for i, c in enumerate(made):
-            print(i, c.name)
-    elif '--write' in sys.argv:
-        (HERE / 'stdin').write_bytes(stdin)
-        (HERE / 'stdout').write_bytes(stdout)
-        print('%d cases, %d bytes in, %d out' % (len(made), len(stdin), len(stdout)))
-    else:
-        same = (HERE / 'stdin').read_bytes() == stdin and (HERE / 'stdout').read_bytes() == stdout
-        print('%d cases, %s' % (len(made), 'as stored' if same else 'the stored files differ'))
-        sys.exit(0 if same else 1)
-
-
-main()
