@@ -4,11 +4,10 @@ use mathlib.Core.Bool.{Bool, true, false, not, _&&_}
 use mathlib.Core.Path.{_≡_, refl, sym, ap, ap₂, _∙_, subst}
 use mathlib.Core.List.{List, [], _∷_}
 use native.Mathlib.Omega.{arith}
-use lib.Dec.{leb, ltb, leb→le, ltb→lt}
+use lib.Dec.{leb, ltb, ltb→lt}
 use lib.ListN.{length, getD, take, drop, length-drop, drop-of-length-le}
 use borrow.Author.Tests.{lt-ltb, le-ltb, not-true, not-false}
-use Rattle.lists.specs.Lists.{every}
-use Rattle.lists.proofs.Tests.{and-l, and-r, and-no, is-T}
+use Rattle.lists.proofs.Tests.{and-l, and-no, is-T}
 use Rattle.fields.specs.Fields.{short, firstField, isEmpty}
 use Rattle.fields.specs.Output.{Writing, fitting, writingNumbers, writingOutput}
 use Rattle.fields.proofs.Seen.{Seen, value-at}
@@ -16,8 +15,8 @@ use Rattle.net.specs.declared.Net.{Net}
 use Rattle.net.specs.declared.Body.{Body}
 use Rattle.net.specs.declared.Body.the-variants.{Request, Reply, Notice}
 use Rattle.net.specs.declared.Letter.{Letter}
-use Rattle.net.specs.Network.{Ends, Network, ends, isEnd, sheetHolds}
-use Rattle.net.specs.Values.{networkOf, placeEnds, linkCount, isZero, netHolds}
+use Rattle.net.specs.Network.{Ends, Network, ends, isEnd}
+use Rattle.net.specs.Values.{networkOf, placeEnds, netHolds}
 use Rattle.net.specs.Letters.{bodyHolds, letterHolds}
 use Rattle.net.proofs.ValueLaws.{links-of, ends-of}
 use Rattle.letters.specs.declared.Shape.{Shape}
@@ -26,19 +25,14 @@ use Rattle.letters.specs.declared.Wrote.{Wrote}
 use Rattle.letters.specs.declared.Wrote.the-variants as wrote
 use Rattle.letters.specs.Letters.{refused, letter, Form, says, formOf, senderOf, sideOf, valuesHold, judged, letterFrom, readLetter, bodyBytes, writeLetter}
 use Rattle.letters.specs.Values.{reading, writing, wroteNumbers}
+use Rattle.letters.proofs.Good.{few-places}
 use Rattle.letters.proofs.Forms.{IsForm, is-form}
 use Rattle.letters.specs.Steps.{formIn, bodyTest, valuesTest, senderIn, endIn, sideIn}
 
 -- ---- a good network: its meaning has as many links as the value says
 module _ (net : Net) (good : netHolds net ≡ true) where
   few-links : net .links ≤ 64
-  unfolding netHolds
-  few-links =
-      let a = leb (net .stations) 32 && leb (net .links) 64 in
-      let lows = every isZero (drop (linkCount net) (net .low)) in
-      let highs = every isZero (drop (linkCount net) (net .high)) in
-      leb→le (net .links) 64 (and-r (leb (net .stations) 32) _
-      (and-l a (sheetHolds (networkOf net)) (and-l (a && sheetHolds (networkOf net)) lows (and-l (a && sheetHolds (networkOf net) && lows) highs (is-T (netHolds net) good)))))
+  few-links = few-places net (is-T (netHolds net) good)
 
   links-are : length (networkOf net .links) ≡ net .links
   links-are = links-of net ∙ omega (arith, few-links)

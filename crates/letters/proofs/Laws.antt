@@ -7,9 +7,9 @@ use mathlib.Core.List.{List, [], _∷_, _++_, append-nil}
 use native.Mathlib.Nat.{div-add-mod'}
 use native.Mathlib.Omega.{arith}
 use lib.Dec.{T, eqb, leb, ltb, leb→le, ltb→lt, lt→ltb, eqb→eq, eqb-refl}
-use lib.ListN.{length, getD, drop}
+use lib.ListN.{length, getD}
 use borrow.Author.Tests.{ne-eqb, eqb-true}
-use Rattle.lists.specs.Lists.{if_then_else_, every}
+use Rattle.lists.specs.Lists.{if_then_else_}
 use Rattle.lists.proofs.Tests.{and-l, and-r, and-i, or-left, or-right, T-is, is-T, if-elim}
 use Rattle.lists.proofs.Numbers.{below-at}
 use Rattle.fields.specs.Fields.{Field, short, field, firstField, writeField, isEmpty, areBytes}
@@ -19,10 +19,11 @@ use Rattle.net.specs.declared.Body.the-variants.{Request, Reply, Notice}
 use Rattle.net.specs.declared.Letter.{Letter}
 use Rattle.net.specs.Network.{Network, ends, isEnd, endsHold, linkHolds, sheetHolds}
 use Rattle.net.specs.declared.Net.{Net}
-use Rattle.net.specs.Values.{networkOf, linkCount, isZero, netHolds}
+use Rattle.net.specs.Values.{networkOf, netHolds}
 use Rattle.net.specs.Letters.{isCounter, bodyHolds, letterHolds}
 use Rattle.letters.specs.Letters.{refused, letter, Form, unknown, says, formOf, senderOf, sideOf, valuesHold, judged, letterFrom, readLetter, bodyBytes, writeLetter}
 use Rattle.letters.specs.Values.{reading}
+use Rattle.letters.proofs.Good.{sheet-good}
 use Rattle.letters.proofs.Forms.{tagOf, payload, bytes-are, is-form}
 
 -- ---- side and sender
@@ -71,14 +72,6 @@ few-links net t =
     let n = net .stations in
     let m = length (net .links) in
     leb→le m 64 (and-r (leb 1 n && leb n 32) _ (and-l (leb 1 n && leb n 32 && leb m 64) _ t))
-
-sheet-good : (net : Net) → T (netHolds net) → T (sheetHolds (networkOf net))
-unfolding netHolds
-sheet-good net t =
-    let a = leb (net .stations) 32 && leb (net .links) 64 in
-    let lows = every isZero (drop (linkCount net) (net .low)) in
-    let highs = every isZero (drop (linkCount net) (net .high)) in
-    and-r a (sheetHolds (networkOf net)) (and-l (a && sheetHolds (networkOf net)) lows (and-l (a && sheetHolds (networkOf net) && lows) highs t))
 
 -- ---- what was written reads back
 form-back : (k side : ℕ) (b : Body) → formOf (tagOf b) (k ∷ side ∷ payload b) ≡ says b

@@ -3,7 +3,7 @@ use Prim.Native.Nat.{ℕ, suc, _+_, _-_, _≤_, _<_}
 use mathlib.Core.Path.{_≡_, refl, sym, ap, _∙_, subst}
 use mathlib.Core.List.{List, [], _∷_, _++_, map, append-assoc}
 use native.Mathlib.Omega.{arith}
-use lib.ListN.{length, take, drop, set, replicate, length-append, length-take, length-drop, length-map, length-replicate}
+use lib.ListN.{length, take, drop, set, replicate, length-append, length-take, length-drop, length-map}
 use lib.Seq.{set-at, drop-drop, take-all}
 use Rattle.lists.proofs.Fill.{map-append}
 use Rattle.fields.specs.Fields.{firstField}
@@ -20,10 +20,6 @@ use Rattle.sheet.specs.Steps.{refusedAs, endsOf, verdictOf, linksOf}
 use Rattle.sheet.proofs.Judged.{is-link, is-stations, wrong-read, last-read}
 
 -- ---- the room
-pub length-room : (xs : List ℕ) → length xs ≤ 64 → length (roomOf xs) ≡ 64
-unfolding roomOf
-length-room xs h = length-append xs (replicate (64 - length xs) 0) ∙ omega (arith, length-replicate {A = ℕ} (64 - length xs) 0)
-
 pub room-more : (xs : List ℕ) (x k : ℕ) → length xs ≡ k → k < 64 → set (roomOf xs) k x ≡ roomOf (xs ++ (x ∷ []))
 unfolding roomOf
 room-more xs x k e h =

@@ -133,9 +133,6 @@ module _ (net : Net) (r : Bool) (e : r ≡ netHolds net) where
           both-length : length (front ++ middle) ≡ 4 + 5 * net .links
           both-length = length-append front middle ∙ omega (arith, front-length, first-length (net .low) (net .high) (net .links))
 
-          pub two-length : length two ≡ length old
-          two-length = ap length two-is ∙ length-onto (front ++ middle) old (omega (arith, both-length))
-
           pub write-all : (three last : List ℕ) → last ≡ onto (writeField 15 []) (take (length two - (4 + 5 * net .links)) (drop (4 + 5 * net .links) two))
               → three ≡ take (4 + 5 * net .links) two ++ (last ++ drop (length two - (4 + 5 * net .links)) (drop (4 + 5 * net .links) two))
               → (wroteNumbers (Bytes (4 + 5 * net .links + 3)) ≡ writingNumbers (writing net old)) × (three ≡ writingOutput (writing net old) old)

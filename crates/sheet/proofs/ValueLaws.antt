@@ -1,7 +1,7 @@
 -- The network value that reading hands out: it means the network that was read and keeps the rules with its unused room
 -- zero; and a good value is determined by its meaning. Assumes nothing.
 use Prim.Native.Nat.{ℕ, _+_, _-_, _≤_, _<_, min}
-use mathlib.Core.Bool.{Bool, true, _&&_}
+use mathlib.Core.Bool.{Bool, false, _&&_}
 use mathlib.Core.Path.{_≡_, refl, sym, ap, _∙_, subst, subst⁻¹}
 use mathlib.Core.List.{List, _++_, map}
 use native.Mathlib.Decide.{decLt}
@@ -10,18 +10,19 @@ use lib.Dec.{T, eqb, leb, leb→le, le→leb, eqb→eq}
 use lib.ListN.{length, getD, drop, replicate, length-append, length-map, length-replicate, getD-replicate, List·getD-append, List·getD-map, length-drop}
 use lib.Seq.{ext-getD, drop-at, getD-append-add, getD-drop}
 use Rattle.lists.specs.Lists.{if_then_else_, every, below}
-use Rattle.lists.proofs.Tests.{and-l, and-r, and-i, T-is, every-at, at-every}
+use Rattle.lists.proofs.Tests.{and-l, and-r, and-i, every-at, at-every}
 use Rattle.lists.proofs.Numbers.{getD-map-below, length-map-below}
 use Rattle.net.specs.declared.Net.{Net}
 use Rattle.net.specs.Network.{Ends, Network, sheetHolds}
 use Rattle.net.specs.Values.{networkOf, placeEnds, linkCount, isZero, netHolds}
+use Rattle.net.proofs.Sheet.{few-stations}
 use Rattle.sheet.specs.declared.Answer.{Answer}
 use Rattle.sheet.specs.declared.Answer.the-variants.{Good, Short, Malformed, OutOfRange, OutOfOrder, TooManyLinks}
 use Rattle.sheet.specs.declared.Reading.{Reading}
 use Rattle.sheet.specs.declared.Wrote.{Wrote}
 use Rattle.sheet.specs.declared.Wrote.the-variants.{Bytes, OutputShort, BadNetwork}
 use Rattle.sheet.specs.Sheet.{Sheet, sheet, noLink, readSheet, writeSheet}
-use Rattle.sheet.specs.Values.{numberOf, roomOf, valueOf, sheetNumber, sheetNet, Says, wroteNumbers}
+use Rattle.sheet.specs.Values.{numberOf, roomOf, valueOf, zeroNet, sheetNumber, sheetNet, Says, wroteNumbers}
 use Rattle.sheet.proofs.Rising.{Rules, rules-of}
 use Rattle.sheet.proofs.Laws.{reads-back, read-holds}
 
@@ -41,9 +42,6 @@ room-tail xs m e = subst⁻¹ (λ (l : List ℕ). T (every isZero l)) (drop-at x
 module _ (net : Network) (t : T (sheetHolds net)) where
   rules : Rules net
   rules = rules-of net t
-
-  count : leb 1 (net .stations) && leb (net .stations) 32 ≡ true
-  count = T-is (leb 1 (net .stations) && leb (net .stations) 32) (rules .count)
 
   few : net .stations ≤ 32
   few = leb→le (net .stations) 32 (and-r (leb 1 (net .stations)) _ (rules .count))
@@ -153,6 +151,10 @@ number-one a b e = go a b e
 
     go : (a b : Answer) → numberOf a ≡ numberOf b → a ≡ b
     go a b e = sym (is a) ∙ ap back e ∙ is b
+
+-- the value beside a refusal is a bad network: whatever call is given it refuses with 11
+pub zero-bad : false ≡ netHolds zeroNet
+zero-bad = few-stations zeroNet (omega arith)
 
 -- two answers that are allowed for the same bytes are equal
 pub one-answer : (r q : Reading) (s : Sheet) → Says r s → Says q s → r ≡ q
