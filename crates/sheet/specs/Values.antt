@@ -17,6 +17,7 @@ use Rattle.sheet.specs.declared.Wrote.the-variants.{Bytes, OutputShort, 
 use Rattle.sheet.specs.Sheet.{Sheet, refused, sheet, writeSheet}
 
 -- ---- reading
+-- the paper's number of each answer
 abbrev pub numberOf : Answer → ℕ
 numberOf Good = 0
 numberOf Short = 1

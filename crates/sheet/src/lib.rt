@@ -52,12 +52,14 @@ enum Next {
     Last,
 }
 
+// A room of 64 places that is not used.
 fn zeros() -> [u8; 64]
     ensures { λ r. ⌜ r ≡ roomOf [] ⌝ }
 {
     [0u8; 64]
 }
 
+// The answer to a refused sheet, with no network beside it.
 fn refusal(answer: Answer) -> Reading
     ensures { λ r. ⌜ r ≡ refusedAs answer ⌝ }
 {
