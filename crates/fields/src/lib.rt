@@ -1,0 +1,56 @@
+// Fields: a one-byte tag, a two-byte length with the high byte first, a value. Sheets and letters are made of them.
+ghost use mathlib.Core.Path.{_≡_};
+ghost use Rattle.fields.specs.Fields.{wide, firstField, cutOf, putField, putSize};
+
+// The field at the front of some bytes. Its value starts at 3, and the next field after the value.
+pub enum Cut {
+    // the bytes end inside it
+    Short,
+    Whole { tag: u8, length: usize },
+}
+
+fn two_bytes(high: u8, low: u8) -> usize
+    ensures { λ r. ⌜ r ≡ wide high low ⌝ }
+{
+    (high as usize) * 256 + (low as usize)
+}
+
+// Cuts one field off the front.
+pub fn cut_first(bytes: &[u8]) -> Cut
+    ensures { λ r. ⌜ r ≡ cutOf (firstField (now (bytes .entry))) ⌝ }
+{
+    if bytes.len() < 3 {
+        return Cut::Short;
+    }
+    let length = two_bytes(bytes[1], bytes[2]);
+    if bytes.len() - 3 < length {
+        return Cut::Short;
+    }
+    Cut::Whole {
+        tag: bytes[0],
+        length,
+    }
+}
+
+// Writes a field at the front of the output and answers its size. Where it does not fit, nothing is written.
+pub fn put(out: &mut [u8], tag: u8, value: &[u8]) -> usize
+    ensures size { λ r. ⌜ r ≡ putSize (now (value .entry)) (now (out .entry)) ⌝ }
+    ensures output { λ r. ⌜ now (out .exit) ≡ putField tag (now (value .entry)) (now (out .entry)) ⌝ }
+{
+    let n = value.len();
+    if 65535 < n {
+        return 0;
+    }
+    if out.len() < n + 3 {
+        return 0;
+    }
+    out[0] = tag;
+    out[1] = (n / 256) as u8;
+    out[2] = (n % 256) as u8;
+    let mut i: usize = 0;
+    while i < n {
+        out[3 + i] = value[i];
+        i += 1;
+    }
+    n + 3
+}

@@ -1,0 +1,111 @@
+-- What a known form says of the field: read backwards. Assumes nothing.
+use Prim.Native.Nat.{ℕ, _/_, _%_, _≤_, _<_}
+use mathlib.Core.Path.{_≡_, refl, sym, ap, ap₂, _∙_, subst}
+use mathlib.Core.List.{List, [], _∷_}
+use native.Mathlib.Omega.{arith}
+use lib.Dec.{T, eqb, ltb, ltb→lt, eqb→eq}
+use lib.ListN.{length, getD, drop}
+use Rattle.lists.proofs.Tests.{and-l, and-r, if-elim, every-at}
+use Rattle.fields.specs.Fields.{wide, writeField, isField, areBytes}
+use Rattle.net.specs.declared.Body.{Body}
+use Rattle.net.specs.declared.Body.the-variants.{Request, Reply, Notice}
+use Rattle.letters.specs.Letters.{Form, says, formOf, bodyBytes}
+
+-- the tag of a body, and what stands in the value after link and side
+abbrev pub tagOf : Body → ℕ
+tagOf Request = 33
+tagOf (Reply c) = 34
+tagOf (Notice s c) = 35
+
+abbrev pub payload : Body → List ℕ
+payload Request = []
+payload (Reply c) = c / 256 ∷ c % 256 ∷ []
+payload (Notice s c) = s ∷ c / 256 ∷ c % 256 ∷ []
+
+pub bytes-are : (k side : ℕ) (b : Body) → bodyBytes k side b ≡ writeField (tagOf b) (k ∷ side ∷ payload b)
+bytes-are k side Request = refl
+bytes-are k side (Reply c) = refl
+bytes-are k side (Notice s c) = refl
+
+pub record IsForm (t : ℕ) (v : List ℕ) (b : Body) : Type 0 where
+  pub tag : t ≡ tagOf b
+  pub size : 2 ≤ length v
+  pub value : T (areBytes v) → v ≡ getD v 0 0 ∷ getD v 1 0 ∷ payload b
+
+-- a two-byte number of bytes, taken apart again
+high-low : (v : List ℕ) (i j : ℕ) → T (areBytes v) → i < length v → j < length v
+    → (wide (getD v i 0) (getD v j 0) / 256 ≡ getD v i 0) × (wide (getD v i 0) (getD v j 0) % 256 ≡ getD v j 0)
+high-low v i j t h g =
+    let a = ltb→lt (getD v i 0) 256 (every-at (λ b. ltb b 256) v i 0 t h) in
+    let b = ltb→lt (getD v j 0) 256 (every-at (λ b. ltb b 256) v j 0 t g) in
+    (omega arith, omega arith)
+
+two : (v : List ℕ) → length v ≡ 2 → v ≡ getD v 0 0 ∷ getD v 1 0 ∷ []
+two [] e = absurd (omega arith)
+two (a ∷ []) e = absurd (omega arith)
+two (a ∷ b ∷ []) e = refl
+two (a ∷ b ∷ c ∷ v) e = absurd (omega arith)
+
+more-than-two : (v : List ℕ) → 2 < length v → v ≡ getD v 0 0 ∷ getD v 1 0 ∷ drop 2 v
+more-than-two [] h = absurd (omega arith)
+more-than-two (a ∷ []) h = absurd (omega arith)
+more-than-two (a ∷ b ∷ v) h = refl
+
+four : (v : List ℕ) → length v ≡ 4 → drop 2 v ≡ getD v 2 0 ∷ getD v 3 0 ∷ []
+four [] e = absurd (omega arith)
+four (a ∷ []) e = absurd (omega arith)
+four (a ∷ b ∷ v) e = two v (omega arith)
+
+five : (v : List ℕ) → length v ≡ 5 → drop 2 v ≡ getD v 2 0 ∷ getD v 3 0 ∷ getD v 4 0 ∷ []
+five [] e = absurd (omega arith)
+five (a ∷ []) e = absurd (omega arith)
+five (a ∷ b ∷ []) e = absurd (omega arith)
+five (a ∷ b ∷ c ∷ v) e = ap {B = List ℕ} (λ (l : List ℕ). c ∷ l) (two v (omega arith))
+
+module _ (t : ℕ) (v : List ℕ) where
+  tag-is : (tag n : ℕ) → T (isField tag n t v) → t ≡ tag
+  tag-is tag n h = eqb→eq t tag (and-l (eqb t tag) _ h)
+
+  size-is : (tag n : ℕ) → T (isField tag n t v) → length v ≡ n
+  size-is tag n h = eqb→eq (length v) n (and-r (eqb t tag) _ h)
+
+  is-request : T (isField 33 2 t v) → IsForm t v Request
+  is-request h = let n = size-is 33 2 h in record { tag = tag-is 33 2 h; size = omega arith; value = λ w. two v n }
+
+  is-reply : T (isField 34 4 t v) → IsForm t v (Reply (wide (getD v 2 0) (getD v 3 0)))
+  is-reply h =
+      let n = size-is 34 4 h in
+      record {
+        tag = tag-is 34 4 h;
+        size = omega arith;
+        value =
+            λ w. let c = high-low v 2 3 w (omega arith) (omega arith) in
+            more-than-two v (omega arith)
+            ∙ ap (λ (l : List ℕ). getD v 0 0 ∷ getD v 1 0 ∷ l) (four v n ∙ ap₂ (λ (x y : ℕ). x ∷ y ∷ []) (sym (c .0)) (sym (c .1)));
+      }
+
+  is-notice : T (isField 35 5 t v) → IsForm t v (Notice (getD v 2 0) (wide (getD v 3 0) (getD v 4 0)))
+  is-notice h =
+      let n = size-is 35 5 h in
+      record {
+        tag = tag-is 35 5 h;
+        size = omega arith;
+        value =
+            λ w. let c = high-low v 3 4 w (omega arith) (omega arith) in
+            more-than-two v (omega arith)
+            ∙ ap (λ (l : List ℕ). getD v 0 0 ∷ getD v 1 0 ∷ l) (five v n ∙ ap₂ (λ (x y : ℕ). getD v 2 0 ∷ x ∷ y ∷ []) (sym (c .0)) (sym (c .1)));
+      }
+
+  pub is-form : (b : Body) → formOf t v ≡ says b → IsForm t v b
+  unfolding formOf
+  is-form b e =
+      if-elim P (isField 33 2 t v) (λ h q. subst (IsForm t v) (body q) (is-request h))
+      (λ _. if-elim P (isField 34 4 t v) (λ h q. subst (IsForm t v) (body q) (is-reply h))
+      (λ _. if-elim P (isField 35 5 t v) (λ h q. subst (IsForm t v) (body q) (is-notice h))
+      (λ _ q. let z : _≡_ {A = ℕ} 0 1 = cc in absurd (omega arith)))) e
+    where
+      P : Form → Type 0
+      P x = x ≡ says b → IsForm t v b
+
+      body : {x : Body} → says x ≡ says b → x ≡ b
+      body q = cc

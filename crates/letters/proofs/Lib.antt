@@ -1,0 +1,6 @@
+pub mod Steps
+pub mod Forms
+pub mod Good
+pub mod Against
+pub mod Laws
+pub mod Refusals

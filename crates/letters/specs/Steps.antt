@@ -1,0 +1,34 @@
+-- What the private steps of the code answer. Assumes nothing.
+use Prim.Native.Nat.{ℕ}
+use mathlib.Core.Bool.{Bool, true, _&&_, _||_}
+use lib.Dec.{eqb, ltb, leb}
+use Rattle.lists.specs.Lists.{if_then_else_}
+use Rattle.net.specs.declared.Body.{Body}
+use Rattle.net.specs.declared.Body.the-variants.{Request, Reply, Notice}
+use Rattle.net.specs.Letters.{isCounter}
+use Rattle.letters.specs.declared.Shape.{Shape}
+use Rattle.letters.specs.declared.Shape.the-variants.{Unknown, Says}
+use Rattle.letters.specs.Letters.{Form, unknown, says}
+
+abbrev pub formIn : Shape → Form
+formIn Unknown = unknown
+formIn (Says body) = says body
+
+-- a body's values, in a network of so many links
+abbrev pub bodyTest : ℕ → Body → Bool
+bodyTest links Request = true
+bodyTest links (Reply c) = isCounter c
+bodyTest links (Notice subject c) = ltb subject links && isCounter c
+
+-- the values of a field that was read
+abbrev pub valuesTest : ℕ → ℕ → ℕ → Body → Bool
+valuesTest links k side body = ltb k links && leb side 1 && bodyTest links body
+
+abbrev pub senderIn : ℕ → ℕ → ℕ → ℕ
+senderIn low high side = if eqb side 0 then low else high
+
+abbrev pub endIn : ℕ → ℕ → ℕ → Bool
+endIn low high sender = eqb low sender || eqb high sender
+
+abbrev pub sideIn : ℕ → ℕ → ℕ
+sideIn low sender = if eqb low sender then 0 else 1

@@ -1,0 +1,12 @@
+use Rattle.sheet.proofs.Steps.{zeros-room}
+use Rattle.sheet.proofs.zeros.Statement.{statement}
+use Rattle.sheet.proofs.zeros.Tie as tie
+use Rattle.sheet.proofs.zeros.Reads as reads
+use Rattle.sheet.proofs.zeros.Lts as lts
+
+-- src/lib.rt:54:1
+returns : tie.Need-returns
+returns c = zeros-room
+
+pub zeros-spec : {M : Type 1} → statement M
+zeros-spec = tie.close (tie.spec returns)
