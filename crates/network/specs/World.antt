@@ -41,11 +41,15 @@ pub data Sort : Type 0 where
 abbrev pub sortOf : ℕ → Sort
 sortOf n = if eqb n 7 then delivery else (if eqb n 8 then loss else act (kindOf n))
 
-abbrev pub holdingAt : World → ℕ → Holding
-holdingAt w s = getD (w .holdings) s (record { condition = Down; table = []; marks = [] })
+-- a station or a letter that is not there
+abbrev pub nobody : Holding
+nobody = record { condition = Down; table = []; marks = [] }
 
 abbrev pub noLetter : Letter
 noLetter = record { link = 0; sender = 0; body = Request }
+
+abbrev pub holdingAt : World → ℕ → Holding
+holdingAt w s = getD (w .holdings) s nobody
 
 abbrev pub letterAt : World → ℕ → Letter
 letterAt w a = getD (w .letters) a noLetter
