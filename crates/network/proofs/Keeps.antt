@@ -1,5 +1,5 @@
 -- Each accepted step keeps the world well formed, and the world of a freshly read sheet is well formed. Assumes nothing.
-use Prim.Native.Nat.{ℕ, zero, suc, _≤_, _<_, zero-le}
+use Prim.Native.Nat.{ℕ, _≤_, _<_, zero-le}
 use mathlib.Core.Bool.{Bool, true, false, not, _&&_}
 use mathlib.Core.Path.{_≡_, refl, _∙_, subst, subst⁻¹}
 use mathlib.Core.List.{List, [], _∷_, _++_, map}
@@ -12,6 +12,7 @@ use Rattle.lists.specs.Places.{without}
 use Rattle.lists.proofs.Tests.{and-l, and-r, and-i, eq→eqb, every-at}
 use Rattle.lists.proofs.Numbers.{below-at, at-below, getD-map-below, length-map-below}
 use Rattle.lists.proofs.Kept.{every-joined}
+use Rattle.lists.proofs.Without.{every-without}
 use Rattle.net.specs.declared.Letter.{Letter}
 use Rattle.net.specs.Network.{Network, isEnd, sheetHolds}
 use Rattle.net.specs.Letters.{letterHolds, bodyHolds}
@@ -105,11 +106,6 @@ record Keeps (w : World) (c : Change) : Type 0 where
   each : (s : ℕ) → s < w .net .stations → T (holdingHolds (w .net) s (getD (c .holdings) s nobody))
   left : T (every (letterHolds (w .net)) (c .left))
   sent : T (every (letterHolds (w .net)) (c .sent))
-
-every-without : {A : Type 0} (p : A → Bool) (n : ℕ) (xs : List A) → T (every p xs) → T (every p (without n xs))
-every-without p n [] t = tt
-every-without p zero (x ∷ xs) t = and-r (p x) _ t
-every-without p (suc n) (x ∷ xs) t = and-i (p x) _ (and-l (p x) _ t) (every-without p n xs (and-r (p x) _ t))
 
 module _ (w : World) (f : Formed w) where
   put-keeps : (s : ℕ) (xs : List Letter) (d : Done) → s < w .net .stations → T (every (letterHolds (w .net)) xs) → Kept (w .net) s d → Keeps w (put w s xs d)
