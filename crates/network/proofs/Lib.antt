@@ -2,3 +2,4 @@ pub mod Ends
 pub mod Steps
 pub mod Keeps
 pub mod Reports
+pub mod Ledger
