@@ -8,3 +8,4 @@ pub mod Sums
 pub mod Kept
 pub mod First
 pub mod Without
+pub mod OneSum
