@@ -1,2 +1,3 @@
 pub mod Settling
 pub mod Demand3
+pub mod Cases
