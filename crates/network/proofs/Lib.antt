@@ -1,5 +1,6 @@
 pub mod Ends
 pub mod Steps
+pub mod Sorts
 pub mod Keeps
 pub mod Reports
 pub mod Ledger
