@@ -22,7 +22,7 @@ use Rattle.station.specs.Acts.{letter, openLinks, openBut, known, knownBut, sta
 use Rattle.station.proofs.Cases.{bodyNumbers, letterNumbers}
 use Rattle.network.specs.World.{World, Event, holdingAt, heard, exists, allowed, letterOver, over, change, fits, refusal, step, wellFormed, fresh, settled, raised, dropped, askRefusal, reportAt, reachAt}
 use Rattle.network.specs.History.{ifTaken, next, run, total, everSettled}
-use Rattle.laws.specs.Flood.{onlyNotices, highest, noticesIn, distance, share, bound}
+use Rattle.laws.specs.Flood.{onlyNotices, highest, distance, share, bound}
 
 line : Network
 line = record { stations = 3; links = record { low = 0; high = 1 } ∷ record { low = 1; high = 2 } ∷ [] }
@@ -82,7 +82,7 @@ flood = event 7 0 0 ∷ event 7 0 0 ∷ []
 -- 1 if well formed; 1 if the run is made only of notices; the bound; how many are settled; letters in flight at the end; then
 -- every table at the end
 floods : List ℕ
-unfolding flooded flood line live event wellFormed sheetHolds holdingHolds letterHolds refusal exists allowed over letterOver heard fits change step onNotice received openBut run total settled onlyNotices highest noticesIn distance share bound
+unfolding flooded flood line live event wellFormed sheetHolds holdingHolds letterHolds refusal exists allowed over letterOver heard fits change step onNotice received openBut run total settled onlyNotices highest distance share bound
 floods =
     bit (wellFormed flooded) ∷ bit (onlyNotices flooded flood) ∷ bound flooded ∷ everSettled flooded flood ∷ length (run flooded flood .letters)
     ∷ collect (λ s. holdingAt (run flooded flood) s .table) (below 3)

@@ -17,11 +17,11 @@ use Rattle.net.specs.declared.Body.the-variants.{Request, Reply, Notice}
 use Rattle.net.specs.declared.Letter.{Letter}
 use Rattle.net.specs.Network.{Network}
 use Rattle.station.specs.Holding.{counter, isLive}
-use Rattle.network.specs.World.{World, Event, Sort, act, delivery, loss, sortOf, holdingAt, letterAt, after, refusal, Outcome, accepted, step, wellFormed, isNotice, settledAs, settled}
+use Rattle.network.specs.World.{World, Event, Sort, act, delivery, loss, sortOf, holdingAt, letterAt, after, refusal, Outcome, accepted, step, wellFormed, isNotice, noticesOf, settledAs, settled}
 use Rattle.network.specs.History.{ifTaken, orElse, next, run, total, everSettled}
 use Rattle.network.proofs.Steps.{step-accepts}
 use Rattle.network.proofs.Keeps.{Formed, formed}
-use Rattle.laws.specs.Flood.{takesNotice, onlyNotices, carried, highest, noticesIn, neighbours, distance, share, bound}
+use Rattle.laws.specs.Flood.{takesNotice, onlyNotices, carried, highest, neighbours, distance, share, bound}
 use Rattle.laws.proofs.Settling.{noticeOf, notice, floodOf, weightIn, siteOf, Fits, settles}
 use Rattle.ranks.specs.Flood as R
 use Rattle.ranks.specs.Flood.{Flood, Site, Run}
@@ -72,12 +72,12 @@ settled-is-length w (e ∷ es) t =
     omega (arith, settled-is-length (next w e) es (then-only w e es t))
 
 -- ---- the bound over ranks is the mission's
-notices-count : (net : Network) (xs : List Letter) → length (collect (notice net) xs) ≡ sumOf (λ x. bit (isNotice (x .body))) xs
+notices-count : (net : Network) (xs : List Letter) → length (collect (notice net) xs) ≡ noticesOf xs
 notices-count net [] = refl
 notices-count net (x ∷ xs) = go (x .body) (notices-count net xs)
   where
-    go : (b : Body) → length (collect (notice net) xs) ≡ sumOf (λ x. bit (isNotice (x .body))) xs
-        → length (noticeOf net (x .link) (x .sender) b ++ collect (notice net) xs) ≡ bit (isNotice b) + sumOf (λ x. bit (isNotice (x .body))) xs
+    go : (b : Body) → length (collect (notice net) xs) ≡ noticesOf xs
+        → length (noticeOf net (x .link) (x .sender) b ++ collect (notice net) xs) ≡ bit (isNotice b) + noticesOf xs
     go Request e = omega arith
     go (Reply c) e = omega arith
     go (Notice j c) e = omega arith
@@ -112,7 +112,7 @@ module _ (w : World) where
       by-condition false d x = zero-mul x
 
   bound-is : B.bound (siteOf w) (floodOf w) ≡ bound w
-  unfolding bound B.bound B.potential noticesIn
+  unfolding bound B.bound B.potential
   bound-is =
       ap₂ _+_ (notices-count (w .net) (w .letters))
       (sum-same (B.share (siteOf w) (B.highest (siteOf w) (floodOf w)) (floodOf w)) (share w) (below (w .net .stations)) share-is)

@@ -6,13 +6,12 @@ use lib.Dec.{eqb}
 use lib.ListN.{length}
 use Rattle.lists.specs.Lists.{if_then_else_, sumOf, below}
 use Rattle.lists.specs.Places.{largestOf}
-use Rattle.lists.specs.Words.{bit}
 use Rattle.net.specs.declared.Body.{Body}
 use Rattle.net.specs.declared.Body.the-variants.{Request, Reply, Notice}
 use Rattle.net.specs.declared.Letter.{Letter}
 use Rattle.net.specs.Network.{Network, linkNumbers, other, own}
 use Rattle.station.specs.Holding.{Holding, counter, isLive}
-use Rattle.network.specs.World.{World, Event, Sort, act, delivery, loss, sortOf, holdingAt, letterAt, isNotice, refusal}
+use Rattle.network.specs.World.{World, Event, Sort, act, delivery, loss, sortOf, holdingAt, letterAt, isNotice, noticesOf, refusal}
 use Rattle.network.specs.History.{next}
 
 -- ---- a run made only of accepted deliveries and losses of notices, with no other event in it
@@ -35,9 +34,6 @@ unfoldable pub highest : World → ℕ → ℕ
 highest w k = max (largestOf (λ s. counter (holdingAt w s) k) (below (w .net .stations))) (largestOf (λ x. carried k (x .body)) (w .letters))
 
 -- ---- the bound
-unfoldable pub noticesIn : World → ℕ
-noticesIn w = sumOf (λ x. bit (isNotice (x .body))) (w .letters)
-
 -- the other ends of a station's own links
 abbrev pub neighbours : Network → ℕ → List ℕ
 neighbours net s = map (λ k. other net k s) (own net s)
@@ -52,4 +48,4 @@ share w s = if isLive (holdingAt w s .condition) then (length (neighbours (w .ne
 
 -- the notices in flight, and what each station adds
 unfoldable pub bound : World → ℕ
-bound w = noticesIn w + sumOf (share w) (below (w .net .stations))
+bound w = noticesOf (w .letters) + sumOf (share w) (below (w .net .stations))

@@ -7,10 +7,12 @@ use native.Mathlib.Omega.{arith}
 use lib.Dec.{T, ltb, ltb→lt}
 use lib.ListN.{length, length-append}
 use Rattle.lists.proofs.Tests.{and-l}
-use Rattle.lists.proofs.Without.{length-without}
+use Rattle.lists.specs.Words.{bit}
+use Rattle.lists.proofs.Counts.{sum-append}
+use Rattle.lists.proofs.Without.{length-without, sum-without}
 use Rattle.net.specs.Network.{Network}
-use Rattle.network.specs.World.{World, Event, Sort, act, delivery, loss, sortOf, existsAs, exists, changeAs, change, after, Outcome, refused, accepted, step, fresh}
-use Rattle.network.specs.History.{orElse, ifTaken, next, run, total, sent, deliveredAs, lostAs, everSent, everDelivered, everLost}
+use Rattle.network.specs.World.{World, Event, Sort, act, delivery, loss, sortOf, noLetter, letterAt, existsAs, exists, changeAs, change, Outcome, refused, accepted, step, isNotice, noticesOf, settledAs, settled, fresh}
+use Rattle.network.specs.History.{orElse, ifTaken, next, run, total, sent, deliveredAs, lostAs, everSent, everDelivered, everLost, everSettled}
 use Rattle.network.proofs.Steps.{taken}
 
 -- ---- one event
@@ -42,6 +44,39 @@ conserved w (e ∷ es) = go (step w e) refl (conserved (next w e) es)
 pub letters-conserved : (net : Network) (es : List Event) → everSent (fresh net) es ≡ everDelivered (fresh net) es + everLost (fresh net) es + length (run (fresh net) es .letters)
 unfolding fresh
 letters-conserved net es = omega (arith, conserved (fresh net) es)
+
+-- ---- the same of notices alone: those settled are those that leave
+settled-as : (s : Sort) (w : World) (a b : ℕ) → T (existsAs s w a b) → noticesOf (changeAs s w a b .left) + settledAs s (letterAt w a) ≡ noticesOf (w .letters)
+settled-as (act k) w a b t = omega arith
+settled-as delivery w a b t = sum-without (λ x. bit (isNotice (x .body))) a (w .letters) noLetter (ltb→lt a _ (and-l (ltb a (length (w .letters))) _ t))
+settled-as loss w a b t = sum-without (λ x. bit (isNotice (x .body))) a (w .letters) noLetter (ltb→lt a _ (and-l (ltb a (length (w .letters))) _ t))
+
+pub one-settled : (w : World) (e : Event) (v : World) → step w e ≡ accepted v
+    → noticesOf (w .letters) + noticesOf (change w e .sent) ≡ settled w e + noticesOf (v .letters)
+unfolding change exists settled
+one-settled w e v q =
+    let t = taken w e v q in
+    rw (t .is)
+    (omega (
+      arith,
+      settled-as (sortOf (e .kind)) w (e .a) (e .b) (t .exists),
+      sum-append (λ x. bit (isNotice (x .body))) (change w e .left) (change w e .sent),
+    ))
+
+-- NOTICES EVER SENT AND THOSE IN FLIGHT AT THE START ARE THOSE SETTLED AND THOSE IN FLIGHT AT THE END: the count of settled
+-- notices is of events in the history, and no other number would do.
+pub notices-conserved : (w : World) (es : List Event) → noticesOf (w .letters) + total (λ u e. noticesOf (change u e .sent)) w es ≡ everSettled w es + noticesOf (run w es .letters)
+unfolding run total
+notices-conserved w [] = omega arith
+notices-conserved w (e ∷ es) = go (step w e) refl (notices-conserved (next w e) es)
+  where
+    f : World → Event → ℕ
+    f u e = noticesOf (change u e .sent)
+
+    go : (o : Outcome) → step w e ≡ o → noticesOf (next w e .letters) + total f (next w e) es ≡ everSettled (next w e) es + noticesOf (run (next w e) es .letters)
+        → noticesOf (w .letters) + total f w (e ∷ es) ≡ everSettled w (e ∷ es) + noticesOf (run (next w e) es .letters)
+    go (refused n) q ih = rw q (omega (arith, rw q at ih))
+    go (accepted v) q ih = rw q (omega (arith, one-settled w e v q, rw q at ih))
 
 -- ---- counts add up: a history in two parts, and one event more at its end (what the tally does)
 pub run-append : (w : World) (es fs : List Event) → run w (es ++ fs) ≡ run (run w es) fs

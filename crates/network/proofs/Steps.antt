@@ -3,13 +3,18 @@
 use Prim.Native.Nat.{ℕ, _≤_}
 use mathlib.Core.Bool.{Bool, true, false, not}
 use mathlib.Core.Path.{_≡_, refl, ap, _∙_, subst⁻¹}
+use mathlib.Core.List.{List, []}
 use native.Mathlib.Omega.{arith}
 use borrow.Author.Tests.{ne-eqb}
 use lib.Dec.{T, eqb, leb→le, eqb→eq}
-use lib.ListN.{length}
+use lib.ListN.{length, set}
+use lib.Seq.{set-getD}
 use Rattle.lists.specs.Lists.{if_then_else_}
+use Rattle.lists.specs.Places.{without}
 use Rattle.lists.proofs.Tests.{T-is, T-not-is, if-elim}
-use Rattle.network.specs.World.{World, Event, Sort, sortOf, exists, allowed, over, Change, changeAs, change, changed, after, fits, refusal, Outcome, refused, accepted, step}
+use Rattle.station.specs.Holding.{Holding}
+use Rattle.station.proofs.Rises.{received-gone}
+use Rattle.network.specs.World.{World, Event, Sort, delivery, loss, sortOf, nobody, holdingAt, letterAt, receiver, heard, put, exists, allowed, over, Change, changeAs, change, changed, after, fits, refusal, Outcome, refused, accepted, step}
 
 module _ (w : World) (e : Event) where
   -- ---- what each answer says of the event
@@ -82,6 +87,17 @@ module _ (w : World) (e : Event) where
   pub change-as : (s : Sort) → sortOf (e .kind) ≡ s → change w e ≡ changeAs s w (e .a) (e .b)
   unfolding change
   change-as s p = ap (λ (x : Sort). changeAs x w (e .a) (e .b)) p
+
+  -- event 7 at a receiver that isn't live, or quiet on that link: the letter is gone and nothing else happens, as in event 8
+  pub unheard-is-lost : sortOf (e .kind) ≡ delivery → T (not (heard w (letterAt w (e .a)))) → change w e ≡ changeAs loss w (e .a) (e .b)
+  unfolding heard
+  unheard-is-lost p t =
+      change-as delivery p
+      ∙ ap (put w r (without (e .a) (w .letters))) (received-gone (w .net) r (holdingAt w r) (letterAt w (e .a)) t)
+      ∙ ap (λ (hs : List Holding). record { holdings = hs; left = without (e .a) (w .letters); sent = [] }) (set-getD (w .holdings) r nobody)
+    where
+      r : ℕ
+      r = receiver w (letterAt w (e .a))
 
   -- the network stays
   pub after-net : after w e .net ≡ w .net

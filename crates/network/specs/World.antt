@@ -179,6 +179,10 @@ isNotice Request = false
 isNotice (Reply c) = false
 isNotice (Notice j c) = true
 
+-- how many of some letters are notices
+abbrev pub noticesOf : List Letter → ℕ
+noticesOf xs = sumOf (λ x. bit (isNotice (x .body))) xs
+
 -- notices taken off by events 7 and 8
 abbrev pub settledAs : Sort → Letter → ℕ
 settledAs (act k) x = 0
