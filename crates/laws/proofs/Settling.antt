@@ -129,23 +129,25 @@ module _ (site : Site) (w : World) (f : Fits site w) (a : ℕ) (h : a < length (
   dropped = (inl (gone (set (w .holdings) r here) (set-getD (w .holdings) r nobody)), refl)
 
   kept : (d : Done) → T (isLive (here .condition)) → Took (w .net) r j c here (d .holding) → Spreads (w .net) r k j c here (d .sent) → Goal d
-  kept d live t sp =
-      (inr (record {
-        before = before;
-        it = it;
-        after = behind;
-        copies = collect (notice (w .net)) (d .sent);
-        was = was;
-        now = now (d .sent);
-        station = subst (λ (n : ℕ). receiver w (letterAt w a) < n) (f .stations) (posted .real);
-        link = subst (λ (n : ℕ). j < n) (f .links) subject-real;
-        newer = t .newer;
-        takes = ap (λ (g : Holding). counter g j) (getD-set-same (w .holdings) r (d .holding) nobody in-holdings) ∙ t .takes;
-        others = λ s i z. others s i z (ℕ-discrete s r);
-        few = subst⁻¹ (λ (n : ℕ). n ≤ site .weight r) (copies-length (w .net) j c (d .sent) (sp .alike))
-            (le-trans (subst⁻¹ (λ (n : ℕ). length (d .sent) ≤ n - 1) (length-map (own (w .net) r) (λ i. other (w .net) i r)) (sp .few)) (f .heavy r live));
-        alike = copies-alike (w .net) j c (d .sent) (sp .alike);
-      }), t .condition)
+  kept d live t sp = (
+    inr (record {
+      before = before;
+      it = it;
+      after = behind;
+      copies = collect (notice (w .net)) (d .sent);
+      was = was;
+      now = now (d .sent);
+      station = subst (λ (n : ℕ). receiver w (letterAt w a) < n) (f .stations) (posted .real);
+      link = subst (λ (n : ℕ). j < n) (f .links) subject-real;
+      newer = t .newer;
+      takes = ap (λ (g : Holding). counter g j) (getD-set-same (w .holdings) r (d .holding) nobody in-holdings) ∙ t .takes;
+      others = λ s i z. others s i z (ℕ-discrete s r);
+      few = subst⁻¹ (λ (n : ℕ). n ≤ site .weight r) (copies-length (w .net) j c (d .sent) (sp .alike))
+          (le-trans (subst⁻¹ (λ (n : ℕ). length (d .sent) ≤ n - 1) (length-map (own (w .net) r) (λ i. other (w .net) i r)) (sp .few)) (f .heavy r live));
+      alike = copies-alike (w .net) j c (d .sent) (sp .alike);
+    }),
+    t .condition,
+  )
     where
       others : (s i : ℕ) → ((s ≡ r) × (i ≡ j) → ⊥) → Dec (s ≡ r) → counter (getD (set (w .holdings) r (d .holding)) s nobody) i ≡ counter (holdingAt w s) i
       others s i z (yes e) = rw e (ap (λ (g : Holding). counter g i) (getD-set-same (w .holdings) r (d .holding) nobody in-holdings) ∙ t .others i (λ p. z (e, p)))
