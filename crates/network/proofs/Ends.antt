@@ -13,7 +13,7 @@ use Rattle.lists.proofs.Numbers.{below-at}
 use Rattle.net.specs.Network.{Network, ends, linkNumbers, isEnd, other, precedes, endsHold, linkHolds, sheetHolds}
 
 module _ (net : Network) (ok : T (sheetHolds net)) (k : ℕ) (l : k < length (net .links)) where
-  link-holds : T (linkHolds net k)
+  pub link-holds : T (linkHolds net k)
   unfolding sheetHolds
   link-holds = below-at (linkHolds net) (length (net .links)) (and-r (leb 1 (net .stations) && leb (net .stations) 32 && leb (length (net .links)) 64) _ ok) k l
 

@@ -1,4 +1,5 @@
 pub mod Ends
+pub mod Neighbours
 pub mod Steps
 pub mod Sorts
 pub mod Keeps
