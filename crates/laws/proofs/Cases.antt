@@ -4,6 +4,7 @@ use Prim.Native.Nat.{ℕ, _+_}
 use mathlib.Core.Bool.{Bool, true, false}
 use mathlib.Core.Path.{_≡_, refl}
 use mathlib.Core.List.{List, [], _∷_, _++_, map}
+use lib.Dec.{T}
 use lib.ListN.{length}
 use Rattle.lists.specs.Words.{bit, wordOf}
 use Rattle.lists.specs.Places.{collect}
@@ -70,12 +71,12 @@ unfolding asked line live askRefusal reachAt reach within spread wordOf
 reaches a b = askRefusal (asked a b) 0 ∷ reachAt (asked a b) 0 .word ∷ reachAt (asked a b) 0 .ones ∷ reachAt (asked a b) 0 .lowest ∷ []
 
 -- P13's world, and the flood in it: the one notice is delivered, then the one that station 1 passes on
-flooded : World
+pub flooded : World
 unfolding line live
 flooded =
     record { net = line; holdings = live false 2 1 ∷ live false 1 1 ∷ live false 1 1 ∷ []; letters = letter 0 0 (Notice 0 2) ∷ [] }
 
-flood : List Event
+pub flood : List Event
 unfolding event
 flood = event 7 0 0 ∷ event 7 0 0 ∷ []
 
@@ -146,3 +147,16 @@ table =
 pub cases-hold : map (λ c. c .got) table ≡ map (λ c. c .want) table
 unfolding table
 cases-hold = refl
+
+-- ---- P13 as equations: the bound is met with equality, so no smaller one would be true
+pub flooded-formed : T (wellFormed flooded)
+unfolding flooded line live wellFormed sheetHolds holdingHolds letterHolds
+flooded-formed = tt
+
+pub flood-only-notices : T (onlyNotices flooded flood)
+unfolding flooded flood line live event refusal exists allowed over letterOver heard fits change step onNotice received openBut onlyNotices
+flood-only-notices = tt
+
+pub bound-is-met : everSettled flooded flood ≡ bound flooded
+unfolding flooded flood line live event refusal exists allowed over letterOver heard fits change step onNotice received openBut total settled highest distance share bound
+bound-is-met = refl

@@ -34,7 +34,7 @@ unfoldable pub highest : World → ℕ → ℕ
 highest w k = max (largestOf (λ s. counter (holdingAt w s) k) (below (w .net .stations))) (largestOf (λ x. carried k (x .body)) (w .letters))
 
 -- ---- the bound
--- the other ends of a station's own links
+-- the other ends of a station's own links: no two of them are the same station (network's `neighbours-differ`)
 abbrev pub neighbours : Network → ℕ → List ℕ
 neighbours net s = map (λ k. other net k s) (own net s)
 
