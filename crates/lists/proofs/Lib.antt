@@ -6,3 +6,6 @@ pub mod Counts
 pub mod Places
 pub mod Sums
 pub mod Kept
+pub mod First
+pub mod Without
+pub mod OneSum

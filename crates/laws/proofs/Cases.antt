@@ -1,0 +1,162 @@
+-- P6 to P13 of document 01 over the whole machine, and its own sample run, as one table with a single claim. Every world here is
+-- the line 0-1-2 with link 0 between 0 and 1 and link 1 between 1 and 2. antt computes both sides. Assumes nothing.
+use Prim.Native.Nat.{ℕ, _+_}
+use mathlib.Core.Bool.{Bool, true, false}
+use mathlib.Core.Path.{_≡_, refl}
+use mathlib.Core.List.{List, [], _∷_, _++_, map}
+use lib.Dec.{T}
+use lib.ListN.{length}
+use Rattle.lists.specs.Words.{bit, wordOf}
+use Rattle.lists.specs.Places.{collect}
+use Rattle.lists.specs.Lists.{below}
+use Rattle.net.specs.declared.Body.{Body}
+use Rattle.net.specs.declared.Body.the-variants.{Request, Reply, Notice}
+use Rattle.net.specs.declared.Letter.{Letter}
+use Rattle.net.specs.Network.{Network, sheetHolds}
+use Rattle.net.specs.Letters.{letterHolds}
+use Rattle.reach.specs.Counters.{healed}
+use Rattle.reach.specs.Reach.{spread, within, reach, purge, report}
+use Rattle.reach.proofs.Cases.{Case}
+use Rattle.station.specs.declared.Condition.the-variants.{Live}
+use Rattle.station.specs.Holding.{Holding, noMarks, setTesting, holdingHolds}
+use Rattle.station.specs.Acts.{letter, openLinks, openBut, known, knownBut, started, stopped, recovered, interval, timeout, spoken, onRequest, onReply, overflows, onNotice, received}
+use Rattle.station.proofs.Cases.{bodyNumbers, letterNumbers}
+use Rattle.network.specs.World.{World, Event, holdingAt, heard, exists, allowed, letterOver, over, change, fits, refusal, step, wellFormed, fresh, settled, raised, dropped, askRefusal, reportAt, reachAt}
+use Rattle.network.specs.History.{ifTaken, next, run, total, everSettled}
+use Rattle.laws.specs.Flood.{onlyNotices, highest, distance, share, bound}
+
+line : Network
+line = record { stations = 3; links = record { low = 0; high = 1 } ∷ record { low = 1; high = 2 } ∷ [] }
+
+-- live, with these two counters, testing on link 0 or not
+live : Bool → ℕ → ℕ → Holding
+live tests a b = record { condition = Live; table = a ∷ b ∷ []; marks = setTesting tests noMarks ∷ noMarks ∷ [] }
+
+event : ℕ → ℕ → ℕ → Event
+event kind a b = record { kind = kind; a = a; b = b }
+
+-- station 1 as given, the others live with counters 1
+middle : Holding → List Letter → World
+unfolding line live
+middle h xs = record { net = line; holdings = live false 1 1 ∷ h ∷ live false 1 1 ∷ []; letters = xs }
+
+-- ---- what is looked at, as numbers
+-- 1 if the world before is well formed; the answer; the counters of station 1 after the event; then the letters in flight, each
+-- as link, sender, tag and what it carries
+seen : World → Event → List ℕ
+unfolding wellFormed sheetHolds holdingHolds letterHolds refusal exists allowed over letterOver heard fits change step timeout onRequest onReply onNotice overflows received healed openLinks openBut known knownBut purge reach within spread letterNumbers bodyNumbers
+seen w e = bit (wellFormed w) ∷ refusal w e ∷ (holdingAt (next w e) 1 .table ++ letterNumbers (next w e .letters))
+
+-- station 1 times out on link 0, on which it tests
+timesOut : ℕ → ℕ → List ℕ
+unfolding middle live seen event
+timesOut a b = seen (middle (live true a b) []) (event 5 1 0)
+
+-- station 1 gets this letter from station 0 on link 0, testing there or not
+gets : Bool → ℕ → ℕ → Body → List ℕ
+unfolding middle live seen event
+gets tests a b x = seen (middle (live tests a b) (letter 0 0 x ∷ [])) (event 7 0 0)
+
+-- station 0, with these two counters, is asked: the answer, then the report, or the reach as word, ones and lowest not reached
+asked : ℕ → ℕ → World
+unfolding line live
+asked a b = record { net = line; holdings = live false a b ∷ live false 1 1 ∷ live false 1 1 ∷ []; letters = [] }
+
+reports : ℕ → ℕ → List ℕ
+unfolding asked line live askRefusal reportAt report reach within spread
+reports a b = askRefusal (asked a b) 0 ∷ reportAt (asked a b) 0
+
+reaches : ℕ → ℕ → List ℕ
+unfolding asked line live askRefusal reachAt reach within spread wordOf
+reaches a b = askRefusal (asked a b) 0 ∷ reachAt (asked a b) 0 .word ∷ reachAt (asked a b) 0 .ones ∷ reachAt (asked a b) 0 .lowest ∷ []
+
+-- P13's world, and the flood in it: the one notice is delivered, then the one that station 1 passes on
+pub flooded : World
+unfolding line live
+flooded =
+    record { net = line; holdings = live false 2 1 ∷ live false 1 1 ∷ live false 1 1 ∷ []; letters = letter 0 0 (Notice 0 2) ∷ [] }
+
+pub flood : List Event
+unfolding event
+flood = event 7 0 0 ∷ event 7 0 0 ∷ []
+
+-- 1 if well formed; 1 if the run is made only of notices; the bound; how many are settled; letters in flight at the end; then
+-- every table at the end
+floods : List ℕ
+unfolding flooded flood line live event wellFormed sheetHolds holdingHolds letterHolds refusal exists allowed over letterOver heard fits change step onNotice received openBut run total settled onlyNotices highest distance share bound
+floods =
+    bit (wellFormed flooded) ∷ bit (onlyNotices flooded flood) ∷ bound flooded ∷ everSettled flooded flood ∷ length (run flooded flood .letters)
+    ∷ collect (λ s. holdingAt (run flooded flood) s .table) (below 3)
+
+-- ---- document 01's own run: for each event the answer, letters in flight, notices settled so far; at the end each station's
+-- number and counters
+lines : ℕ → World → List Event → List ℕ
+unfolding refusal exists allowed over letterOver heard fits change step settled started stopped recovered interval onRequest onReply overflows received onNotice healed openLinks openBut known knownBut purge reach within spread
+lines n w [] = collect (λ s. s ∷ holdingAt w s .table) (below (w .net .stations))
+lines n w (e ∷ es) =
+    let m = n + ifTaken (step w e) (settled w e) in
+    refusal w e ∷ length (next w e .letters) ∷ m ∷ lines m (next w e) es
+
+sampleRun : List ℕ
+unfolding lines event fresh stopped
+sampleRun =
+    lines 0 (fresh (record { stations = 2; links = record { low = 0; high = 1 } ∷ [] }))
+    (event 1 0 0 ∷ event 1 1 0 ∷ event 3 0 0 ∷ event 3 1 0 ∷ event 7 0 0 ∷ event 7 0 0 ∷ event 7 0 0 ∷ event 7 0 0 ∷ event 7 0 0 ∷ [])
+
+-- ---- the table; 0 is the sample run
+pub table : List Case
+unfolding sampleRun timesOut gets reports reaches floods
+table =
+    record {
+      number = 0;
+      got = sampleRun;
+      want = (0 ∷ 0 ∷ 0 ∷ []) ++ (0 ∷ 0 ∷ 0 ∷ []) ++ (0 ∷ 1 ∷ 0 ∷ []) ++ (0 ∷ 2 ∷ 0 ∷ []) ++ (0 ∷ 1 ∷ 0 ∷ []) ++ (0 ∷ 1 ∷ 0 ∷ []) ++ (0 ∷ 1 ∷ 0 ∷ [])
+          ++ (0 ∷ 0 ∷ 1 ∷ []) ++ (6 ∷ 0 ∷ 1 ∷ []) ++ (0 ∷ 2 ∷ []) ++ (1 ∷ 2 ∷ []);
+    }
+    -- P6 timeout at counter 2: 3, told on the other link; at 3: stays 3
+    ∷ record { number = 6; got = timesOut 2 4; want = 1 ∷ 0 ∷ 3 ∷ 4 ∷ (1 ∷ 1 ∷ 35 ∷ 0 ∷ 3 ∷ []) }
+    ∷ record { number = 6; got = timesOut 3 4; want = 1 ∷ 0 ∷ 3 ∷ 4 ∷ [] }
+    -- P7 reply own 7, carried 1: 8, everything above 1 sent
+    ∷ record {
+      number = 7;
+      got = gets true 7 4 (Reply 1);
+      want = (1 ∷ 0 ∷ 8 ∷ 4 ∷ []) ++ (0 ∷ 1 ∷ 35 ∷ 0 ∷ 8 ∷ []) ++ (1 ∷ 1 ∷ 35 ∷ 0 ∷ 8 ∷ []) ++ (0 ∷ 1 ∷ 35 ∷ 1 ∷ 4 ∷ []) ++ (1 ∷ 1 ∷ 35 ∷ 1 ∷ 4 ∷ []);
+    }
+    -- P8 own 6, carried 8: 8, this link alone sent
+    ∷ record { number = 8; got = gets true 6 4 (Reply 8); want = (1 ∷ 0 ∷ 8 ∷ 4 ∷ []) ++ (0 ∷ 1 ∷ 35 ∷ 0 ∷ 8 ∷ []) ++ (1 ∷ 1 ∷ 35 ∷ 0 ∷ 8 ∷ []) }
+    -- P9 own 65,533, carried 1: 65,534; own 65,535: refusal 8, and the reply is still there
+    ∷ record {
+      number = 9;
+      got = gets true 65533 1 (Reply 1);
+      want = (1 ∷ 0 ∷ 65534 ∷ 1 ∷ []) ++ (0 ∷ 1 ∷ 35 ∷ 0 ∷ 65534 ∷ []) ++ (1 ∷ 1 ∷ 35 ∷ 0 ∷ 65534 ∷ []);
+    }
+    ∷ record { number = 9; got = gets true 65535 1 (Reply 1); want = 1 ∷ 8 ∷ 65535 ∷ 1 ∷ (0 ∷ 0 ∷ 34 ∷ 1 ∷ []) }
+    -- P10 notice equal to the own counter: nothing sent
+    ∷ record { number = 10; got = gets false 2 4 (Notice 0 2); want = 1 ∷ 0 ∷ 2 ∷ 4 ∷ [] }
+    -- P11 seen from 0, link 0 even, link 1 odd: station 1 working, 2 unreachable, link 1 unresponsive
+    ∷ record { number = 11; got = reports 2 1; want = 0 ∷ (1 ∷ 1 ∷ 0 ∷ []) ++ (1 ∷ 2 ∷ []) }
+    ∷ record { number = 11; got = reaches 2 1; want = 0 ∷ 3 ∷ 2 ∷ 2 ∷ [] }
+    -- P12 link 0 odd, link 1 even: link 0 unresponsive, link 1 perceived unreachable
+    ∷ record { number = 12; got = reports 1 2; want = 0 ∷ (1 ∷ 0 ∷ 0 ∷ []) ++ (2 ∷ 0 ∷ []) }
+    ∷ record { number = 12; got = reaches 1 2; want = 0 ∷ 1 ∷ 1 ∷ 1 ∷ [] }
+    -- P13 bound 2, and 2 are settled
+    ∷ record { number = 13; got = floods; want = (1 ∷ 1 ∷ []) ++ (2 ∷ 2 ∷ 0 ∷ []) ++ (2 ∷ 1 ∷ []) ++ (2 ∷ 1 ∷ []) ++ (2 ∷ 1 ∷ []) }
+    ∷ []
+
+-- the single claim
+pub cases-hold : map (λ c. c .got) table ≡ map (λ c. c .want) table
+unfolding table
+cases-hold = refl
+
+-- ---- P13 as equations: the bound is met with equality, so no smaller one would be true
+pub flooded-formed : T (wellFormed flooded)
+unfolding flooded line live wellFormed sheetHolds holdingHolds letterHolds
+flooded-formed = tt
+
+pub flood-only-notices : T (onlyNotices flooded flood)
+unfolding flooded flood line live event refusal exists allowed over letterOver heard fits change step onNotice received openBut onlyNotices
+flood-only-notices = tt
+
+pub bound-is-met : everSettled flooded flood ≡ bound flooded
+unfolding flooded flood line live event refusal exists allowed over letterOver heard fits change step onNotice received openBut total settled highest distance share bound
+bound-is-met = refl

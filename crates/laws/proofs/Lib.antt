@@ -1,0 +1,4 @@
+pub mod Settling
+pub mod Demand3
+pub mod Cases
+pub mod Calls

@@ -1,0 +1,222 @@
+-- The world as a flood over ranks: an accepted delivery or loss of a notice settles one there, and no station changes its
+-- condition. What the receiver does is known by the station's laws alone. The theorem over runs: Demand3. Assumes nothing.
+use Prim.Native.Nat.{ℕ, suc, _-_, _≤_, _<_}
+use mathlib.Core.Bool.{Bool, true, false, not}
+use mathlib.Core.Path.{_≡_, refl, ap, _∙_, subst, subst⁻¹}
+use mathlib.Core.Logic.{_⊎_, inl, inr, ⊎-elim}
+use mathlib.Core.List.{List, [], _∷_, _++_, append-nil, List·Memᴰ·not-nil, List·Memᴰ·cases-cons}
+use native.Mathlib.Decide.{ℕ-discrete}
+use native.Mathlib.Nat.{le-trans}
+use lib.Dec.{T, ltb, ltb→lt}
+use lib.ListN.{length, getD, set, take, drop, length-map}
+use lib.Seq.{getD-set-same, getD-set-other, set-getD}
+use Rattle.lists.specs.Lists.{if_then_else_, every}
+use Rattle.lists.specs.Places.{without, collect}
+use Rattle.lists.proofs.Tests.{and-l, and-r}
+use Rattle.lists.proofs.Places.{collect-at, collect-without}
+use Rattle.net.specs.declared.Body.{Body}
+use Rattle.net.specs.declared.Body.the-variants.{Request, Reply, Notice}
+use Rattle.net.specs.declared.Letter.{Letter}
+use Rattle.net.specs.Network.{Network, other, own}
+use Rattle.net.specs.Letters.{bodyHolds}
+use Rattle.station.specs.Holding.{Holding, counter, isLive}
+use Rattle.station.specs.Acts.{Done, unchanged, hears, takes, onNotice, received}
+use Rattle.station.proofs.Rises.{Took, notice-takes, notice-drops, received-gone, received-notice}
+use Rattle.station.proofs.Counts.{is-notice, Spreads, notice-spreads}
+use Rattle.station.proofs.Counts as Counts
+use Rattle.network.specs.World.{World, Event, Sort, act, delivery, loss, sortOf, nobody, noLetter, holdingAt, letterAt, receiver, existsAs, exists, put, changeAs, change, changed, isNotice, accepted, step}
+use Rattle.network.proofs.Steps.{taken}
+use Rattle.network.proofs.Keeps.{Formed, Posted, at-posted, step-formed}
+use Rattle.laws.specs.Flood.{takesNotice, neighbours}
+use Rattle.ranks.specs.Flood as R
+use Rattle.ranks.specs.Flood.{Flood, Site, _∈_, Gone, Settles}
+
+-- ---- the world as a flood over ranks
+abbrev pub noticeOf : Network → ℕ → ℕ → Body → List R.Notice
+noticeOf net k s Request = []
+noticeOf net k s (Reply c) = []
+noticeOf net k s (Notice j c) = record { over = k; sender = s; receiver = other net k s; subject = j; rank = c } ∷ []
+
+abbrev pub notice : Network → Letter → List R.Notice
+notice net x = noticeOf net (x .link) (x .sender) (x .body)
+
+abbrev pub floodOf : World → Flood
+floodOf w = record { rank = λ s k. counter (holdingAt w s) k; flying = collect (notice (w .net)) (w .letters) }
+
+-- a live station passes a notice on to its neighbours less one at the most, any other station to none
+abbrev pub weightIn : World → ℕ → ℕ
+weightIn w s = if isLive (holdingAt w s .condition) then (length (neighbours (w .net) s) - 1) else 0
+
+abbrev pub siteOf : World → Site
+siteOf w = record { stations = w .net .stations; links = length (w .net .links); weight = weightIn w }
+
+-- ---- alike letters as notices
+module _ (net : Network) (j c : ℕ) where
+  abbrev says : Letter → Bool
+  says x = Counts.isNotice j c (x .body)
+
+  copies-length : (xs : List Letter) → T (every says xs) → length (collect (notice net) xs) ≡ length xs
+  copies-length [] t = refl
+  copies-length (x ∷ xs) t =
+      ap (λ (b : Body). length (noticeOf net (x .link) (x .sender) b ++ collect (notice net) xs)) (is-notice j c (x .body) (and-l (says x) _ t))
+      ∙ ap suc (copies-length xs (and-r (says x) _ t))
+
+  copies-alike : (xs : List Letter) → T (every says xs) → (y : R.Notice) → y ∈ collect (notice net) xs → (y .subject ≡ j) × (y .rank ≡ c)
+  copies-alike [] t y m = absurd (List·Memᴰ·not-nil m)
+  copies-alike (x ∷ xs) t y m =
+      ⊎-elim (λ e. (ap (λ (z : R.Notice). z .subject) e, ap (λ (z : R.Notice). z .rank) e)) (λ n. copies-alike xs (and-r (says x) _ t) y n)
+      (List·Memᴰ·cases-cons (subst (λ (b : Body). y ∈ (noticeOf net (x .link) (x .sender) b ++ collect (notice net) xs)) (is-notice j c (x .body) (and-l (says x) _ t)) m))
+
+-- ---- one event
+-- what stays in such a run: the network, and which stations are live
+pub record Fits (site : Site) (w : World) : Type 0 where
+  pub ok : Formed w
+  pub stations : w .net .stations ≡ site .stations
+  pub links : length (w .net .links) ≡ site .links
+  pub heavy : (s : ℕ) → T (isLive (holdingAt w s .condition)) → length (neighbours (w .net) s) - 1 ≤ site .weight s
+
+module _ (site : Site) (w : World) (f : Fits site w) (a : ℕ) (h : a < length (w .letters)) (j c : ℕ) (q : letterAt w a .body ≡ Notice j c) where
+  abbrev k : ℕ
+  k = letterAt w a .link
+
+  abbrev r : ℕ
+  r = receiver w (letterAt w a)
+
+  abbrev here : Holding
+  here = holdingAt w r
+
+  abbrev it : R.Notice
+  it = record { over = k; sender = letterAt w a .sender; receiver = r; subject = j; rank = c }
+
+  abbrev before : List R.Notice
+  before = collect (notice (w .net)) (take a (w .letters))
+
+  abbrev behind : List R.Notice
+  behind = collect (notice (w .net)) (drop (suc a) (w .letters))
+
+  was : collect (notice (w .net)) (w .letters) ≡ before ++ it ∷ behind
+  was = collect-at (notice (w .net)) (w .letters) a noLetter it h (ap (noticeOf (w .net) k (letterAt w a .sender)) q)
+
+  now : (xs : List Letter) → collect (notice (w .net)) (without a (w .letters) ++ xs) ≡ (before ++ behind) ++ collect (notice (w .net)) xs
+  now xs = collect-without (notice (w .net)) (w .letters) a xs
+
+  posted : Posted w (letterAt w a)
+  posted = at-posted w (f .ok) a h
+
+  subject-real : j < length (w .net .links)
+  subject-real = ltb→lt j _ (and-l (ltb j (length (w .net .links))) _ (subst (λ (b : Body). T (bodyHolds (w .net) b)) q (posted .body)))
+
+  in-holdings : r < length (w .holdings)
+  in-holdings = subst⁻¹ (λ (n : ℕ). receiver w (letterAt w a) < n) (f .ok .count) (posted .real)
+
+  -- the notice is taken off, and no holding changes
+  gone : (hs : List Holding) → hs ≡ w .holdings → Gone (floodOf w) (floodOf (record { net = w .net; holdings = hs; letters = without a (w .letters) ++ [] }))
+  gone hs e =
+      record {
+        before = before;
+        it = it;
+        after = behind;
+        was = was;
+        now = now [] ∙ append-nil (before ++ behind);
+        same = λ s i. ap (λ (xs : List Holding). counter (getD xs s nobody) i) e;
+      }
+
+  -- what its receiver has done: it settles the notice, and stays in its condition
+  abbrev Goal : Done → Type 0
+  Goal d = Settles site (floodOf w) (floodOf (changed w (put w r (without a (w .letters)) d))) × (d .holding .condition ≡ here .condition)
+
+  dropped : Goal (unchanged here)
+  dropped = (inl (gone (set (w .holdings) r here) (set-getD (w .holdings) r nobody)), refl)
+
+  kept : (d : Done) → T (isLive (here .condition)) → Took (w .net) r j c here (d .holding) → Spreads (w .net) r k j c here (d .sent) → Goal d
+  kept d live t sp = (
+    inr (record {
+      before = before;
+      it = it;
+      after = behind;
+      copies = collect (notice (w .net)) (d .sent);
+      was = was;
+      now = now (d .sent);
+      station = subst (λ (n : ℕ). receiver w (letterAt w a) < n) (f .stations) (posted .real);
+      link = subst (λ (n : ℕ). j < n) (f .links) subject-real;
+      newer = t .newer;
+      takes = ap (λ (g : Holding). counter g j) (getD-set-same (w .holdings) r (d .holding) nobody in-holdings) ∙ t .takes;
+      others = λ s i z. others s i z (ℕ-discrete s r);
+      few = subst⁻¹ (λ (n : ℕ). n ≤ site .weight r) (copies-length (w .net) j c (d .sent) (sp .alike))
+          (le-trans (subst⁻¹ (λ (n : ℕ). length (d .sent) ≤ n - 1) (length-map (own (w .net) r) (λ i. other (w .net) i r)) (sp .few)) (f .heavy r live));
+      alike = copies-alike (w .net) j c (d .sent) (sp .alike);
+    }),
+    t .condition,
+  )
+    where
+      others : (s i : ℕ) → ((s ≡ r) × (i ≡ j) → ⊥) → Dec (s ≡ r) → counter (getD (set (w .holdings) r (d .holding)) s nobody) i ≡ counter (holdingAt w s) i
+      others s i z (yes e) = rw e (ap (λ (g : Holding). counter g i) (getD-set-same (w .holdings) r (d .holding) nobody in-holdings) ∙ t .others i (λ p. z (e, p)))
+      others s i z (no e) = ap (λ (g : Holding). counter g i) (getD-set-other (w .holdings) r s (d .holding) nobody e)
+
+  delivered : Goal (received (w .net) r (letterAt w a) here)
+  delivered = go (hears (w .net) r k here) (takes (w .net) r j c here) refl refl
+    where
+      passed : (x : Bool) → x ≡ true → T x
+      passed x e = subst⁻¹ T e tt
+
+      failed : (x : Bool) → x ≡ false → T (not x)
+      failed x e = subst⁻¹ (λ (b : Bool). T (not b)) e tt
+
+      go : (x y : Bool) → hears (w .net) r k here ≡ x → takes (w .net) r j c here ≡ y → Goal (received (w .net) r (letterAt w a) here)
+      go false y p u = subst⁻¹ Goal (received-gone (w .net) r here (letterAt w a) (failed _ p)) dropped
+      go true false p u =
+          subst⁻¹ Goal (received-notice (w .net) r here (letterAt w a) j c q (passed _ p) ∙ notice-drops (w .net) r here k j c (failed _ u)) dropped
+      go true true p u =
+          let e = passed (hears (w .net) r k here) p in
+          subst⁻¹ Goal (received-notice (w .net) r here (letterAt w a) j c q e)
+          (kept (onNotice (w .net) r k j c here) (and-l (isLive (here .condition)) _ (and-r (ltb k (length (w .net .links))) _ e))
+          (notice-takes (w .net) r here k j c (f .ok .each r (posted .real)) (passed _ u))
+          (notice-spreads (w .net) r here k (posted .link) (posted .end) j c))
+
+  -- the other stations stay as they are
+  conditions : (d : Done) → d .holding .condition ≡ here .condition → (s : ℕ) → getD (set (w .holdings) r (d .holding)) s nobody .condition ≡ holdingAt w s .condition
+  conditions d e s = go (ℕ-discrete s r)
+    where
+      go : Dec (s ≡ r) → getD (set (w .holdings) r (d .holding)) s nobody .condition ≡ holdingAt w s .condition
+      go (yes p) = rw (p, getD-set-same (w .holdings) r (d .holding) nobody in-holdings) e
+      go (no p) = ap (λ (g : Holding). g .condition) (getD-set-other (w .holdings) r s (d .holding) nobody p)
+
+-- ---- an accepted event that takes off a notice
+notice-is : (b : Body) → T (isNotice b) → (j : ℕ) × (c : ℕ) × (b ≡ Notice j c)
+notice-is Request t = absurd t
+notice-is (Reply c) t = absurd t
+notice-is (Notice j c) t = (j, c, refl)
+
+module _ (site : Site) where
+  fits-still : (u v : World) → v .net ≡ u .net → ((s : ℕ) → holdingAt v s .condition ≡ holdingAt u s .condition) → Formed v → Fits site u → Fits site v
+  fits-still u v n e ok f =
+      record {
+        ok = ok;
+        stations = ap (λ (x : Network). x .stations) n ∙ f .stations;
+        links = ap (λ (x : Network). length (x .links)) n ∙ f .links;
+        heavy = λ s t. rw n (f .heavy s (rw (e s) at t));
+      }
+
+  abbrev Step : World → World → Type 0
+  Step u v = Settles site (floodOf u) (floodOf v) × ((v .net ≡ u .net) × ((s : ℕ) → holdingAt v s .condition ≡ holdingAt u s .condition))
+
+  as-sort : (s : Sort) (u : World) (a b : ℕ) → Fits site u → T (existsAs s u a b) → T (takesNotice s (letterAt u a)) → Step u (changed u (changeAs s u a b))
+  as-sort (act k) u a b f x t = absurd t
+  as-sort delivery u a b f x t =
+      let h = ltb→lt a _ (and-l (ltb a (length (u .letters))) _ x) in
+      let n = notice-is (letterAt u a .body) t in
+      let r = receiver u (letterAt u a) in
+      let d = delivered site u f a h (n .0) (n .1) (n .2) in
+      (d .0, (refl, conditions site u f a h (n .0) (n .1) (n .2) (received (u .net) r (letterAt u a) (holdingAt u r)) (d .1)))
+  as-sort loss u a b f x t =
+      let h = ltb→lt a _ (and-l (ltb a (length (u .letters))) _ x) in
+      let n = notice-is (letterAt u a .body) t in
+      (inl (gone site u f a h (n .0) (n .1) (n .2) (u .holdings) refl), (refl, λ s. refl))
+
+  pub settles : (u : World) (e : Event) (v : World) → Fits site u → step u e ≡ accepted v → T (takesNotice (sortOf (e .kind)) (letterAt u (e .a)))
+      → Settles site (floodOf u) (floodOf v) × Fits site v
+  unfolding change exists
+  settles u e v f q t =
+      let x = taken u e v q in
+      let p = subst⁻¹ (Step u) (x .is) (as-sort (sortOf (e .kind)) u (e .a) (e .b) f (x .exists) t) in
+      (p .0, fits-still u v (p .1 .0) (p .1 .1) (step-formed u e v (f .ok) q) f)

@@ -1,0 +1,61 @@
+-- A history: a world and the events that come to it, one after the other. A refused event changes nothing and counts nothing.
+-- Every count over a history is the same fold. Assumes nothing.
+use Prim.Native.Nat.{ℕ, _+_}
+use mathlib.Core.List.{List, [], _∷_}
+use lib.ListN.{length}
+use Rattle.network.specs.World.{World, Event, Sort, act, delivery, loss, sortOf, change, Outcome, refused, accepted, step, settled, raised, dropped}
+
+-- the world after an outcome, and what counts of an event by its outcome
+abbrev pub orElse : World → Outcome → World
+orElse w (refused n) = w
+orElse w (accepted v) = v
+
+abbrev pub ifTaken : Outcome → ℕ → ℕ
+ifTaken (refused n) c = 0
+ifTaken (accepted v) c = c
+
+-- the world after one event, and after all of them
+abbrev pub next : World → Event → World
+next w e = orElse w (step w e)
+
+unfoldable pub run : World → List Event → World
+run w [] = w
+run w (e ∷ es) = run (next w e) es
+
+-- what f counts of each accepted event, added up over the history
+unfoldable pub total : (World → Event → ℕ) → World → List Event → ℕ
+total f w [] = 0
+total f w (e ∷ es) = ifTaken (step w e) (f w e) + total f (next w e) es
+
+-- ---- one event's letters
+unfoldable pub sent : World → Event → ℕ
+sent w e = length (change w e .sent)
+
+abbrev pub deliveredAs : Sort → ℕ
+deliveredAs (act k) = 0
+deliveredAs delivery = 1
+deliveredAs loss = 0
+
+abbrev pub lostAs : Sort → ℕ
+lostAs (act k) = 0
+lostAs delivery = 0
+lostAs loss = 1
+
+-- ---- the counts of a history: letters ever sent, delivered and lost; notices settled, counters raised, letters dropped
+abbrev pub everSent : World → List Event → ℕ
+everSent = total sent
+
+abbrev pub everDelivered : World → List Event → ℕ
+everDelivered = total (λ w e. deliveredAs (sortOf (e .kind)))
+
+abbrev pub everLost : World → List Event → ℕ
+everLost = total (λ w e. lostAs (sortOf (e .kind)))
+
+abbrev pub everSettled : World → List Event → ℕ
+everSettled = total settled
+
+abbrev pub everRaised : World → List Event → ℕ
+everRaised = total raised
+
+abbrev pub everDropped : World → List Event → ℕ
+everDropped = total dropped
