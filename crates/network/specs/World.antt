@@ -159,6 +159,11 @@ pub data Outcome : Type 0 where
   refused : ℕ → Outcome
   accepted : World → Outcome
 
+-- the paper's number of an outcome: acceptance is 0
+abbrev pub numberOf : Outcome → ℕ
+numberOf (refused n) = n
+numberOf (accepted v) = 0
+
 unfoldable pub step : World → Event → Outcome
 step w e = if eqb (refusal w e) 0 then accepted (after w e) else refused (refusal w e)
 
