@@ -10,7 +10,7 @@ use Rattle.lists.specs.Words.{bit, wordOf}
 use Rattle.lists.specs.Places.{collect}
 use Rattle.lists.specs.Lists.{below}
 use Rattle.net.specs.declared.Body.{Body}
-use Rattle.net.specs.declared.Body.the-variants.{Request, Reply, Notice}
+use Rattle.net.specs.declared.Body.the-variants.{Reply, Notice}
 use Rattle.net.specs.declared.Letter.{Letter}
 use Rattle.net.specs.Network.{Network, sheetHolds}
 use Rattle.net.specs.Letters.{letterHolds}
@@ -19,9 +19,9 @@ use Rattle.reach.specs.Reach.{spread, within, reach, purge, report}
 use Rattle.reach.proofs.Cases.{Case}
 use Rattle.station.specs.declared.Condition.the-variants.{Live}
 use Rattle.station.specs.Holding.{Holding, noMarks, setTesting, holdingHolds}
-use Rattle.station.specs.Acts.{letter, openLinks, openBut, known, knownBut, started, stopped, recovered, interval, timeout, spoken, onRequest, onReply, overflows, onNotice, received}
+use Rattle.station.specs.Acts.{letter, openLinks, openBut, known, knownBut, started, stopped, recovered, interval, timeout, onRequest, onReply, overflows, onNotice, received}
 use Rattle.station.proofs.Cases.{bodyNumbers, letterNumbers}
-use Rattle.network.specs.World.{World, Event, holdingAt, heard, exists, allowed, letterOver, over, change, fits, refusal, step, wellFormed, fresh, settled, raised, dropped, askRefusal, reportAt, reachAt}
+use Rattle.network.specs.World.{World, Event, holdingAt, heard, exists, allowed, letterOver, over, change, fits, refusal, step, wellFormed, fresh, settled, askRefusal, reportAt, reachAt}
 use Rattle.network.specs.History.{ifTaken, next, run, total, everSettled}
 use Rattle.laws.specs.Flood.{onlyNotices, highest, distance, share, bound}
 

@@ -1,13 +1,13 @@
 -- The tally after a history has the history's three counts added to it, each staying at its largest value. Assumes nothing.
-use Prim.Native.Nat.{ℕ, _+_, _≤_, min}
-use mathlib.Core.Path.{_≡_, refl, sym, ap, _∙_, subst, subst⁻¹}
+use Prim.Native.Nat.{ℕ, _+_, _≤_}
+use mathlib.Core.Path.{_≡_, sym, _∙_}
 use mathlib.Core.List.{List, [], _∷_}
 use native.Mathlib.Omega.{arith}
 use Rattle.tally.specs.declared.Tally.{Tally}
 use Rattle.tally.specs.Sums.{largest, counted, tallied}
 use Rattle.tally.proofs.Sums.{counted-fits, tallied-twice}
 use Rattle.network.specs.World.{World, Event, Outcome, refused, accepted, step, settled, raised, dropped}
-use Rattle.network.specs.History.{ifTaken, next, run, total, everSettled, everRaised, everDropped}
+use Rattle.network.specs.History.{ifTaken, next, total, everSettled, everRaised, everDropped}
 use Rattle.laws.specs.Tallied.{tallyBy, tallyAfter}
 
 -- three counts of 64 bits

@@ -7,14 +7,14 @@ use mathlib.Core.List.{List, []}
 use native.Mathlib.Omega.{arith}
 use borrow.Author.Tests.{ne-eqb}
 use lib.Dec.{T, eqb, leb→le, eqb→eq}
-use lib.ListN.{length, set}
+use lib.ListN.{length}
 use lib.Seq.{set-getD}
 use Rattle.lists.specs.Lists.{if_then_else_}
 use Rattle.lists.specs.Places.{without}
 use Rattle.lists.proofs.Tests.{T-is, T-not-is, if-elim}
 use Rattle.station.specs.Holding.{Holding, isLive}
 use Rattle.station.proofs.Rises.{received-gone}
-use Rattle.network.specs.World.{World, Event, Sort, delivery, loss, sortOf, nobody, holdingAt, letterAt, receiver, heard, put, exists, allowed, over, Change, changeAs, change, changed, after, fits, refusal, Outcome, refused, accepted, numberOf, step, isStation, askRefusal}
+use Rattle.network.specs.World.{World, Event, Sort, delivery, loss, sortOf, nobody, holdingAt, letterAt, receiver, heard, put, exists, allowed, over, changeAs, change, after, fits, refusal, refused, accepted, numberOf, step, isStation, askRefusal}
 
 not-not : (b : Bool) → T (not (not b)) → T b
 not-not true t = tt
