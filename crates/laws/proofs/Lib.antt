@@ -3,3 +3,4 @@ pub mod Demand3
 pub mod Cases
 pub mod Calls
 pub mod Tallies
+pub mod Demands

@@ -15,6 +15,7 @@ use Rattle.lists.proofs.Tests.{T-is, T-not-is, if-elim}
 use Rattle.station.specs.Holding.{Holding, isLive}
 use Rattle.station.proofs.Rises.{received-gone}
 use Rattle.network.specs.World.{World, Event, Sort, delivery, loss, sortOf, nobody, holdingAt, letterAt, receiver, heard, put, exists, allowed, over, changeAs, change, after, fits, refusal, refused, accepted, numberOf, step, isStation, askRefusal}
+use Rattle.network.specs.History.{orElse, next}
 
 not-not : (b : Bool) → T (not (not b)) → T b
 not-not true t = tt
@@ -63,6 +64,10 @@ module _ (w : World) (e : Event) where
       go : (b : Bool) → eqb (refusal w e) 0 ≡ b → numberOf (if b then accepted (after w e) else refused (refusal w e)) ≡ refusal w e
       go true i = sym (eqb→eq (refusal w e) 0 (subst⁻¹ T i tt))
       go false i = refl
+
+  -- a refusal hands back the world it was given
+  pub refused-stays : (n : ℕ) → step w e ≡ refused n → next w e ≡ w
+  refused-stays n q = ap (orElse w) q
 
   -- ---- an accepted event: nothing refuses it, and the world after it
   pub record Taken (v : World) : Type 0 where
