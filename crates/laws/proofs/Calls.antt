@@ -2,7 +2,7 @@
 -- means, and the number of settled notices that it answers is the step's, then what holds of histories holds of runs of calls:
 -- the settled numbers added up are the history's count, and meet the bound. Assumes nothing.
 use Prim.Native.Nat.{ℕ, _+_, _≤_, _<_}
-use mathlib.Core.Path.{_≡_, refl, sym, ap, _∙_, subst, subst⁻¹}
+use mathlib.Core.Path.{_≡_, refl, sym, ap, _∙_, subst⁻¹}
 use mathlib.Core.List.{List, [], _∷_}
 use native.Mathlib.Omega.{arith}
 use lib.Dec.{T}
@@ -13,7 +13,7 @@ use Rattle.network.specs.World.{World, Event, step, holdingAt, wellFormed, fres
 use Rattle.network.specs.History.{ifTaken, next, run, total, everSettled, everSent, everDelivered, everLost}
 use Rattle.network.proofs.Ledger.{letters-conserved}
 use Rattle.laws.specs.Flood.{onlyNotices, highest, bound}
-use Rattle.laws.proofs.Demand3.{DiesOut, flood-of-notices-dies-out}
+use Rattle.laws.proofs.Demand3.{flood-of-notices-dies-out}
 
 -- one call from the state s for the event e handed back the state t and said that n notices were settled
 module _ {S : Type 0} (worldOf : S → World) (Call : S → Event → S → ℕ → Type 0) where

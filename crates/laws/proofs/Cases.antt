@@ -5,7 +5,7 @@ use mathlib.Core.Bool.{Bool, true, false}
 use mathlib.Core.Path.{_≡_, refl}
 use mathlib.Core.List.{List, [], _∷_, _++_, map}
 use lib.Dec.{T}
-use lib.ListN.{length}
+use lib.ListN.{length, replicate}
 use Rattle.lists.specs.Words.{bit, wordOf}
 use Rattle.lists.specs.Places.{collect}
 use Rattle.lists.specs.Lists.{below}
@@ -18,10 +18,10 @@ use Rattle.reach.specs.Counters.{healed}
 use Rattle.reach.specs.Reach.{spread, within, reach, purge, report}
 use Rattle.reach.proofs.Cases.{Case}
 use Rattle.station.specs.declared.Condition.the-variants.{Live}
-use Rattle.station.specs.Holding.{Holding, noMarks, setTesting, holdingHolds}
-use Rattle.station.specs.Acts.{letter, openLinks, openBut, known, knownBut, started, stopped, recovered, interval, timeout, spoken, onRequest, onReply, overflows, onNotice, received}
+use Rattle.station.specs.Holding.{Holding, noMarks, setToken, setTesting, holdingHolds}
+use Rattle.station.specs.Acts.{letter, openLinks, openBut, known, knownBut, started, stopped, recovered, interval, timeout, onRequest, onReply, overflows, onNotice, received}
 use Rattle.station.proofs.Cases.{bodyNumbers, letterNumbers}
-use Rattle.network.specs.World.{World, Event, holdingAt, heard, exists, allowed, letterOver, over, change, fits, refusal, step, wellFormed, fresh, settled, raised, dropped, askRefusal, reportAt, reachAt}
+use Rattle.network.specs.World.{World, Event, holdingAt, heard, exists, allowed, letterOver, over, change, fits, refusal, step, wellFormed, fresh, settled, askRefusal, reportAt, reachAt}
 use Rattle.network.specs.History.{ifTaken, next, run, total, everSettled}
 use Rattle.laws.specs.Flood.{onlyNotices, highest, distance, share, bound}
 
@@ -160,3 +160,16 @@ flood-only-notices = tt
 pub bound-is-met : everSettled flooded flood ≡ bound flooded
 unfolding flooded flood line live event refusal exists allowed over letterOver heard fits change step onNotice received openBut total settled highest distance share bound
 bound-is-met = refl
+
+-- ---- the edge of 9: with 4,095 letters in flight a request may still be sent, with 4,096 no more
+crowded : ℕ → World
+unfolding line live
+crowded n = record { net = line; holdings = live false 1 1 ∷ record { condition = Live; table = 1 ∷ 1 ∷ []; marks = setToken true noMarks ∷ noMarks ∷ [] } ∷ live false 1 1 ∷ []; letters = replicate n (letter 0 0 Request) }
+
+pub edge : ℕ → List ℕ
+unfolding crowded line live event wellFormed sheetHolds holdingHolds letterHolds refusal exists allowed over letterOver heard fits change step interval
+edge n = bit (wellFormed (crowded n)) ∷ refusal (crowded n) (event 4 1 0) ∷ length (next (crowded n) (event 4 1 0) .letters) ∷ []
+
+pub edge-of-letters : (edge 4095 ++ edge 4096 ++ edge 4097) ≡ ((1 ∷ 0 ∷ 4096 ∷ []) ++ (1 ∷ 9 ∷ 4096 ∷ []) ++ (0 ∷ 9 ∷ 4097 ∷ []))
+unfolding edge
+edge-of-letters = refl

@@ -1,13 +1,13 @@
 -- DEMAND 3. A FLOOD OF NOTICES DIES OUT, for document 01's machine. Assumes nothing.
 use Prim.Native.Nat.{ℕ, _+_, _*_, _-_, _≤_, _<_, max}
 use mathlib.Core.Bool.{Bool, true, false, _&&_}
-use mathlib.Core.Path.{_≡_, refl, sym, ap, ap₂, _∙_, subst, subst⁻¹}
+use mathlib.Core.Path.{_≡_, refl, sym, ap, ap₂, _∙_, subst}
 use mathlib.Core.List.{List, [], _∷_, _++_}
 use native.Mathlib.Nat.{le-refl, zero-mul}
 use native.Mathlib.Omega.{arith}
 use lib.Dec.{T, eqb, eqb→eq}
 use lib.ListN.{length}
-use Rattle.lists.specs.Lists.{if_then_else_, sumOf, below}
+use Rattle.lists.specs.Lists.{if_then_else_, below}
 use Rattle.lists.specs.Places.{collect, largestOf}
 use Rattle.lists.specs.Words.{bit}
 use Rattle.lists.proofs.Tests.{T-is, and-l, and-r}
@@ -24,7 +24,7 @@ use Rattle.network.proofs.Keeps.{Formed, formed}
 use Rattle.laws.specs.Flood.{takesNotice, onlyNotices, carried, highest, neighbours, distance, share, bound}
 use Rattle.laws.proofs.Settling.{noticeOf, notice, floodOf, weightIn, siteOf, Fits, settles}
 use Rattle.ranks.specs.Flood as R
-use Rattle.ranks.specs.Flood.{Flood, Site, Run}
+use Rattle.ranks.specs.Flood.{Site, Run}
 use Rattle.ranks.specs.Bound as B
 use Rattle.ranks.proofs.FloodDiesOut.{flood-dies-out}
 

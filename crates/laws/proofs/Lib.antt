@@ -2,3 +2,5 @@ pub mod Settling
 pub mod Demand3
 pub mod Cases
 pub mod Calls
+pub mod Tallies
+pub mod Demands

@@ -7,10 +7,10 @@ use native.Mathlib.Omega.{arith}
 use borrow.Author.Tests.{ne-eqb}
 use lib.Dec.{T, eqb, ltb, leb, ltb→lt, eqb→eq, eqb-refl}
 use lib.ListN.{length}
-use Rattle.lists.specs.Lists.{if_then_else_, every}
+use Rattle.lists.specs.Lists.{if_then_else_}
 use Rattle.lists.proofs.Tests.{T-is, and-l, and-r, or-left, or-right, if-elim}
 use Rattle.lists.proofs.Numbers.{below-at}
-use Rattle.net.specs.Network.{Network, ends, linkNumbers, isEnd, other, precedes, endsHold, linkHolds, sheetHolds}
+use Rattle.net.specs.Network.{Network, ends, isEnd, other, endsHold, linkHolds, sheetHolds}
 
 module _ (net : Network) (ok : T (sheetHolds net)) (k : ℕ) (l : k < length (net .links)) where
   pub link-holds : T (linkHolds net k)

@@ -1,13 +1,13 @@
 -- Each accepted step keeps the world well formed, and the world of a freshly read sheet is well formed. Assumes nothing.
 use Prim.Native.Nat.{ℕ, _≤_, _<_, zero-le}
-use mathlib.Core.Bool.{Bool, true, false, not, _&&_}
-use mathlib.Core.Path.{_≡_, refl, _∙_, subst, subst⁻¹}
-use mathlib.Core.List.{List, [], _∷_, _++_, map}
+use mathlib.Core.Bool.{Bool, _&&_}
+use mathlib.Core.Path.{_≡_, refl, _∙_, subst⁻¹}
+use mathlib.Core.List.{List, [], _∷_}
 use native.Mathlib.Decide.{ℕ-discrete}
 use lib.Dec.{T, eqb, leb, ltb, leb→le, le→leb, ltb→lt, eqb→eq}
 use lib.ListN.{length, getD, set, length-set}
 use lib.Seq.{getD-set-same, getD-set-other}
-use Rattle.lists.specs.Lists.{if_then_else_, every, below}
+use Rattle.lists.specs.Lists.{every, below}
 use Rattle.lists.specs.Places.{without}
 use Rattle.lists.proofs.Tests.{and-l, and-r, and-i, eq→eqb, every-at}
 use Rattle.lists.proofs.Numbers.{below-at, at-below, getD-map-below, length-map-below}
@@ -19,10 +19,10 @@ use Rattle.net.specs.Letters.{letterHolds, bodyHolds}
 use Rattle.station.specs.Holding.{Holding, holdingHolds}
 use Rattle.station.specs.Acts.{Done, stopped, Kind, start, stop, recovery, intervalEnd, timeoutEnd, quietEnd, other, allowedAs}
 use Rattle.station.proofs.Keeps.{Kept, stopped-keeps, started-keeps, recovered-keeps, interval-keeps, timeout-keeps, spoken-keeps, received-keeps}
-use Rattle.network.specs.World.{World, Event, Sort, act, delivery, loss, sortOf, nobody, noLetter, holdingAt, letterAt, receiver, isStation, hasLink, existsAs, exists, allowedSort, allowed, Change, done, put, changeAs, change, after, Outcome, refused, accepted, step, wellFormed, fresh}
+use Rattle.network.specs.World.{World, Event, Sort, act, delivery, loss, sortOf, nobody, noLetter, holdingAt, letterAt, receiver, isStation, hasLink, existsAs, exists, allowedSort, allowed, Change, put, changeAs, change, Outcome, refused, accepted, step, wellFormed, fresh}
 use Rattle.network.specs.History.{orElse, next, run}
 use Rattle.network.proofs.Ends.{other-real, other-end}
-use Rattle.network.proofs.Steps.{Taken, taken}
+use Rattle.network.proofs.Steps.{taken}
 
 -- ---- a well-formed world as facts
 pub record Formed (w : World) : Type 0 where

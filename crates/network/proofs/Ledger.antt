@@ -1,7 +1,7 @@
 -- Conservation: in any run from a freshly read sheet, letters ever sent, counted from the events, equal those delivered, lost
 -- and in flight. Also how counts over a history add up. Assumes nothing.
-use Prim.Native.Nat.{ℕ, _+_, _≤_}
-use mathlib.Core.Path.{_≡_, refl, sym, ap, _∙_, subst⁻¹}
+use Prim.Native.Nat.{ℕ, _+_}
+use mathlib.Core.Path.{_≡_, refl}
 use mathlib.Core.List.{List, [], _∷_, _++_}
 use native.Mathlib.Omega.{arith}
 use lib.Dec.{T, ltb, ltb→lt}
@@ -12,7 +12,7 @@ use Rattle.lists.proofs.Counts.{sum-append}
 use Rattle.lists.proofs.Without.{length-without, sum-without}
 use Rattle.net.specs.Network.{Network}
 use Rattle.network.specs.World.{World, Event, Sort, act, delivery, loss, sortOf, noLetter, letterAt, existsAs, exists, changeAs, change, Outcome, refused, accepted, step, isNotice, noticesOf, settledAs, settled, fresh}
-use Rattle.network.specs.History.{orElse, ifTaken, next, run, total, sent, deliveredAs, lostAs, everSent, everDelivered, everLost, everSettled}
+use Rattle.network.specs.History.{ifTaken, next, run, total, sent, deliveredAs, lostAs, everSent, everDelivered, everLost, everSettled}
 use Rattle.network.proofs.Steps.{taken}
 
 -- ---- one event

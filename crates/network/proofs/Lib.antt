@@ -5,4 +5,4 @@ pub mod Sorts
 pub mod Keeps
 pub mod Reports
 pub mod Ledger
-pub mod Raised
+pub mod OneRaised

@@ -1,16 +1,16 @@
 -- At most one link between two stations: in a network that keeps the sheet rules links with the same ends are one link, and so no
 -- two links of a station lead to the same neighbour. Assumes nothing.
-use Prim.Native.Nat.{ℕ, zero, suc, _-_, _≤_, _<_}
-use mathlib.Core.Bool.{Bool, true, false, _&&_, _||_}
-use mathlib.Core.Path.{_≡_, refl, sym, ap, _∙_, subst, subst⁻¹}
+use Prim.Native.Nat.{ℕ, zero, suc, _-_, _<_}
+use mathlib.Core.Bool.{Bool, true, false, _||_}
+use mathlib.Core.Path.{_≡_, refl, sym, _∙_, subst, subst⁻¹}
 use mathlib.Core.Logic.{_⊎_, inl, inr, ⊎-elim}
 use native.Mathlib.Decide.{decLt, ℕ-discrete}
 use native.Mathlib.Omega.{arith}
 use lib.Dec.{T, eqb, ltb, ltb→lt, eqb→eq}
 use lib.ListN.{length}
 use Rattle.lists.specs.Lists.{if_then_else_}
-use Rattle.lists.proofs.Tests.{and-l, and-r, or-cases, if-elim}
-use Rattle.net.specs.Network.{Ends, Network, ends, isEnd, other, precedes, endsHold, linkHolds, sheetHolds}
+use Rattle.lists.proofs.Tests.{and-l, and-r, or-cases}
+use Rattle.net.specs.Network.{Ends, Network, ends, isEnd, other, precedes, endsHold, sheetHolds}
 use Rattle.network.proofs.Ends.{link-holds, ends-rise}
 
 -- ends that come first, by first then second end

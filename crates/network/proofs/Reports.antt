@@ -1,10 +1,10 @@
 -- What the reach report shows, over its list of numbers: a station is shown as working exactly if a path of links with even
 -- counters leads to it in the asker's own table. The same for the links, and for the reach as a word. Assumes nothing.
 use Prim.Native.Nat.{ℕ, _+_, _<_, zero-le}
-use mathlib.Core.Bool.{Bool, true, false, not, _||_}
+use mathlib.Core.Bool.{Bool, true, false, not}
 use mathlib.Core.Path.{_≡_, refl, sym, ap, _∙_, subst, subst⁻¹}
 use mathlib.Core.Logic.{_⊎_, inl, inr, ⊎-elim, _↔_}
-use mathlib.Core.List.{List, [], _∷_, _++_, map}
+use mathlib.Core.List.{List, [], _++_, map}
 use native.Mathlib.Omega.{arith}
 use lib.Dec.{T, T-not}
 use lib.ListN.{length, getD, length-append, List·getD-append}

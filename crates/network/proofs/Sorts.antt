@@ -1,13 +1,12 @@
 -- The kinds of events as numbers: which numbers must be there (6), by the range of the kind. Assumes nothing.
 use Prim.Native.Nat.{ℕ, zero, suc, _≤_, _<_}
-use mathlib.Core.Bool.{Bool, false, _&&_}
+use mathlib.Core.Bool.{false, _&&_}
 use mathlib.Core.Path.{_≡_, refl, ap, _∙_}
 use native.Mathlib.Omega.{arith}
 use borrow.Author.Tests.{eq-eqb, ne-eqb}
 use lib.Dec.{eqb, ltb}
 use lib.ListN.{length}
-use Rattle.lists.specs.Lists.{if_then_else_}
-use Rattle.station.specs.Acts.{Kind, other, kindOf}
+use Rattle.station.specs.Acts.{other, kindOf}
 use Rattle.network.specs.World.{World, Event, Sort, act, delivery, loss, sortOf, isStation, hasLink, existsAs, exists}
 
 -- ---- the sort of a kind

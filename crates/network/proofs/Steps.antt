@@ -2,19 +2,24 @@
 -- Assumes nothing.
 use Prim.Native.Nat.{ℕ, _≤_}
 use mathlib.Core.Bool.{Bool, true, false, not}
-use mathlib.Core.Path.{_≡_, refl, ap, _∙_, subst⁻¹}
+use mathlib.Core.Path.{_≡_, refl, sym, ap, _∙_, subst⁻¹}
 use mathlib.Core.List.{List, []}
 use native.Mathlib.Omega.{arith}
 use borrow.Author.Tests.{ne-eqb}
 use lib.Dec.{T, eqb, leb→le, eqb→eq}
-use lib.ListN.{length, set}
+use lib.ListN.{length}
 use lib.Seq.{set-getD}
 use Rattle.lists.specs.Lists.{if_then_else_}
 use Rattle.lists.specs.Places.{without}
 use Rattle.lists.proofs.Tests.{T-is, T-not-is, if-elim}
-use Rattle.station.specs.Holding.{Holding}
+use Rattle.station.specs.Holding.{Holding, isLive}
 use Rattle.station.proofs.Rises.{received-gone}
-use Rattle.network.specs.World.{World, Event, Sort, delivery, loss, sortOf, nobody, holdingAt, letterAt, receiver, heard, put, exists, allowed, over, Change, changeAs, change, changed, after, fits, refusal, Outcome, refused, accepted, step}
+use Rattle.network.specs.World.{World, Event, Sort, delivery, loss, sortOf, nobody, holdingAt, letterAt, receiver, heard, put, exists, allowed, over, changeAs, change, after, fits, refusal, refused, accepted, numberOf, step, isStation, askRefusal}
+use Rattle.network.specs.History.{orElse, next}
+
+not-not : (b : Bool) → T (not (not b)) → T b
+not-not true t = tt
+not-not false t = t
 
 module _ (w : World) (e : Event) where
   -- ---- what each answer says of the event
@@ -24,10 +29,6 @@ module _ (w : World) (e : Event) where
     seven : T (exists w e) → T (not (allowed w e)) → Why 7
     eight : T (exists w e) → T (allowed w e) → T (over w e) → Why 8
     nine : T (exists w e) → T (allowed w e) → T (not (over w e)) → T (not (fits w e)) → Why 9
-
-  not-not : (b : Bool) → T (not (not b)) → T b
-  not-not true t = tt
-  not-not false t = t
 
   -- only then: the number is given for its reason
   pub refusal-why : Why (refusal w e)
@@ -55,6 +56,18 @@ module _ (w : World) (e : Event) where
   pub step-refuses : (n : ℕ) → refusal w e ≡ n → (n ≡ 0 → ⊥) → step w e ≡ refused n
   unfolding step
   step-refuses n p h = ap (λ (n : ℕ). if eqb n 0 then accepted (after w e) else refused n) p ∙ simp (ne-eqb n 0 h)
+
+  pub step-number : numberOf (step w e) ≡ refusal w e
+  unfolding step
+  step-number = go (eqb (refusal w e) 0) refl
+    where
+      go : (b : Bool) → eqb (refusal w e) 0 ≡ b → numberOf (if b then accepted (after w e) else refused (refusal w e)) ≡ refusal w e
+      go true i = sym (eqb→eq (refusal w e) 0 (subst⁻¹ T i tt))
+      go false i = refl
+
+  -- a refusal hands back the world it was given
+  pub refused-stays : (n : ℕ) → step w e ≡ refused n → next w e ≡ w
+  refused-stays n q = ap (orElse w) q
 
   -- ---- an accepted event: nothing refuses it, and the world after it
   pub record Taken (v : World) : Type 0 where
@@ -102,3 +115,23 @@ module _ (w : World) (e : Event) where
   -- the network stays
   pub after-net : after w e .net ≡ w .net
   after-net = refl
+
+-- ---- the report and the reach: 6 for no such station, 7 for one that isn't live, else 0
+module _ (w : World) (s : ℕ) where
+  pub data AskWhy : ℕ → Type 0 where
+    none : T (isStation w s) → T (isLive (holdingAt w s .condition)) → AskWhy 0
+    six : T (not (isStation w s)) → AskWhy 6
+    seven : T (isStation w s) → T (not (isLive (holdingAt w s .condition))) → AskWhy 7
+
+  pub ask-why : AskWhy (askRefusal w s)
+  unfolding askRefusal
+  ask-why =
+      if-elim AskWhy (not (isStation w s)) six
+      (λ x. let p = not-not (isStation w s) x in
+      if-elim AskWhy (not (isLive (holdingAt w s .condition))) (seven p) (λ y. none p (not-not (isLive (holdingAt w s .condition)) y)))
+
+  pub why-ask : {n : ℕ} → AskWhy n → askRefusal w s ≡ n
+  unfolding askRefusal
+  why-ask (none p q) = simp (T-is (isStation w s) p, T-is (isLive (holdingAt w s .condition)) q)
+  why-ask (six p) = simp (T-not-is (isStation w s) p)
+  why-ask (seven p q) = simp (T-is (isStation w s) p, T-not-is (isLive (holdingAt w s .condition)) q)

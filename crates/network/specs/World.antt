@@ -3,7 +3,7 @@
 -- read as worlds. A run of events: History.antt. Assumes nothing.
 use Prim.Native.Nat.{ℕ}
 use mathlib.Core.Bool.{Bool, true, false, not, _&&_}
-use mathlib.Core.List.{List, [], _∷_, _++_, map}
+use mathlib.Core.List.{List, [], _++_, map}
 use lib.Dec.{eqb, ltb, leb}
 use lib.ListN.{length, getD, set}
 use Rattle.lists.specs.Lists.{if_then_else_, every, below, sumOf}
@@ -158,6 +158,11 @@ refusal w e =
 pub data Outcome : Type 0 where
   refused : ℕ → Outcome
   accepted : World → Outcome
+
+-- the paper's number of an outcome: acceptance is 0
+abbrev pub numberOf : Outcome → ℕ
+numberOf (refused n) = n
+numberOf (accepted v) = 0
 
 unfoldable pub step : World → Event → Outcome
 step w e = if eqb (refusal w e) 0 then accepted (after w e) else refused (refusal w e)

@@ -2,33 +2,32 @@
 -- reply to a test may raise its link's, a notice that is taken raises its subject's. Assumes nothing.
 use Prim.Native.Nat.{ℕ, _+_, _≤_, _<_, zero-le}
 use mathlib.Core.Bool.{Bool, true, false, not, _&&_}
-use mathlib.Core.Path.{_≡_, refl, sym, ap, _∙_, subst, subst⁻¹}
+use mathlib.Core.Path.{_≡_, refl, ap, _∙_, subst⁻¹}
 use mathlib.Core.Logic.{_≢_}
-use mathlib.Core.List.{List, [], _∷_}
-use native.Mathlib.Decide.{ℕ-discrete}
+use mathlib.Core.List.{List, []}
 use native.Mathlib.Nat.{le-refl, le-of-eq}
 use native.Mathlib.Omega.{arith}
 use borrow.Author.Tests.{lt-ltb, le-ltb}
-use lib.Dec.{T, eqb, ltb, ltb→lt}
+use lib.Dec.{T, ltb, ltb→lt}
 use lib.ListN.{length, getD, set}
 use lib.Seq.{getD-set-same, getD-set-other}
 use Rattle.lists.specs.Lists.{if_then_else_, sumOf, below}
 use Rattle.lists.specs.Words.{bit}
-use Rattle.lists.proofs.Tests.{T-is, T-not-is, and-l, and-r, if-elim}
+use Rattle.lists.proofs.Tests.{and-l, and-r, if-elim}
 use Rattle.lists.proofs.OneSum.{sum-none, sum-only}
 use Rattle.net.specs.declared.Body.{Body}
 use Rattle.net.specs.declared.Body.the-variants.{Request, Reply, Notice}
 use Rattle.net.specs.declared.Letter.{Letter}
 use Rattle.net.specs.Network.{Network, isEnd}
-use Rattle.reach.specs.Counters.{even, odd, healed}
+use Rattle.reach.specs.Counters.{even, healed}
 use Rattle.reach.specs.Reach.{counterIn}
 use Rattle.station.specs.Holding.{Holding, counter, mark, holdingHolds}
 use Rattle.station.specs.Acts.{Done, unchanged, started, stopped, recovered, interval, timeout, spoken, onRequest, onReply, onNotice, takes, hears, bodyOver, onBody, received, Kind, start, stop, recovery, intervalEnd, timeoutEnd, quietEnd, other}
 use Rattle.station.proofs.Rises.{lowered-le, started-table, recovered-table, interval-table, spoken-table, request-table, stopped-lowers, counter-positive, Sets, timeout-even, timeout-odd, reply-sets, reply-idle, notice-takes, notice-drops, received-gone, received-heard}
-use Rattle.network.specs.World.{World, Event, Sort, act, delivery, loss, sortOf, nobody, holdingAt, letterAt, receiver, heard, isStation, hasLink, existsAs, exists, letterOver, overSort, over, done, changeAs, change, accepted, step, higher, raised}
-use Rattle.network.specs.Steps.{raisedAct, raisedBody, raisedLetter, raisedAs}
+use Rattle.network.specs.World.{World, Event, Sort, act, delivery, loss, sortOf, nobody, holdingAt, letterAt, receiver, heard, isStation, existsAs, exists, letterOver, overSort, over, done, changeAs, change, accepted, step, higher, raised}
+use Rattle.network.specs.Steps.{raisedAct, raisedBody, raisedAs}
 use Rattle.network.proofs.Steps.{taken}
-use Rattle.network.proofs.Keeps.{Formed, Posted, at-posted}
+use Rattle.network.proofs.Keeps.{Formed, at-posted}
 
 -- ---- at one station
 module _ (net : Network) (g h : Holding) where
