@@ -1,5 +1,5 @@
 -- What the code asks of each of the 64 places is what a station must be. Assumes nothing.
-use Prim.Native.Nat.{ℕ, _+_, _-_, _≤_, _<_, min}
+use Prim.Native.Nat.{ℕ, _+_, _-_, _≤_, _<_}
 use mathlib.Core.Bool.{Bool, true, false, _&&_, _||_}
 use mathlib.Core.Path.{_≡_, refl, sym, ap, ap₂, _∙_, subst, subst⁻¹}
 use mathlib.Core.List.{List}
@@ -9,9 +9,9 @@ use lib.Dec.{T, eqb, ltb, eqb→eq}
 use lib.ListN.{length, getD, drop, length-drop}
 use lib.Seq.{getD-drop, length-take-le}
 use borrow.Author.Tests.{lt-ltb, le-ltb}
-use Rattle.lists.specs.Lists.{if_then_else_, every, from, below}
+use Rattle.lists.specs.Lists.{every, from, below}
 use Rattle.lists.specs.Words.{inWord}
-use Rattle.lists.proofs.Tests.{and-l, and-r, and-i, and-no, or-cases, same-test, every-at, at-every}
+use Rattle.lists.proofs.Tests.{and-l, and-r, and-i, and-no, same-test, every-at, at-every}
 use Rattle.lists.proofs.Numbers.{every-from, from-every, length-map-below, all-fails}
 use Rattle.net.specs.declared.Net.{Net}
 use Rattle.net.specs.Network.{isEnd}

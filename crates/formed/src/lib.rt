@@ -103,7 +103,10 @@ fn apart(a: u64, b: u64) -> bool
 fn beside_token(w: Words) -> u64
     ensures { λ r. ⌜ r ≡ wordBy (λ t. besideToken (marksAt w t)) ⌝ }
 {
-    marks::join(marks::join(w.turn, w.testing), marks::join(w.asked, w.quiet))
+    marks::join(
+        marks::join(w.turn, w.testing),
+        marks::join(w.asked, w.quiet),
+    )
 }
 
 // No mark at all.

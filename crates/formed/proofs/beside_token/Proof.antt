@@ -2,23 +2,16 @@ use Rattle.formed.proofs.WordTests.{beside-is}
 use borrow.Author.Needs.{needs}
 use Rattle.formed.proofs.beside_token.Statement.{statement}
 use Rattle.formed.proofs.beside_token.Tie as tie
-use Rattle.formed.proofs.beside_token.Reads as reads
-use Rattle.formed.proofs.beside_token.Lts as lts
-use Rattle.marks.proofs.join.Reads as join-reads
 
--- src/lib.rt:100:17
 join-requires : tie.Need-join-requires
 join-requires c κs = search needs
 
--- src/lib.rt:100:49
 join-requires-2 : tie.Need-join-requires-2
 join-requires-2 c κs = search needs
 
--- src/lib.rt:100:5
 join-requires-3 : tie.Need-join-requires-3
 join-requires-3 c κs = search needs
 
--- src/lib.rt:97:1
 returns : tie.Need-returns
 returns c = beside-is (c .before .before .before .args .w) _ _ _ (c .before .before .join .ensures) (c .before .join2 .ensures) (c .join3 .ensures)
 

@@ -2,10 +2,7 @@ use Rattle.formed.proofs.LetterTests.{counter-is}
 use borrow.Author.Needs.{needs}
 use Rattle.formed.proofs.counter_holds.Statement.{statement}
 use Rattle.formed.proofs.counter_holds.Tie as tie
-use Rattle.formed.proofs.counter_holds.Reads as reads
-use Rattle.formed.proofs.counter_holds.Lts as lts
 
--- src/lib.rt:31:1
 returns : tie.Need-returns
 returns c = counter-is (c .args .c) (search needs)
 

@@ -2,22 +2,17 @@ use Rattle.formed.proofs.WordTests.{down-is}
 use borrow.Author.Needs.{needs}
 use Rattle.formed.proofs.down_formed.Statement.{statement}
 use Rattle.formed.proofs.down_formed.Tie as tie
-use Rattle.formed.proofs.down_formed.Reads as reads
-use Rattle.formed.proofs.down_formed.Lts as lts
-use Rattle.formed.proofs.beside_token.Reads as beside-token-reads
-use Rattle.marks.proofs.join.Reads as join-reads
 
--- src/lib.rt:107:26
 beside-token-requires : tie.Need-beside-token-requires
 beside-token-requires c κs = search needs
 
--- src/lib.rt:107:5
 join-requires : tie.Need-join-requires
 join-requires c κs = search needs
 
--- src/lib.rt:104:1
 returns : tie.Need-returns
-returns c = let a = c .before .before .args in down-is (a .w) (a .own) _ (c .before .beside-token .ensures) _ (c .join .ensures)
+returns c =
+    let a = c .before .before .args in
+    down-is (a .w) (a .own) _ (c .before .beside-token .ensures) _ (c .join .ensures)
 
 pub down-formed-spec : {M : Type 1} → statement M
 down-formed-spec = tie.close (tie.spec beside-token-requires join-requires returns)

@@ -1,14 +1,10 @@
 use borrow.Author.Tests.{eq-eqb, ne-eqb}
 use Rattle.formed.proofs.ends_at.Statement.{statement}
 use Rattle.formed.proofs.ends_at.Tie as tie
-use Rattle.formed.proofs.ends_at.Reads as reads
-use Rattle.formed.proofs.ends_at.Lts as lts
 
--- src/lib.rt:26:9
 returns : tie.Need-returns
 returns c = simp (eq-eqb _ _ (c .if1 .taken))
 
--- src/lib.rt:22:1
 returns-2 : tie.Need-returns-2
 returns-2 c = simp (ne-eqb _ _ (c .if1 .left))
 

@@ -4,51 +4,42 @@ use Rattle.formed.proofs.LetterTests.{letter-past, letter-foreign, lett
 use borrow.Author.Needs.{needs}
 use Rattle.formed.proofs.letter_formed.Statement.{statement}
 use Rattle.formed.proofs.letter_formed.Tie as tie
-use Rattle.formed.proofs.letter_formed.Reads as reads
-use Rattle.formed.proofs.letter_formed.Lts as lts
-use Rattle.formed.proofs.body_formed.Reads as body-formed-reads
-use Rattle.formed.proofs.ends_at.Reads as ends-at-reads
-use Rattle.marks.proofs.at_most_64.Reads as at-most-64-reads
 
--- src/lib.rt:46:9
 at-most-64-requires : tie.Need-at-most-64-requires
 at-most-64-requires c κs = search needs
 
--- src/lib.rt:48:8
 cast-if1 : tie.Need-cast-if1
 cast-if1 c = search needs
 
--- src/lib.rt:49:9
 returns : tie.Need-returns
-returns c = let a = c .before .before .args in letter-past (a .t1) (a .letter) (omega (arith, c .before .at-most-64 .ensures, c .if1 .taken))
+returns c =
+    let a = c .before .before .args in
+    letter-past (a .t1) (a .letter) (omega (arith, c .before .at-most-64 .ensures, c .if1 .taken))
 
--- src/lib.rt:51:13
 cast-i : tie.Need-cast-i
 cast-i c = search needs
 
--- src/lib.rt:52:17
 element-copy-out-ends-at : tie.Need-element-copy-out-ends-at
 element-copy-out-ends-at c = search needs
 
--- src/lib.rt:52:29
 element-copy-out-ends-at-2 : tie.Need-element-copy-out-ends-at-2
 element-copy-out-ends-at-2 c = search needs
 
--- src/lib.rt:52:9
 ends-at-requires : tie.Need-ends-at-requires
 ends-at-requires c κs = search needs
 
--- src/lib.rt:53:9
 returns-2 : tie.Need-returns-2
-returns-2 c = let a = c .before .before .before .before .before .before .args in letter-foreign (a .t1) (a .letter) (omega (arith, c .before .before .before .before .before .at-most-64 .ensures, c .before .before .before .before .if1 .left)) _ (c .before .ends-at .ensures) (not-true _ (c .if2 .taken))
+returns-2 c =
+    let a = c .before .before .before .before .before .before .args in
+    letter-foreign (a .t1) (a .letter) (omega (arith, c .before .before .before .before .before .at-most-64 .ensures, c .before .before .before .before .if1 .left)) _ (c .before .ends-at .ensures) (not-true _ (c .if2 .taken))
 
--- src/lib.rt:56:5
 body-formed-requires : tie.Need-body-formed-requires
 body-formed-requires c κs = search needs
 
--- src/lib.rt:43:1
 returns-3 : tie.Need-returns-3
-returns-3 c = let a = c .before .before .before .before .before .before .before .args in letter-says (a .t1) (a .letter) (omega (arith, c .before .before .before .before .before .before .at-most-64 .ensures, c .before .before .before .before .before .if1 .left)) _ (c .before .before .ends-at .ensures) _ _ (not-false _ (c .before .if2 .left)) (c .before .before .before .before .before .before .at-most-64 .ensures) (c .body-formed .ensures)
+returns-3 c =
+    let a = c .before .before .before .before .before .before .before .args in
+    letter-says (a .t1) (a .letter) (omega (arith, c .before .before .before .before .before .before .at-most-64 .ensures, c .before .before .before .before .before .if1 .left)) _ (c .before .before .ends-at .ensures) _ _ (not-false _ (c .before .if2 .left)) (c .before .before .before .before .before .before .at-most-64 .ensures) (c .body-formed .ensures)
 
 pub letter-formed-spec : {M : Type 1} → statement M
 letter-formed-spec =

@@ -2,61 +2,42 @@ use Rattle.formed.proofs.WordTests.{tests-apart, marks-own, live-is}
 use borrow.Author.Needs.{needs}
 use Rattle.formed.proofs.live_formed.Statement.{statement}
 use Rattle.formed.proofs.live_formed.Tie as tie
-use Rattle.formed.proofs.live_formed.Reads as reads
-use Rattle.formed.proofs.live_formed.Lts as lts
-use Rattle.formed.proofs.apart.Reads as apart-reads
-use Rattle.formed.proofs.beside_token.Reads as beside-token-reads
-use Rattle.formed.proofs.both.Reads as both-reads
-use Rattle.formed.proofs.within.Reads as within-reads
-use Rattle.marks.proofs.join.Reads as join-reads
 
--- src/lib.rt:121:28
 join-requires : tie.Need-join-requires
 join-requires c κs = search needs
 
--- src/lib.rt:121:9
 join-requires-2 : tie.Need-join-requires-2
 join-requires-2 c κs = search needs
 
--- src/lib.rt:122:22
 apart-requires : tie.Need-apart-requires
 apart-requires c κs = search needs
 
--- src/lib.rt:122:46
 within-requires : tie.Need-within-requires
 within-requires c κs = search needs
 
--- src/lib.rt:122:9
 both-requires : tie.Need-both-requires
 both-requires c κs = search needs
 
--- src/lib.rt:123:36
 beside-token-requires : tie.Need-beside-token-requires
 beside-token-requires c κs = search needs
 
--- src/lib.rt:123:9
 join-requires-3 : tie.Need-join-requires-3
 join-requires-3 c κs = search needs
 
--- src/lib.rt:124:22
 apart-requires-2 : tie.Need-apart-requires-2
 apart-requires-2 c κs = search needs
 
--- src/lib.rt:124:10
 both-requires-2 : tie.Need-both-requires-2
 both-requires-2 c κs = search needs
 
--- src/lib.rt:124:47
 within-requires-2 : tie.Need-within-requires-2
 within-requires-2 c κs = search needs
 
--- src/lib.rt:124:5
 both-requires-3 : tie.Need-both-requires-3
 both-requires-3 c κs = search needs
 
--- src/lib.rt:118:1
 returns : tie.Need-returns
-returns c = 
+returns c =
     let a = c .before .before .before .before .before .before .before .before .before .before .before .args in
     let e = c .before .before .before .before .before .beside-token .ensures in
     live-is (a .w) (a .own) _ e _ _ _ _ _ _ _

@@ -6,47 +6,39 @@ use Rattle.formed.specs.Steps.{everyPlace, marksTest}
 use borrow.Author.Needs.{needs}
 use Rattle.formed.proofs.marks_formed.Statement.{statement}
 use Rattle.formed.proofs.marks_formed.Tie as tie
-use Rattle.formed.proofs.marks_formed.Reads as reads
-use Rattle.formed.proofs.marks_formed.Lts as lts
-use Rattle.formed.proofs.down_formed.Reads as down-formed-reads
-use Rattle.formed.proofs.live_formed.Reads as live-formed-reads
-use Rattle.formed.proofs.waiting_formed.Reads as waiting-formed-reads
 
--- src/lib.rt:131:28
 enum-told : tie.Need-enum-told
 enum-told c = search needs
 
--- src/lib.rt:131:28
 down-formed-requires : tie.Need-down-formed-requires
 down-formed-requires c κs = search needs
 
--- src/lib.rt:132:31
 enum-told-2 : tie.Need-enum-told-2
 enum-told-2 c = search needs
 
--- src/lib.rt:132:31
 waiting-formed-requires : tie.Need-waiting-formed-requires
 waiting-formed-requires c κs = search needs
 
--- src/lib.rt:133:28
 enum-told-3 : tie.Need-enum-told-3
 enum-told-3 c = search needs
 
--- src/lib.rt:133:28
 live-formed-requires : tie.Need-live-formed-requires
 live-formed-requires c κs = search needs
 
--- src/lib.rt:127:1
 returns : tie.Need-returns
-returns c = let a = c .before .before .before .args in c .down-formed .ensures ∙ ap (λ (x : Condition). everyPlace (λ t. marksTest x (inWord (a .own) t) (marksAt (a .w) t))) (sym (c .before .enum-told .given .1))
+returns c =
+    let a = c .before .before .before .args in
+    c .down-formed .ensures ∙ ap (λ (x : Condition). everyPlace (λ t. marksTest x (inWord (a .own) t) (marksAt (a .w) t))) (sym (c .before .enum-told .given .1))
 
--- src/lib.rt:127:1
 returns-2 : tie.Need-returns-2
-returns-2 c = let a = c .before .before .before .args in c .waiting-formed .ensures ∙ ap (λ (x : Condition). everyPlace (λ t. marksTest x (inWord (a .own) t) (marksAt (a .w) t))) (sym (c .before .enum-told2 .given .1))
+returns-2 c =
+    let a = c .before .before .before .args in
+    c .waiting-formed .ensures ∙ ap (λ (x : Condition). everyPlace (λ t. marksTest x (inWord (a .own) t) (marksAt (a .w) t))) (sym (c .before .enum-told2 .given .1))
 
--- src/lib.rt:127:1
 returns-3 : tie.Need-returns-3
-returns-3 c = let a = c .before .before .before .args in c .live-formed .ensures ∙ ap (λ (x : Condition). everyPlace (λ t. marksTest x (inWord (a .own) t) (marksAt (a .w) t))) (sym (c .before .enum-told3 .given .1))
+returns-3 c =
+    let a = c .before .before .before .args in
+    c .live-formed .ensures ∙ ap (λ (x : Condition). everyPlace (λ t. marksTest x (inWord (a .own) t) (marksAt (a .w) t))) (sym (c .before .enum-told3 .given .1))
 
 pub marks-formed-spec : {M : Type 1} → statement M
 marks-formed-spec =

@@ -8,17 +8,10 @@ use borrow.Author.Tests.{not-true, not-false}
 use Rattle.lists.specs.Lists.{every, below}
 use Rattle.lists.proofs.Numbers.{all-more}
 use Rattle.formed.specs.Steps.{counterTest}
-use Rattle.formed.proofs.Parts.{counterPlace, mismarked, miscounted, well-formed}
+use Rattle.formed.proofs.Parts.{mismarked, miscounted, well-formed}
 use borrow.Author.Needs.{needs}
 use Rattle.formed.proofs.station_formed.Statement.{statement}
 use Rattle.formed.proofs.station_formed.Tie as tie
-use Rattle.formed.proofs.station_formed.Reads as reads
-use Rattle.formed.proofs.station_formed.Lts as lts
-use Rattle.formed.proofs.counter_formed.Reads as counter-formed-reads
-use Rattle.formed.proofs.marks_formed.Reads as marks-formed-reads
-use Rattle.marks.proofs.at_most_64.Reads as at-most-64-reads
-use Rattle.marks.proofs.own_links.Reads as own-links-reads
-use Rattle.station.proofs.is_live.Reads as is-live-reads
 
 abbrev Inv-loop : tie.InvT-loop
 Inv-loop s st own m live k₀ k = (k ≤ 64) × (every (λ t. counterTest (ltb t m) live (getD (st .counters) t 0)) (below k) ≡ true)
@@ -26,68 +19,61 @@ Inv-loop s st own m live k₀ k = (k ≤ 64) × (every (λ t. counterTest (ltb t
 abbrev μ-loop : tie.MeasureT-loop
 μ-loop s st own m live k₀ k = 64 - k
 
-size : (c : tie.Start Inv-loop μ-loop) → length (c .args .st .counters) ≡ 64
+size : (c : tie.Start Inv-loop μ-loop) → length (c .args .t3 .counters) ≡ 64
 size c = search needs
 
--- src/lib.rt:141:9
 own-links-requires : tie.Need-own-links-requires Inv-loop μ-loop
 own-links-requires c κs = search needs
 
--- src/lib.rt:143:9
 marks-formed-requires : tie.Need-marks-formed-requires Inv-loop μ-loop
 marks-formed-requires c κs = search needs
 
--- src/lib.rt:144:9
 returns : tie.Need-returns Inv-loop μ-loop
-returns c = let a = c .before .before .before .before .args in mismarked (a .net) (a .s) (a .st) (size (c .before .before .before .before)) _ _ (c .before .before .before .own-links .ensures) (c .before .marks-formed .ensures) (not-true _ (c .if1 .taken))
+returns c =
+    let a = c .before .before .before .before .args in
+    mismarked (a .net) (a .s) (a .t3) (size (c .before .before .before .before)) _ _ (c .before .before .before .own-links .ensures) (c .before .marks-formed .ensures) (not-true _ (c .if1 .taken))
 
--- src/lib.rt:146:9
 at-most-64-requires : tie.Need-at-most-64-requires Inv-loop μ-loop
 at-most-64-requires c κs = search needs
 
--- src/lib.rt:147:9
 is-live-requires : tie.Need-is-live-requires Inv-loop μ-loop
 is-live-requires c κs = search needs
 
--- src/lib.rt:148:5
 loop-holds : tie.Need-loop-holds Inv-loop μ-loop
 loop-holds c = (omega arith, refl)
 
--- src/lib.rt:149:17
 cast-i : tie.Need-cast-i Inv-loop μ-loop
 cast-i c = omega arith
 
--- src/lib.rt:150:41
 mul-counter-formed : tie.Need-mul-counter-formed Inv-loop μ-loop
 mul-counter-formed c = search needs
 
--- src/lib.rt:150:41
 element-copy-out-counter-formed : tie.Need-element-copy-out-counter-formed Inv-loop μ-loop
 element-copy-out-counter-formed c = omega arith
 
--- src/lib.rt:150:13
 counter-formed-requires : tie.Need-counter-formed-requires Inv-loop μ-loop
 counter-formed-requires c κs = search needs
 
--- src/lib.rt:151:13
 returns-2 : tie.Need-returns-2 Inv-loop μ-loop
-returns-2 c = let a = c .before .before .before .before .before .before .before .before .before .before .before .args in miscounted (a .net) (a .s) (a .st) (size (c .before .before .before .before .before .before .before .before .before .before .before)) _ _ (c .before .before .before .before .before .before .before .before .before .before .own-links .ensures) (c .before .before .before .before .before .before .before .before .marks-formed .ensures) _ _ (c .before .before .before .before .before .before .at-most-64 .ensures) (c .before .before .before .before .before .is-live .ensures) (c .before .before .before .before .loop .k) (omega arith) (sym (c .before .counter-formed .ensures) ∙ not-true _ (c .if2 .taken))
+returns-2 c =
+    let a = c .before .before .before .before .before .before .before .before .before .before .before .args in
+    miscounted (a .net) (a .s) (a .t3) (size (c .before .before .before .before .before .before .before .before .before .before .before)) _ _ (c .before .before .before .before .before .before .before .before .before .before .own-links .ensures) (c .before .before .before .before .before .before .before .before .marks-formed .ensures) _ _ (c .before .before .before .before .before .before .at-most-64 .ensures) (c .before .before .before .before .before .is-live .ensures) (c .before .before .before .before .loop .k) (omega arith) (sym (c .before .counter-formed .ensures) ∙ not-true _ (c .if2 .taken))
 
--- src/lib.rt:148:9
 add-k : tie.Need-add-k Inv-loop μ-loop
 add-k c = omega arith
 
--- src/lib.rt:148:5
 loop-less : tie.Need-loop-less Inv-loop μ-loop
 loop-less c = omega arith
 
--- src/lib.rt:148:5
 loop-again : tie.Need-loop-again Inv-loop μ-loop
-loop-again c = let l = c .before .before .before .before .loop in (omega arith, all-more _ (l .k) (l .inv .1) (sym (c .before .counter-formed .ensures) ∙ not-false _ (c .if2 .left)))
+loop-again c =
+    let l = c .before .before .before .before .loop in
+    (omega arith, all-more _ (l .k) (l .inv .1) (sym (c .before .counter-formed .ensures) ∙ not-false _ (c .if2 .left)))
 
--- src/lib.rt:138:1
 returns-3 : tie.Need-returns-3 Inv-loop μ-loop
-returns-3 c = let a = c .before .before .before .before .before .before .before .before .args in well-formed (a .net) (a .s) (a .st) (size (c .before .before .before .before .before .before .before .before)) _ _ (c .before .before .before .before .before .before .before .own-links .ensures) (c .before .before .before .before .before .marks-formed .ensures) _ _ (c .before .before .before .at-most-64 .ensures) (c .before .before .is-live .ensures) (c .before .loop .k) (omega arith) (not-false _ (c .before .before .before .before .if1 .left)) (c .before .loop .inv .1)
+returns-3 c =
+    let a = c .before .before .before .before .before .before .before .before .args in
+    well-formed (a .net) (a .s) (a .t3) (size (c .before .before .before .before .before .before .before .before)) _ _ (c .before .before .before .before .before .before .before .own-links .ensures) (c .before .before .before .before .before .marks-formed .ensures) _ _ (c .before .before .before .at-most-64 .ensures) (c .before .before .is-live .ensures) (c .before .loop .k) (omega arith) (not-false _ (c .before .before .before .before .if1 .left)) (c .before .loop .inv .1)
 
 pub station-formed-spec : {M : Type 1} → statement M
 station-formed-spec =

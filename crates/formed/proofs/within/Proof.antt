@@ -2,15 +2,10 @@ use Rattle.formed.proofs.WordTests.{within-is}
 use borrow.Author.Needs.{needs}
 use Rattle.formed.proofs.within.Statement.{statement}
 use Rattle.formed.proofs.within.Tie as tie
-use Rattle.formed.proofs.within.Reads as reads
-use Rattle.formed.proofs.within.Lts as lts
-use Rattle.marks.proofs.without.Reads as without-reads
 
--- src/lib.rt:86:5
 without-requires : tie.Need-without-requires
 without-requires c κs = search needs
 
--- src/lib.rt:83:1
 returns : tie.Need-returns
 returns c = within-is _ _ _ (c .without .ensures)
 
