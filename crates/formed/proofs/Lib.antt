@@ -1,0 +1,4 @@
+pub mod PlaceLaws
+pub mod WordTests
+pub mod LetterTests
+pub mod Parts

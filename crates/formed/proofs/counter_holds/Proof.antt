@@ -1,0 +1,10 @@
+use Rattle.formed.proofs.LetterTests.{counter-is}
+use borrow.Author.Needs.{needs}
+use Rattle.formed.proofs.counter_holds.Statement.{statement}
+use Rattle.formed.proofs.counter_holds.Tie as tie
+
+returns : tie.Need-returns
+returns c = counter-is (c .args .c) (search needs)
+
+pub counter-holds-spec : {M : Type 1} → statement M
+counter-holds-spec = tie.close (tie.spec returns)

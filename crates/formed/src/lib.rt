@@ -1,0 +1,164 @@
+// Whether one letter, and what one station holds, is well formed: the parts of the test of a whole state.
+ghost use mathlib.Core.Path.{_≡_};
+ghost use mathlib.Core.Bool.{not, _&&_, _||_};
+ghost use lib.Dec.{eqb};
+ghost use Rattle.lists.specs.Words.{inWord};
+ghost use Rattle.net.specs.Letters.{isCounter, letterHolds};
+ghost use Rattle.net.specs.Values.{networkOf};
+ghost use Rattle.marks.specs.Marks.{wordBy, marksAt};
+ghost use Rattle.station.specs.Holding.{implies};
+ghost use Rattle.station.specs.declared.Condition.the-variants.{Down, Waiting, Live};
+ghost use Rattle.formed.specs.Formed.{stationFormed};
+ghost use Rattle.formed.specs.Steps.{bodyTest, everyPlace, counterTest, besideToken, marksTest};
+use marks::Words;
+use net::Body;
+use net::Letter;
+use net::Net;
+use station::Condition;
+use station::Station;
+
+// ---- a letter
+
+fn ends_at(low: u8, high: u8, s: u16) -> bool
+    ensures { λ r. ⌜ r ≡ (eqb low s || eqb high s) ⌝ }
+{
+    if low as u16 == s {
+        return true;
+    }
+    high as u16 == s
+}
+
+fn counter_holds(c: u16) -> bool
+    ensures { λ r. ⌜ r ≡ isCounter c ⌝ }
+{
+    1 <= c
+}
+
+// Whether what a letter says fits a network of so many links.
+fn body_formed(links: u8, body: Body) -> bool
+    ensures { λ r. ⌜ r ≡ bodyTest links body ⌝ }
+{
+    match body {
+        Body::Request => true,
+        Body::Reply(c) => counter_holds(c),
+        Body::Notice(j, c) => both(j < links, counter_holds(c)),
+    }
+}
+
+// Whether the letter may travel in the network: its links exist, its sender is an end of its link, its counter is no 0.
+pub fn letter_formed(net: Net, letter: Letter) -> bool
+    ensures { λ r. ⌜ r ≡ letterHolds (networkOf net) letter ⌝ }
+{
+    let links = marks::at_most_64(net.links);
+    let link = letter.link;
+    if links as u16 <= link {
+        return false;
+    }
+    let i = link as usize;
+    if !ends_at(net.low[i], net.high[i], letter.sender) {
+        return false;
+    }
+    let body = letter.body;
+    body_formed(links, body)
+}
+
+// ---- a station's counters
+
+// Whether a place of the counters is right: that of a link which is there, or unused and zero.
+fn counter_formed(there: bool, live: bool, c: u16) -> bool
+    ensures { λ r. ⌜ r ≡ counterTest there live c ⌝ }
+{
+    if !there {
+        return c == 0;
+    }
+    if live {
+        return counter_holds(c);
+    }
+    c == 1
+}
+
+// ---- a station's marks, all links at once
+
+fn both(a: bool, b: bool) -> bool
+    ensures { λ r. ⌜ r ≡ (a && b) ⌝ }
+{
+    if a { b } else { false }
+}
+
+// Whether all of the first set is in the second.
+fn within(a: u64, b: u64) -> bool
+    ensures { λ r. ⌜ r ≡ everyPlace (λ t. implies (inWord a t) (inWord b t)) ⌝ }
+{
+    marks::without(a, b) == 0
+}
+
+// Whether the two sets share nothing.
+fn apart(a: u64, b: u64) -> bool
+    ensures { λ r. ⌜ r ≡ everyPlace (λ t. not (inWord a t && inWord b t)) ⌝ }
+{
+    marks::without(a, b) == a
+}
+
+// The links with a mark other than token.
+fn beside_token(w: Words) -> u64
+    ensures { λ r. ⌜ r ≡ wordBy (λ t. besideToken (marksAt w t)) ⌝ }
+{
+    marks::join(
+        marks::join(w.turn, w.testing),
+        marks::join(w.asked, w.quiet),
+    )
+}
+
+// No mark at all.
+fn down_formed(own: u64, w: Words) -> bool
+    ensures { λ r. ⌜ r ≡ everyPlace (λ t. marksTest Down (inWord own t) (marksAt w t)) ⌝ }
+{
+    marks::join(w.token, beside_token(w)) == 0
+}
+
+// Token alone on each own link.
+fn waiting_formed(own: u64, w: Words) -> bool
+    ensures { λ r. ⌜ r ≡ everyPlace (λ t. marksTest Waiting (inWord own t) (marksAt w t)) ⌝ }
+{
+    both(w.token == own, beside_token(w) == 0)
+}
+
+// Marks that may stand together, on own links.
+fn live_formed(own: u64, w: Words) -> bool
+    ensures { λ r. ⌜ r ≡ everyPlace (λ t. marksTest Live (inWord own t) (marksAt w t)) ⌝ }
+{
+    let idle = marks::join(marks::join(w.token, w.turn), w.quiet);
+    let tests = both(apart(w.testing, idle), within(w.asked, w.testing));
+    let all = marks::join(w.token, beside_token(w));
+    both(both(tests, apart(w.token, w.turn)), within(all, own))
+}
+
+fn marks_formed(condition: Condition, own: u64, w: Words) -> bool
+    ensures { λ r. ⌜ r ≡ everyPlace (λ t. marksTest condition (inWord own t) (marksAt w t)) ⌝ }
+{
+    match condition {
+        Condition::Down => down_formed(own, w),
+        Condition::Waiting => waiting_formed(own, w),
+        Condition::Live => live_formed(own, w),
+    }
+}
+
+// Whether what the station s holds is well formed, with its unused room zero.
+pub fn station_formed(net: Net, s: u8, st: Station) -> bool
+    ensures { λ r. ⌜ r ≡ stationFormed net s st ⌝ }
+{
+    let own = marks::own_links(net, s);
+    let condition = st.condition;
+    if !marks_formed(condition, own, st.marks) {
+        return false;
+    }
+    let m = marks::at_most_64(net.links);
+    let live = station::is_live(condition);
+    for k in 0..64u8 {
+        let i = k as usize;
+        if !counter_formed(k < m, live, st.counters[i]) {
+            return false;
+        }
+    }
+    true
+}
