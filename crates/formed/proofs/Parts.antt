@@ -11,7 +11,7 @@ use lib.Seq.{getD-drop, length-take-le}
 use borrow.Author.Tests.{lt-ltb, le-ltb}
 use Rattle.lists.specs.Lists.{every, from, below}
 use Rattle.lists.specs.Words.{inWord}
-use Rattle.lists.proofs.Tests.{and-l, and-r, and-i, and-no, same-test, every-at, at-every}
+use Rattle.lists.proofs.Tests.{and-l, and-r, and-i, and-no, and-yes, same-test, every-at, at-every}
 use Rattle.lists.proofs.Numbers.{every-from, from-every, length-map-below, all-fails}
 use Rattle.net.specs.declared.Net.{Net}
 use Rattle.net.specs.Network.{isEnd}
@@ -41,10 +41,6 @@ module _ (there live : Bool) (c : ℕ) where
 
   pub counter-live : (r : Bool) → there ≡ true → live ≡ true → r ≡ isCounter c → r ≡ counterTest there live c
   counter-live r e l p = p ∙ sym (and-yes (isCounter c)) ∙ simp (e, l)
-    where
-      and-yes : (b : Bool) → (b && true) ≡ b
-      and-yes true = refl
-      and-yes false = refl
 
   pub counter-one : there ≡ true → live ≡ false → eqb c 1 ≡ counterTest there live c
   counter-one e l =
