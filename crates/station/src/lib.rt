@@ -1,5 +1,6 @@
-// One station: what it holds, and what each event or letter does to it and makes it send. It knows the network's links
-// and nothing of other stations. What is said of a link that is not there is in specs/Acts.antt.
+// One station: what it holds, the rules of every event at it, and the events that only its condition or its marks
+// answer. It knows the network's links and nothing of other stations. The ends of a test are the crate testing's, the
+// letters the crate hearing's. What is said of a link that is not there is in specs/Acts.antt.
 ghost use mathlib.Core.Path.{_≡_};
 ghost use mathlib.Core.Bool.{not, _&&_};
 ghost use lib.ListN.{replicate};
@@ -7,7 +8,7 @@ ghost use Rattle.lists.specs.Words.{inWord};
 ghost use Rattle.net.specs.Values.{networkOf};
 ghost use Rattle.marks.specs.Marks.{wordBy, marksAt};
 ghost use Rattle.station.specs.Holding.{isLive, isDown, isWaiting};
-ghost use Rattle.station.specs.Acts.{intervalMarks, intervalTests, testEnded, started, stopped, recovered, interval, timeout, spoken, kindOf, allowedBy};
+ghost use Rattle.station.specs.Acts.{intervalTests, started, stopped, recovered, spoken, kindOf, allowedBy};
 ghost use Rattle.station.specs.Steps.{marksThere, recoveredWords};
 ghost use Rattle.station.specs.Values.{holdingOf, laid, unmarked, blank, Acts};
 use marks::Marks;
@@ -33,68 +34,6 @@ pub struct Station {
 pub struct Acted {
     pub station: Station,
     pub send: Sending,
-}
-
-// ---- one link's marks
-
-fn interval_marks(m: Marks) -> Marks
-    ensures { λ r. ⌜ r ≡ intervalMarks m ⌝ }
-{
-    if m.token {
-        return Marks {
-            token: false,
-            turn: m.turn,
-            testing: true,
-            asked: m.asked,
-            quiet: m.quiet,
-        };
-    }
-    if m.turn {
-        return Marks {
-            token: m.token,
-            turn: false,
-            testing: true,
-            asked: m.asked,
-            quiet: m.quiet,
-        };
-    }
-    Marks {
-        token: m.token,
-        turn: true,
-        testing: m.testing,
-        asked: m.asked,
-        quiet: m.quiet,
-    }
-}
-
-fn test_ended(m: Marks) -> Marks
-    ensures { λ r. ⌜ r ≡ testEnded m ⌝ }
-{
-    if m.asked {
-        return Marks {
-            token: true,
-            turn: m.turn,
-            testing: false,
-            asked: false,
-            quiet: m.quiet,
-        };
-    }
-    Marks {
-        token: m.token,
-        turn: m.turn,
-        testing: false,
-        asked: m.asked,
-        quiet: m.quiet,
-    }
-}
-
-fn tests_now(m: Marks) -> bool
-    ensures { λ r. ⌜ r ≡ intervalTests m ⌝ }
-{
-    if m.token {
-        return true;
-    }
-    m.turn
 }
 
 // The marks of link k, none where the link is not there.
@@ -131,87 +70,6 @@ pub fn start(net: Net, me: u8, st: Station) -> Station
             asked: 0,
             quiet: 0,
         },
-    }
-}
-
-// An interval ends on link k: a test begins, or turn comes on.
-pub fn end_interval(net: Net, me: u8, k: u8, st: Station) -> Acted
-    ensures { λ r. ⌜ Acts net me st (interval (networkOf net) me k (holdingOf net st)) r ⌝ }
-{
-    let counters = st.counters;
-    if marks::at_most_64(net.links) <= k {
-        return Acted {
-            station: st,
-            send: sending::silence(counters),
-        };
-    }
-    let m = marks::marks_at(st.marks, k);
-    let words = marks::with_marks(st.marks, k, interval_marks(m));
-    let requests = marks::put(0, k, tests_now(m));
-    let condition = st.condition;
-    Acted {
-        station: Station {
-            condition,
-            counters,
-            marks: words,
-        },
-        send: Sending {
-            requests,
-            subjects: 0,
-            ways: 0,
-            told: counters,
-            replies: false,
-            reply: 0,
-            link: 0,
-        },
-    }
-}
-
-// A timeout ends on link k: the test failed. A working link is raised, told of and kept quiet; what is out of reach then is purged.
-pub fn end_timeout(net: Net, me: u8, k: u8, st: Station) -> Acted
-    ensures { λ r. ⌜ Acts net me st (timeout (networkOf net) me k (holdingOf net st)) r ⌝ }
-{
-    let before = st.counters;
-    let mut counters = before;
-    if marks::at_most_64(net.links) <= k {
-        return Acted {
-            station: st,
-            send: sending::silence(counters),
-        };
-    }
-    let i = k as usize;
-    let condition = st.condition;
-    let c = counters[i];
-    let m = test_ended(marks::marks_at(st.marks, k));
-    if !reach::is_even(c) {
-        let words = marks::with_marks(st.marks, k, m);
-        return Acted {
-            station: Station {
-                condition,
-                counters,
-                marks: words,
-            },
-            send: sending::silence(counters),
-        };
-    }
-    counters[i] = reach::timed_out(c);
-    let silenced = Marks {
-        token: m.token,
-        turn: m.turn,
-        testing: m.testing,
-        asked: m.asked,
-        quiet: true, // nothing is sent or heard there until quiet ends
-    };
-    let words = marks::with_marks(st.marks, k, silenced);
-    let ways = sending::ways_but(net, me, st.marks.quiet, k);
-    let after = reach::purged(net, counters, me);
-    Acted {
-        station: Station {
-            condition,
-            counters: after,
-            marks: words,
-        },
-        send: sending::one_notice(k, ways, counters),
     }
 }
 

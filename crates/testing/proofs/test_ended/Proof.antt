@@ -1,5 +1,5 @@
-use Rattle.station.proofs.test_ended.Statement.{statement}
-use Rattle.station.proofs.test_ended.Tie as tie
+use Rattle.testing.proofs.test_ended.Statement.{statement}
+use Rattle.testing.proofs.test_ended.Tie as tie
 
 returns : tie.Need-returns
 returns c = simp (c .if1 .taken)

@@ -1,6 +1,6 @@
 use Rattle.station.proofs.MarkLaws.{interval-turn, interval-neither}
-use Rattle.station.proofs.interval_marks.Statement.{statement}
-use Rattle.station.proofs.interval_marks.Tie as tie
+use Rattle.testing.proofs.interval_marks.Statement.{statement}
+use Rattle.testing.proofs.interval_marks.Tie as tie
 
 returns : tie.Need-returns
 returns c = simp (c .if1 .taken)

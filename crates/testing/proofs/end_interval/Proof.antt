@@ -2,12 +2,12 @@ use mathlib.Core.Path.{subst⁻¹}
 use native.Mathlib.Omega.{arith}
 use Rattle.net.specs.Values.{networkOf}
 use Rattle.sending.specs.declared.Sending.{Sending}
 use Rattle.station.specs.Acts.{interval}
 use Rattle.station.specs.Values.{holdingOf, Acts}
 use Rattle.station.proofs.Acting.{interval-past, interval-there}
 use borrow.Author.Needs.{needs}
-use Rattle.station.proofs.end_interval.Statement.{statement}
-use Rattle.station.proofs.end_interval.Tie as tie
+use Rattle.testing.proofs.end_interval.Statement.{statement}
+use Rattle.testing.proofs.end_interval.Tie as tie
 
 at-most-64-requires : tie.Need-at-most-64-requires
 at-most-64-requires c κs = search needs

@@ -1,16 +1,16 @@
 use mathlib.Core.Path.{_≡_, refl, sym, subst⁻¹, _∙_}
 use lib.ListN.{length}
 use Rattle.station.proofs.Laid.{Fit}
 use native.Mathlib.Omega.{arith}
 use borrow.Author.Tests.{not-true, not-false}
 use Rattle.net.specs.Values.{networkOf}
 use Rattle.sending.specs.declared.Sending.{Sending}
 use Rattle.station.specs.Acts.{timeout}
 use Rattle.station.specs.Values.{holdingOf, Acts}
 use Rattle.station.proofs.Acting.{timeout-past, timeout-odd, timeout-even}
 use borrow.Author.Needs.{needs}
-use Rattle.station.proofs.end_timeout.Statement.{statement}
-use Rattle.station.proofs.end_timeout.Tie as tie
+use Rattle.testing.proofs.end_timeout.Statement.{statement}
+use Rattle.testing.proofs.end_timeout.Tie as tie
 
 size : (c : tie.Start) → length (c .args .st .counters) ≡ 64
 size c = search needs
