@@ -7,9 +7,9 @@ use native.Mathlib.Omega.{arith}
 use lib.Dec.{eqb, ltb}
 use borrow.Author.Tests.{eq-eqb, ne-eqb, lt-ltb, le-ltb}
 use Rattle.lists.specs.Lists.{if_then_else_}
-use Rattle.reach.specs.Counters.{even, odd, healed, healing, healedNumbers}
-use Rattle.reach.specs.declared.Healed.{Healed}
-use Rattle.reach.specs.declared.Healed.the-variants.{To, TooHigh}
+use Rattle.counters.specs.Counters.{even, odd, healed, healing, healedNumbers}
+use Rattle.counters.specs.declared.Healed.{Healed}
+use Rattle.counters.specs.declared.Healed.the-variants.{To, TooHigh}
 use Rattle.station.specs.Acts.{replyAnswer}
 use Rattle.hearing.specs.Heard.{noticeAnswer}
 

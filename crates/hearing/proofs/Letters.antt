@@ -14,8 +14,8 @@ use Rattle.net.specs.declared.Body.{Body}
 use Rattle.net.specs.declared.Body.the-variants.{Request, Reply, Notice}
 use Rattle.net.specs.declared.Letter.{Letter}
 use Rattle.net.specs.Network.{Network}
-use Rattle.reach.specs.Counters.{even, odd, healed}
-use Rattle.reach.proofs.CounterLaws.{healed-even, even-is}
+use Rattle.counters.specs.Counters.{even, odd, healed}
+use Rattle.counters.proofs.CounterLaws.{healed-even, even-is}
 use Rattle.hearing.specs.declared.Effect.{Effect}
 use Rattle.hearing.specs.declared.Effect.the-variants.{Asks, Heals, Levels, Equal, Takes}
 use Rattle.hearing.specs.declared.Heard.{Heard}

@@ -17,7 +17,7 @@ use Rattle.net.specs.declared.Net.{Net}
 use Rattle.net.specs.Network.{isEnd}
 use Rattle.net.specs.Values.{networkOf, linkCount}
 use Rattle.net.proofs.ValueLaws.{links-of}
-use Rattle.reach.specs.Counters.{odd}
+use Rattle.counters.specs.Counters.{odd}
 use Rattle.reach.specs.Values.{purgedOf}
 use Rattle.reach.proofs.Tables.{counter-of}
 use Rattle.marks.specs.declared.Marks.{Marks}

@@ -6,19 +6,19 @@ ghost use lib.Dec.{eqb, ltb};
 ghost use lib.ListN.{getD};
 ghost use Rattle.lists.specs.Lists.{if_then_else_};
 ghost use Rattle.net.specs.Values.{networkOf, linkCount};
-ghost use Rattle.reach.specs.Counters.{odd};
+ghost use Rattle.counters.specs.Counters.{odd};
 ghost use Rattle.marks.specs.Marks.{wordBy, upTo, marksAt, wordsWith};
 ghost use Rattle.station.specs.Holding.{marked};
 ghost use Rattle.station.specs.Acts.{unchanged, repliedMarks, onRequest, received, answer, replyAnswer};
 ghost use Rattle.station.specs.Values.{holdingOf, Acts};
 ghost use Rattle.hearing.specs.Heard.{heals, levels, taken, noticeAnswer, heardNumbers};
+use counters::Counters;
+use counters::Healed;
 use marks::Marks;
 use marks::Words;
 use net::Body;
 use net::Letter;
 use net::Net;
-use reach::Counters;
-use reach::Healed;
 use sending::Sending;
 use station::Acted;
 use station::Station;
@@ -46,12 +46,12 @@ pub enum Heard {
 fn reply_heard(own: u16, c: u16) -> Heard
     ensures { λ r. ⌜ heardNumbers r ≡ replyAnswer own c ⌝ }
 {
-    let new = reach::heal(own, c);
+    let new = counters::heal(own, c);
     let Healed::To(to) = new else {
         return Heard::TooHigh;
     };
-    if reach::is_even(own) {
-        if reach::is_even(c) {
+    if counters::is_even(own) {
+        if counters::is_even(c) {
             if own == c {
                 return Heard::Does(Effect::Equal);
             }
@@ -69,7 +69,7 @@ fn notice_heard(links: u8, counters: Counters, j: u8, c: u16) -> Heard
         return Heard::Nothing;
     }
     let i = j as usize;
-    if reach::is_newer(counters[i], c) {
+    if counters::is_newer(counters[i], c) {
         return Heard::Does(Effect::Takes(j, c));
     }
     Heard::Nothing
@@ -178,7 +178,7 @@ fn defers_to(testing: bool, sender: u16, me: u8) -> bool
 fn told_over(links: u8, counters: Counters, k: u8, c: u16) -> u64
     ensures { λ r. ⌜ r ≡ (if odd c then wordBy (upTo (λ j. ltb 1 (getD counters j 0) && not (eqb j k)) (min links 64)) else 0) ⌝ }
 {
-    if reach::is_even(c) {
+    if counters::is_even(c) {
         return 0;
     }
     marks::put(sending::known_links(links, counters), k, false)

@@ -19,7 +19,7 @@ use Rattle.net.specs.declared.Body.{Body}
 use Rattle.net.specs.declared.Body.the-variants.{Request, Reply, Notice}
 use Rattle.net.specs.declared.Letter.{Letter}
 use Rattle.net.specs.Network.{Network, isEnd}
-use Rattle.reach.specs.Counters.{even, healed}
+use Rattle.counters.specs.Counters.{even, healed}
 use Rattle.reach.specs.Reach.{counterIn}
 use Rattle.station.specs.Holding.{Holding, counter, mark, holdingHolds}
 use Rattle.station.specs.Acts.{Done, unchanged, started, stopped, recovered, interval, timeout, spoken, onRequest, onReply, onNotice, takes, hears, bodyOver, onBody, received, Kind, start, stop, recovery, intervalEnd, timeoutEnd, quietEnd, other}

@@ -16,7 +16,7 @@ use Rattle.lists.proofs.Numbers.{getD-map-below, length-map-below}
 use Rattle.lists.proofs.Words.{in-wordOf}
 use Rattle.lists.proofs.First.{first-below}
 use Rattle.net.specs.Network.{ends, linkNumbers}
-use Rattle.reach.specs.Counters.{even, odd}
+use Rattle.counters.specs.Counters.{even, odd}
 use Rattle.reach.specs.Reach.{counterIn, worksIn, Reaches, has, reach, near, linkValue, report, lowestOf}
 use Rattle.reach.proofs.ReachLaws.{sound, complete, reach-length}
 use Rattle.network.specs.World.{World, holdingAt, reportAt, reachAt}

@@ -8,7 +8,7 @@ use Rattle.net.specs.declared.Body.{Body}
 use Rattle.net.specs.declared.Body.the-variants.{Request, Reply, Notice}
 use Rattle.net.specs.declared.Letter.{Letter}
 use Rattle.net.specs.Network.{Network}
-use Rattle.reach.specs.Counters.{even, healed}
+use Rattle.counters.specs.Counters.{even, healed}
 use Rattle.station.specs.Holding.{Holding, counter, mark}
 use Rattle.station.specs.Acts.{takes, Kind, start, stop, recovery, intervalEnd, timeoutEnd, quietEnd, other}
 use Rattle.network.specs.World.{World, Sort, act, delivery, loss, holdingAt, letterAt, receiver, heard}

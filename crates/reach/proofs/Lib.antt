@@ -1,4 +1,3 @@
-pub mod CounterLaws
 pub mod ReachLaws
 pub mod Word
 pub mod Search

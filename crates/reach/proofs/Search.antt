@@ -14,7 +14,7 @@ use Rattle.lists.specs.Words.{bitAt, wordOf}
 use Rattle.lists.proofs.Tests.{T-is, is-T, and-no, and-l, and-r, or-cases, or-left, or-right, and-i, eq→eqb}
 use Rattle.lists.proofs.Words.{none-in, put-same, put-other, put-fits}
 use Rattle.net.specs.declared.Net.{Net}
-use Rattle.reach.specs.Counters.{even}
+use Rattle.counters.specs.Counters.{even}
 use Rattle.net.specs.Network.{Ends}
 use Rattle.reach.specs.Reach.{Joined, worksIn}
 use Rattle.net.specs.Values.{networkOf, linkCount}

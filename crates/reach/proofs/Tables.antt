@@ -12,7 +12,7 @@ use Rattle.lists.specs.Words.{bitAt, inWord, wordOf}
 use Rattle.lists.proofs.Words.{in-wordOf}
 use Rattle.lists.proofs.Fill.{map-below-same, getD-any}
 use Rattle.net.specs.declared.Net.{Net}
-use Rattle.reach.specs.Counters.{even}
+use Rattle.counters.specs.Counters.{even}
 use Rattle.net.specs.Network.{Ends}
 use Rattle.reach.specs.Reach.{counterIn, has, near, purge, linkValue}
 use Rattle.net.specs.Values.{networkOf, linkCount}

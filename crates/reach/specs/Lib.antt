@@ -1,4 +1,3 @@
-pub mod Counters
 pub mod Reach
 pub mod Values
 pub mod Steps

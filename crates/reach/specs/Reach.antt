@@ -7,7 +7,7 @@ use lib.Dec.{eqb, T}
 use lib.ListN.{length, getD}
 use Rattle.lists.specs.Lists.{if_then_else_, below, any, sumOf, firstOf}
 use Rattle.lists.specs.Words.{bit}
-use Rattle.reach.specs.Counters.{even}
+use Rattle.counters.specs.Counters.{even}
 use Rattle.net.specs.Network.{Network, ends, linkNumbers, ties}
 
 -- a link's counter in a table; a link that is not in it counts as one never heard of

@@ -6,7 +6,7 @@ use mathlib.Core.Bool.{Bool, not, _&&_, _||_}
 use lib.Dec.{eqb, ltb}
 use Rattle.lists.specs.Lists.{if_then_else_}
 use Rattle.lists.specs.Words.{bitAt, inWord}
-use Rattle.reach.specs.Counters.{even}
+use Rattle.counters.specs.Counters.{even}
 
 -- an even link between two of the n stations, of which the word has one and lacks the other
 abbrev pub crosses : ℕ → ℕ → ℕ → ℕ → ℕ → Bool

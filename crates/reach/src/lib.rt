@@ -1,72 +1,20 @@
-// Counters, and who reaches whom: the lowest room of the house. Every public function answers every input;
+// Who reaches whom, by a station's own counters. Every public function answers every input;
 // what a bad network or a station that is not there gives is said in specs/Values.antt.
 ghost use mathlib.Core.Path.{_≡_};
 ghost use Prim.Native.Nat.{_+_, _<_, _^_, min, max};
 ghost use mathlib.Core.Bool.{_||_};
 ghost use Rattle.lists.specs.Words.{bitAt, inWord, wordOf};
-ghost use Rattle.reach.specs.Counters.{even, timedOut, healing, healedNumbers, newer};
 ghost use Rattle.reach.specs.Reach.{linkValue};
 ghost use Rattle.reach.specs.Values.{reachOf, reachedOf, onesOf, lowestMissing, purgedOf};
 ghost use Rattle.reach.specs.Steps.{crosses, Apart, purgedTo};
+use counters::Counters;
 use net::Net;
-
-// A station's table: the counter of link k at place k.
-pub type Counters = [u16; 64];
 
 // A reach: bit t of the word for station t, how many bits are set, and the lowest station not reached or 255.
 pub struct Reached {
     pub word: u32,
     pub ones: u8,
     pub lowest: u8,
-}
-
-// A reply's new counter, or that it would be 65,536.
-pub enum Healed {
-    To(u16),
-    TooHigh,
-}
-
-// ---- counters
-
-// Working, or unresponsive.
-pub fn is_even(counter: u16) -> bool
-    ensures { λ r. ⌜ r ≡ even counter ⌝ }
-{
-    counter % 2 == 0
-}
-
-// The counter after a timeout: raised if the link worked till now.
-pub fn timed_out(own: u16) -> u16
-    ensures { λ r. ⌜ r ≡ timedOut own ⌝ }
-{
-    if is_even(own) { own + 1 } else { own }
-}
-
-// The counter after a reply: even again, and never below the larger of the two.
-pub fn heal(own: u16, carried: u16) -> Healed
-    ensures { λ r. ⌜ healedNumbers r ≡ healing own carried ⌝ }
-{
-    let larger = larger_of(own, carried);
-    if larger % 2 == 0 {
-        return Healed::To(larger);
-    }
-    if larger == 65535 {
-        return Healed::TooHigh;
-    }
-    Healed::To(larger + 1)
-}
-
-// Whether a notice is taken: an equal one must not be, or it would circle for ever.
-pub fn is_newer(own: u16, carried: u16) -> bool
-    ensures { λ r. ⌜ r ≡ newer own carried ⌝ }
-{
-    own < carried
-}
-
-fn larger_of(a: u16, b: u16) -> u16
-    ensures { λ r. ⌜ r ≡ max a b ⌝ }
-{
-    if a < b { b } else { a }
 }
 
 // ---- reach
@@ -90,7 +38,7 @@ fn with_bit(w: u32, t: u8) -> u32
 fn joins(n: u8, a: u8, b: u8, c: u16, w: u32) -> bool
     ensures { λ r. ⌜ r ≡ crosses n a b c w ⌝ }
 {
-    if !is_even(c) {
+    if !counters::is_even(c) {
         return false;
     }
     if n <= a {
@@ -214,7 +162,7 @@ pub fn link_shown(low: u8, high: u8, counter: u16, word: u32) -> u8
     ensures { λ r. ⌜ r ≡ linkValue (inWord word low || inWord word high) counter ⌝ }
 {
     if has_end(low, high, word) {
-        if is_even(counter) { 1 } else { 2 }
+        if counters::is_even(counter) { 1 } else { 2 }
     } else {
         0
     }

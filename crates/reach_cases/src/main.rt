@@ -3,8 +3,8 @@
 ghost use Prim.Native.Nat.{_≤_, _+_};
 ghost use mathlib.Core.Path.{_≡_};
 ghost use lib.ListN.{length};
+use counters::Counters;
 use net::Net;
-use reach::Counters;
 
 // A case is 259 bytes: stations, links, 64 lower ends, 64 higher ends, 64 counters (high byte first), the asking station.
 const SIZE: usize = 259;

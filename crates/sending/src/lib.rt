@@ -9,8 +9,8 @@ ghost use Rattle.lists.specs.Words.{inWord};
 ghost use Rattle.net.specs.Values.{linkCount};
 ghost use Rattle.marks.specs.Marks.{wordBy, upTo};
 ghost use Rattle.sending.specs.Sent.{silent, oneNotice, openAt};
+use counters::Counters;
 use net::Net;
-use reach::Counters;
 
 // What a station sends: a request on each link of the first word; a notice of each subject, with the counter told, on
 // each way; and last a reply on one link.

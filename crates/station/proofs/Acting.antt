@@ -16,11 +16,11 @@ use Rattle.net.specs.declared.Net.{Net}
 use Rattle.net.specs.Network.{Network, isEnd, linkNumbers}
 use Rattle.net.specs.Values.{networkOf, linkCount}
 use Rattle.net.proofs.ValueLaws.{links-of}
-use Rattle.reach.specs.Counters.{even, timedOut}
+use Rattle.counters.specs.Counters.{even, timedOut}
 use Rattle.reach.specs.Reach.{purge}
 use Rattle.reach.specs.Values.{tableOf, purgedOf}
 use Rattle.reach.proofs.Tables.{counter-of}
-use Rattle.reach.proofs.CounterLaws.{even-is, timed-even}
+use Rattle.counters.proofs.CounterLaws.{even-is, timed-even}
 use Rattle.marks.specs.declared.Marks.{Marks}
 use Rattle.marks.specs.declared.Words.{Words}
 use Rattle.marks.specs.Marks.{wordBy, marksAt, wordsWith, upTo}

@@ -16,7 +16,7 @@ use Rattle.net.specs.declared.Body.the-variants.{Request, Reply, Notice}
 use Rattle.net.specs.declared.Letter.{Letter}
 use Rattle.net.specs.Network.{Network, isEnd, linkNumbers}
 use Rattle.net.specs.Letters.{isCounter, bodyHolds, letterHolds}
-use Rattle.reach.specs.Counters.{even, odd, healed}
+use Rattle.counters.specs.Counters.{even, odd, healed}
 use Rattle.marks.specs.declared.Marks.{Marks}
 use Rattle.station.specs.declared.Condition.the-variants.{Down, Waiting, Live}
 use Rattle.station.specs.Holding.{Holding, noMarks, counter, mark, isLive, setToken, setAsked, setQuiet, marked, counted, implies, together, slotHolds, holdingHolds}

@@ -17,7 +17,7 @@ use Rattle.net.specs.declared.Body.{Body}
 use Rattle.net.specs.declared.Body.the-variants.{Notice}
 use Rattle.net.specs.declared.Letter.{Letter}
 use Rattle.net.specs.Network.{Network, ends, isEnd, linkNumbers}
-use Rattle.reach.specs.Counters.{even, odd, healed}
+use Rattle.counters.specs.Counters.{even, odd, healed}
 use Rattle.reach.specs.Reach.{counterIn, worksIn, has, reach, near, purge}
 use Rattle.reach.proofs.ReachLaws.{reach-self, complete}
 use Rattle.station.specs.Holding.{Holding, counter, mark, holdingHolds}

@@ -7,7 +7,7 @@ use lib.Dec.{T, T-not, eqb, leb, ltb, leb→le, le→leb, eqb→eq, nltb→le}
 use Rattle.lists.specs.Lists.{if_then_else_}
 use Rattle.lists.proofs.Tests.{and-l, and-r, and-i, or-left, if-elim}
 use Rattle.net.specs.Letters.{isCounter}
-use Rattle.reach.specs.Counters.{even, healed}
+use Rattle.counters.specs.Counters.{even, healed}
 use Rattle.marks.specs.declared.Marks.{Marks}
 use Rattle.station.specs.declared.Condition.{Condition}
 use Rattle.station.specs.declared.Condition.the-variants.{Down, Waiting, Live}

@@ -10,7 +10,7 @@ use Rattle.net.specs.declared.Body.{Body}
 use Rattle.net.specs.declared.Body.the-variants.{Request, Reply, Notice}
 use Rattle.net.specs.declared.Letter.{Letter}
 use Rattle.net.specs.Network.{Network, isEnd, own, linkNumbers}
-use Rattle.reach.specs.Counters.{even, odd, healed, newer}
+use Rattle.counters.specs.Counters.{even, odd, healed, newer}
 use Rattle.reach.specs.Reach.{purge}
 use Rattle.station.specs.declared.Condition.{Condition}
 use Rattle.station.specs.declared.Condition.the-variants.{Down, Waiting, Live}

@@ -11,10 +11,10 @@ ghost use Rattle.station.specs.Holding.{isLive, isDown, isWaiting};
 ghost use Rattle.station.specs.Acts.{intervalTests, started, stopped, recovered, spoken, kindOf, allowedBy};
 ghost use Rattle.station.specs.Steps.{marksThere, recoveredWords};
 ghost use Rattle.station.specs.Values.{holdingOf, laid, unmarked, blank, Acts};
+use counters::Counters;
 use marks::Marks;
 use marks::Words;
 use net::Net;
-use reach::Counters;
 use sending::Sending;
 
 // The first condition is what an unused place holds.

@@ -123,7 +123,7 @@ pub fn end_timeout(net: Net, me: u8, k: u8, st: Station) -> Acted
     let condition = st.condition;
     let c = counters[i];
     let m = test_ended(marks::marks_at(st.marks, k));
-    if !reach::is_even(c) {
+    if !counters::is_even(c) {
         let words = marks::with_marks(st.marks, k, m);
         return Acted {
             station: Station {
@@ -134,7 +134,7 @@ pub fn end_timeout(net: Net, me: u8, k: u8, st: Station) -> Acted
             send: sending::silence(counters),
         };
     }
-    counters[i] = reach::timed_out(c);
+    counters[i] = counters::timed_out(c);
     let silenced = Marks {
         token: m.token,
         turn: m.turn,

@@ -3,7 +3,7 @@ use mathlib.Core.Bool.{not}
 use mathlib.Core.Path.{sym, ap, _∙_}
 use lib.Dec.{ltb}
 use lib.ListN.{getD}
-use Rattle.reach.specs.Counters.{odd}
+use Rattle.counters.specs.Counters.{odd}
 use Rattle.reach.proofs.Tables.{if-yes, if-no}
 use Rattle.sending.proofs.Ways.{ways-but-is}
 use borrow.Author.Needs.{needs}

@@ -1,10 +1,10 @@
 use mathlib.Core.Path.{sym, ap, _∙_}
 use Prim.Native.Nat.{ℕ, _+_, _%_}
 use native.Mathlib.Omega.{arith}
-use Rattle.reach.proofs.CounterLaws.{healed-even, healed-odd, healing-fits, healing-over}
+use Rattle.counters.proofs.CounterLaws.{healed-even, healed-odd, healing-fits, healing-over}
 use borrow.Author.Needs.{needs}
-use Rattle.reach.proofs.heal.Statement.{statement}
-use Rattle.reach.proofs.heal.Tie as tie
+use Rattle.counters.proofs.heal.Statement.{statement}
+use Rattle.counters.proofs.heal.Tie as tie
 
 larger-of-requires : tie.Need-larger-of-requires
 larger-of-requires c κs = search needs

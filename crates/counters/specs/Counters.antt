@@ -4,8 +4,8 @@ use mathlib.Core.Bool.{Bool, not}
 use mathlib.Core.List.{List, [], _∷_}
 use lib.Dec.{eqb, ltb}
 use Rattle.lists.specs.Lists.{if_then_else_}
-use Rattle.reach.specs.declared.Healed.{Healed}
-use Rattle.reach.specs.declared.Healed.the-variants.{To, TooHigh}
+use Rattle.counters.specs.declared.Healed.{Healed}
+use Rattle.counters.specs.declared.Healed.the-variants.{To, TooHigh}
 
 abbrev pub even : ℕ → Bool
 even c = eqb (c % 2) 0

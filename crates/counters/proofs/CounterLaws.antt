@@ -4,7 +4,7 @@ use mathlib.Core.Bool.{true, false}
 use mathlib.Core.Path.{_≡_}
 use mathlib.Core.List.{[], _∷_}
 use borrow.Author.Tests.{eq-eqb, ne-eqb, eqb-true, eqb-false, le-ltb, lt-ltb}
-use Rattle.reach.specs.Counters.{even, healed, healing, timedOut}
+use Rattle.counters.specs.Counters.{even, healed, healing, timedOut}
 
 pub even-is : (c : ℕ) → even c ≡ true → c % 2 ≡ 0
 even-is c e = eqb-true (c % 2) 0 e

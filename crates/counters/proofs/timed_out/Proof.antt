@@ -1,9 +1,9 @@
 use mathlib.Core.Path.{sym, _∙_}
 use native.Mathlib.Omega.{arith}
-use Rattle.reach.proofs.CounterLaws.{even-is, odd-is, timed-even, timed-odd}
+use Rattle.counters.proofs.CounterLaws.{even-is, odd-is, timed-even, timed-odd}
 use borrow.Author.Needs.{needs}
-use Rattle.reach.proofs.timed_out.Statement.{statement}
-use Rattle.reach.proofs.timed_out.Tie as tie
+use Rattle.counters.proofs.timed_out.Statement.{statement}
+use Rattle.counters.proofs.timed_out.Tie as tie
 
 is-even-requires : tie.Need-is-even-requires
 is-even-requires c κs = search needs

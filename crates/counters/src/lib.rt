@@ -1,0 +1,54 @@
+// A link's counter, and the rules for it that stand alone. Every public function answers every number.
+ghost use mathlib.Core.Path.{_≡_};
+ghost use Prim.Native.Nat.{max};
+ghost use Rattle.counters.specs.Counters.{even, timedOut, healing, healedNumbers, newer};
+
+// A station's table: the counter of link k at place k.
+pub type Counters = [u16; 64];
+
+// A reply's new counter, or that it would be 65,536.
+pub enum Healed {
+    To(u16),
+    TooHigh,
+}
+
+// Working, or unresponsive.
+pub fn is_even(counter: u16) -> bool
+    ensures { λ r. ⌜ r ≡ even counter ⌝ }
+{
+    counter % 2 == 0
+}
+
+// The counter after a timeout: raised if the link worked till now.
+pub fn timed_out(own: u16) -> u16
+    ensures { λ r. ⌜ r ≡ timedOut own ⌝ }
+{
+    if is_even(own) { own + 1 } else { own }
+}
+
+// The counter after a reply: even again, and never below the larger of the two.
+pub fn heal(own: u16, carried: u16) -> Healed
+    ensures { λ r. ⌜ healedNumbers r ≡ healing own carried ⌝ }
+{
+    let larger = larger_of(own, carried);
+    if larger % 2 == 0 {
+        return Healed::To(larger);
+    }
+    if larger == 65535 {
+        return Healed::TooHigh;
+    }
+    Healed::To(larger + 1)
+}
+
+// Whether a notice is taken: an equal one must not be, or it would circle for ever.
+pub fn is_newer(own: u16, carried: u16) -> bool
+    ensures { λ r. ⌜ r ≡ newer own carried ⌝ }
+{
+    own < carried
+}
+
+fn larger_of(a: u16, b: u16) -> u16
+    ensures { λ r. ⌜ r ≡ max a b ⌝ }
+{
+    if a < b { b } else { a }
+}
