@@ -9,9 +9,9 @@ use lib.Dec.{T}
 use lib.ListN.{length}
 use Rattle.net.specs.Network.{Network}
 use Rattle.station.specs.Holding.{counter}
-use Rattle.network.specs.World.{World, Event, step, holdingAt, wellFormed, fresh, settled}
-use Rattle.network.specs.History.{ifTaken, next, run, total, everSettled, everSent, everDelivered, everLost}
-use Rattle.network.proofs.Ledger.{letters-conserved}
+use Rattle.world.specs.World.{World, Event, step, holdingAt, wellFormed, fresh, settled}
+use Rattle.world.specs.History.{ifTaken, next, run, total, everSettled, everSent, everDelivered, everLost}
+use Rattle.world.proofs.Ledger.{letters-conserved}
 use Rattle.laws.specs.Flood.{onlyNotices, highest, bound}
 use Rattle.laws.proofs.Demand3.{flood-of-notices-dies-out}
 

@@ -21,8 +21,8 @@ use Rattle.station.specs.declared.Condition.the-variants.{Live}
 use Rattle.station.specs.Holding.{Holding, noMarks, setToken, setTesting, holdingHolds}
 use Rattle.station.specs.Acts.{letter, openLinks, openBut, known, knownBut, started, stopped, recovered, interval, timeout, onRequest, onReply, overflows, onNotice, received}
 use Rattle.station.proofs.Cases.{bodyNumbers, letterNumbers}
-use Rattle.network.specs.World.{World, Event, holdingAt, heard, exists, allowed, letterOver, over, change, fits, refusal, step, wellFormed, fresh, settled, askRefusal, reportAt, reachAt}
-use Rattle.network.specs.History.{ifTaken, next, run, total, everSettled}
+use Rattle.world.specs.World.{World, Event, holdingAt, heard, exists, allowed, letterOver, over, change, fits, refusal, step, wellFormed, fresh, settled, askRefusal, reportAt, reachAt}
+use Rattle.world.specs.History.{ifTaken, next, run, total, everSettled}
 use Rattle.laws.specs.Flood.{onlyNotices, highest, distance, share, bound}
 
 line : Network

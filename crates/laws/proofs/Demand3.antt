@@ -17,10 +17,10 @@ use Rattle.net.specs.declared.Body.the-variants.{Request, Reply, Notice}
 use Rattle.net.specs.declared.Letter.{Letter}
 use Rattle.net.specs.Network.{Network}
 use Rattle.station.specs.Holding.{counter, isLive}
-use Rattle.network.specs.World.{World, Event, Sort, act, delivery, loss, sortOf, holdingAt, letterAt, after, refusal, Outcome, accepted, step, wellFormed, isNotice, noticesOf, settledAs, settled}
-use Rattle.network.specs.History.{ifTaken, orElse, next, run, total, everSettled}
-use Rattle.network.proofs.Steps.{step-accepts}
-use Rattle.network.proofs.Keeps.{Formed, formed}
+use Rattle.world.specs.World.{World, Event, Sort, act, delivery, loss, sortOf, holdingAt, letterAt, after, refusal, Outcome, accepted, step, wellFormed, isNotice, noticesOf, settledAs, settled}
+use Rattle.world.specs.History.{ifTaken, orElse, next, run, total, everSettled}
+use Rattle.world.proofs.Steps.{step-accepts}
+use Rattle.world.proofs.Keeps.{Formed, formed}
 use Rattle.laws.specs.Flood.{takesNotice, onlyNotices, carried, highest, neighbours, distance, share, bound}
 use Rattle.laws.proofs.Settling.{noticeOf, notice, floodOf, weightIn, siteOf, Fits, settles}
 use Rattle.ranks.specs.Flood as R

@@ -8,12 +8,12 @@ use lib.Dec.{T}
 use lib.ListN.{length, getD}
 use Rattle.net.specs.Network.{Network, sheetHolds}
 use Rattle.reach.specs.Reach.{worksIn, Reaches}
-use Rattle.network.specs.World.{World, Event, holdingAt, refusal, refused, accepted, step, wellFormed, fresh, reportAt}
-use Rattle.network.specs.History.{next, run, everSent, everDelivered, everLost}
-use Rattle.network.proofs.Steps.{Why, refusal-why, refused-stays}
-use Rattle.network.proofs.Keeps.{step-keeps, run-well}
-use Rattle.network.proofs.Reports.{shown-working}
-use Rattle.network.proofs.Ledger.{letters-conserved}
+use Rattle.world.specs.World.{World, Event, holdingAt, refusal, refused, accepted, step, wellFormed, fresh, reportAt}
+use Rattle.world.specs.History.{next, run, everSent, everDelivered, everLost}
+use Rattle.world.proofs.Steps.{Why, refusal-why, refused-stays}
+use Rattle.world.proofs.Keeps.{step-keeps, run-well}
+use Rattle.world.proofs.Reports.{shown-working}
+use Rattle.world.proofs.Ledger.{letters-conserved}
 use Rattle.laws.specs.Flood.{onlyNotices}
 use Rattle.laws.proofs.Demand3.{DiesOut, flood-of-notices-dies-out}
 

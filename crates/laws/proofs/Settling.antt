@@ -24,9 +24,9 @@ use Rattle.station.specs.Acts.{Done, unchanged, hears, takes, onNotice, receive
 use Rattle.station.proofs.Rises.{Took, notice-takes, notice-drops, received-gone, received-notice}
 use Rattle.station.proofs.Counts.{is-notice, Spreads, notice-spreads}
 use Rattle.station.proofs.Counts as Counts
-use Rattle.network.specs.World.{World, Event, Sort, act, delivery, loss, sortOf, nobody, noLetter, holdingAt, letterAt, receiver, existsAs, exists, put, changeAs, change, changed, isNotice, accepted, step}
-use Rattle.network.proofs.Steps.{taken}
-use Rattle.network.proofs.Keeps.{Formed, Posted, at-posted, step-formed}
+use Rattle.world.specs.World.{World, Event, Sort, act, delivery, loss, sortOf, nobody, noLetter, holdingAt, letterAt, receiver, existsAs, exists, put, changeAs, change, changed, isNotice, accepted, step}
+use Rattle.world.proofs.Steps.{taken}
+use Rattle.world.proofs.Keeps.{Formed, Posted, at-posted, step-formed}
 use Rattle.laws.specs.Flood.{takesNotice, neighbours}
 use Rattle.ranks.specs.Flood as R
 use Rattle.ranks.specs.Flood.{Flood, Site, _∈_, Gone, Settles}

@@ -6,8 +6,8 @@ use native.Mathlib.Omega.{arith}
 use Rattle.tally.specs.declared.Tally.{Tally}
 use Rattle.tally.specs.Sums.{largest, counted, tallied}
 use Rattle.tally.proofs.Sums.{counted-fits, tallied-twice}
-use Rattle.network.specs.World.{World, Event, Outcome, refused, accepted, step, settled, raised, dropped}
-use Rattle.network.specs.History.{ifTaken, next, total, everSettled, everRaised, everDropped}
+use Rattle.world.specs.World.{World, Event, Outcome, refused, accepted, step, settled, raised, dropped}
+use Rattle.world.specs.History.{ifTaken, next, total, everSettled, everRaised, everDropped}
 use Rattle.laws.specs.Tallied.{tallyBy, tallyAfter}
 
 -- three counts of 64 bits

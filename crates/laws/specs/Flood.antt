@@ -11,8 +11,8 @@ use Rattle.net.specs.declared.Body.the-variants.{Request, Reply, Notice}
 use Rattle.net.specs.declared.Letter.{Letter}
 use Rattle.net.specs.Network.{Network, linkNumbers, other, own}
 use Rattle.station.specs.Holding.{Holding, counter, isLive}
-use Rattle.network.specs.World.{World, Event, Sort, act, delivery, loss, sortOf, holdingAt, letterAt, isNotice, noticesOf, refusal}
-use Rattle.network.specs.History.{next}
+use Rattle.world.specs.World.{World, Event, Sort, act, delivery, loss, sortOf, holdingAt, letterAt, isNotice, noticesOf, refusal}
+use Rattle.world.specs.History.{next}
 
 -- ---- a run made only of accepted deliveries and losses of notices, with no other event in it
 abbrev pub takesNotice : Sort → Letter → Bool
@@ -34,7 +34,7 @@ unfoldable pub highest : World → ℕ → ℕ
 highest w k = max (largestOf (λ s. counter (holdingAt w s) k) (below (w .net .stations))) (largestOf (λ x. carried k (x .body)) (w .letters))
 
 -- ---- the bound
--- the other ends of a station's own links: no two of them are the same station (network's `neighbours-differ`)
+-- the other ends of a station's own links: no two of them are the same station (world's `neighbours-differ`)
 abbrev pub neighbours : Network → ℕ → List ℕ
 neighbours net s = map (λ k. other net k s) (own net s)
 

@@ -3,8 +3,8 @@ use Prim.Native.Nat.{ℕ}
 use mathlib.Core.List.{List, [], _∷_}
 use Rattle.tally.specs.declared.Tally.{Tally}
 use Rattle.tally.specs.Sums.{tallied}
-use Rattle.network.specs.World.{World, Event, Outcome, refused, accepted, step, settled, raised, dropped}
-use Rattle.network.specs.History.{next}
+use Rattle.world.specs.World.{World, Event, Outcome, refused, accepted, step, settled, raised, dropped}
+use Rattle.world.specs.History.{next}
 
 abbrev pub tallyBy : Outcome → Tally → ℕ → ℕ → ℕ → Tally
 tallyBy (refused n) t s r d = t

@@ -1,2 +1,2 @@
-// The three demands as theorems over the network's definitions; no function.
-// specs/ has the definitions that they need beyond the network's, proofs/ the theorems: docs/PROMISES.md.
+// The three demands as theorems over the definitions of `world`; no function.
+// specs/ has the definitions that they need beyond those, proofs/ the theorems: docs/PROMISES.md.

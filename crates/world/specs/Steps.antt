@@ -11,7 +11,7 @@ use Rattle.net.specs.Network.{Network}
 use Rattle.counters.specs.Counters.{even, healed}
 use Rattle.station.specs.Holding.{Holding, counter, mark}
 use Rattle.station.specs.Acts.{takes, Kind, start, stop, recovery, intervalEnd, timeoutEnd, quietEnd, other}
-use Rattle.network.specs.World.{World, Sort, act, delivery, loss, holdingAt, letterAt, receiver, heard}
+use Rattle.world.specs.World.{World, Sort, act, delivery, loss, holdingAt, letterAt, receiver, heard}
 
 -- ---- counters raised, by what the event does: an accepted one raises one at the most
 -- a timeout at an even counter

@@ -11,7 +11,7 @@ use lib.ListN.{length}
 use Rattle.lists.specs.Lists.{if_then_else_}
 use Rattle.lists.proofs.Tests.{and-l, and-r, or-cases}
 use Rattle.net.specs.Network.{Ends, Network, ends, isEnd, other, precedes, endsHold, sheetHolds}
-use Rattle.network.proofs.Ends.{link-holds, ends-rise}
+use Rattle.world.proofs.Ends.{link-holds, ends-rise}
 
 -- ends that come first, by first then second end
 abbrev Before : Ends → Ends → Type 0

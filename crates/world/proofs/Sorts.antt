@@ -7,7 +7,7 @@ use borrow.Author.Tests.{eq-eqb, ne-eqb}
 use lib.Dec.{eqb, ltb}
 use lib.ListN.{length}
 use Rattle.station.specs.Acts.{other, kindOf}
-use Rattle.network.specs.World.{World, Event, Sort, act, delivery, loss, sortOf, isStation, hasLink, existsAs, exists}
+use Rattle.world.specs.World.{World, Event, Sort, act, delivery, loss, sortOf, isStation, hasLink, existsAs, exists}
 
 -- ---- the sort of a kind
 pub sort-act : (n : ℕ) → n ≤ 6 → sortOf n ≡ act (kindOf n)

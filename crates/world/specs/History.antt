@@ -3,7 +3,7 @@
 use Prim.Native.Nat.{ℕ, _+_}
 use mathlib.Core.List.{List, [], _∷_}
 use lib.ListN.{length}
-use Rattle.network.specs.World.{World, Event, Sort, act, delivery, loss, sortOf, change, Outcome, refused, accepted, step, settled, raised, dropped}
+use Rattle.world.specs.World.{World, Event, Sort, act, delivery, loss, sortOf, change, Outcome, refused, accepted, step, settled, raised, dropped}
 
 -- the world after an outcome, and what counts of an event by its outcome
 abbrev pub orElse : World → Outcome → World

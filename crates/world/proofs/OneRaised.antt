@@ -24,10 +24,10 @@ use Rattle.reach.specs.Reach.{counterIn}
 use Rattle.station.specs.Holding.{Holding, counter, mark, holdingHolds}
 use Rattle.station.specs.Acts.{Done, unchanged, started, stopped, recovered, interval, timeout, spoken, onRequest, onReply, onNotice, takes, hears, bodyOver, onBody, received, Kind, start, stop, recovery, intervalEnd, timeoutEnd, quietEnd, other}
 use Rattle.station.proofs.Rises.{lowered-le, started-table, recovered-table, interval-table, spoken-table, request-table, stopped-lowers, counter-positive, Sets, timeout-even, timeout-odd, reply-sets, reply-idle, notice-takes, notice-drops, received-gone, received-heard}
-use Rattle.network.specs.World.{World, Event, Sort, act, delivery, loss, sortOf, nobody, holdingAt, letterAt, receiver, heard, isStation, existsAs, exists, letterOver, overSort, over, done, changeAs, change, accepted, step, higher, raised}
-use Rattle.network.specs.Steps.{raisedAct, raisedBody, raisedAs}
-use Rattle.network.proofs.Steps.{taken}
-use Rattle.network.proofs.Keeps.{Formed, at-posted}
+use Rattle.world.specs.World.{World, Event, Sort, act, delivery, loss, sortOf, nobody, holdingAt, letterAt, receiver, heard, isStation, existsAs, exists, letterOver, overSort, over, done, changeAs, change, accepted, step, higher, raised}
+use Rattle.world.specs.Steps.{raisedAct, raisedBody, raisedAs}
+use Rattle.world.proofs.Steps.{taken}
+use Rattle.world.proofs.Keeps.{Formed, at-posted}
 
 -- ---- at one station
 module _ (net : Network) (g h : Holding) where

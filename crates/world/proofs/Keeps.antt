@@ -19,10 +19,10 @@ use Rattle.net.specs.Letters.{letterHolds, bodyHolds}
 use Rattle.station.specs.Holding.{Holding, holdingHolds}
 use Rattle.station.specs.Acts.{Done, stopped, Kind, start, stop, recovery, intervalEnd, timeoutEnd, quietEnd, other, allowedAs}
 use Rattle.station.proofs.Keeps.{Kept, stopped-keeps, started-keeps, recovered-keeps, interval-keeps, timeout-keeps, spoken-keeps, received-keeps}
-use Rattle.network.specs.World.{World, Event, Sort, act, delivery, loss, sortOf, nobody, noLetter, holdingAt, letterAt, receiver, isStation, hasLink, existsAs, exists, allowedSort, allowed, Change, put, changeAs, change, Outcome, refused, accepted, step, wellFormed, fresh}
-use Rattle.network.specs.History.{orElse, next, run}
-use Rattle.network.proofs.Ends.{other-real, other-end}
-use Rattle.network.proofs.Steps.{taken}
+use Rattle.world.specs.World.{World, Event, Sort, act, delivery, loss, sortOf, nobody, noLetter, holdingAt, letterAt, receiver, isStation, hasLink, existsAs, exists, allowedSort, allowed, Change, put, changeAs, change, Outcome, refused, accepted, step, wellFormed, fresh}
+use Rattle.world.specs.History.{orElse, next, run}
+use Rattle.world.proofs.Ends.{other-real, other-end}
+use Rattle.world.proofs.Steps.{taken}
 
 -- ---- a well-formed world as facts
 pub record Formed (w : World) : Type 0 where

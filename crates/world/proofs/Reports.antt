@@ -19,7 +19,7 @@ use Rattle.net.specs.Network.{ends, linkNumbers}
 use Rattle.counters.specs.Counters.{even, odd}
 use Rattle.reach.specs.Reach.{counterIn, worksIn, Reaches, has, reach, near, linkValue, report, lowestOf}
 use Rattle.reach.proofs.ReachLaws.{sound, complete, reach-length}
-use Rattle.network.specs.World.{World, holdingAt, reportAt, reachAt}
+use Rattle.world.specs.World.{World, holdingAt, reportAt, reachAt}
 
 bit-one : (b : Bool) → bit b ≡ 1 → T b
 bit-one true e = tt

@@ -11,9 +11,9 @@ use Rattle.lists.specs.Words.{bit}
 use Rattle.lists.proofs.Counts.{sum-append}
 use Rattle.lists.proofs.Without.{length-without, sum-without}
 use Rattle.net.specs.Network.{Network}
-use Rattle.network.specs.World.{World, Event, Sort, act, delivery, loss, sortOf, noLetter, letterAt, existsAs, exists, changeAs, change, Outcome, refused, accepted, step, isNotice, noticesOf, settledAs, settled, fresh}
-use Rattle.network.specs.History.{ifTaken, next, run, total, sent, deliveredAs, lostAs, everSent, everDelivered, everLost, everSettled}
-use Rattle.network.proofs.Steps.{taken}
+use Rattle.world.specs.World.{World, Event, Sort, act, delivery, loss, sortOf, noLetter, letterAt, existsAs, exists, changeAs, change, Outcome, refused, accepted, step, isNotice, noticesOf, settledAs, settled, fresh}
+use Rattle.world.specs.History.{ifTaken, next, run, total, sent, deliveredAs, lostAs, everSent, everDelivered, everLost, everSettled}
+use Rattle.world.proofs.Steps.{taken}
 
 -- ---- one event
 left-as : (s : Sort) (w : World) (a b : ℕ) → T (existsAs s w a b) → length (changeAs s w a b .left) + deliveredAs s + lostAs s ≡ length (w .letters)

@@ -14,8 +14,8 @@ use Rattle.lists.specs.Places.{without}
 use Rattle.lists.proofs.Tests.{T-is, T-not-is, if-elim}
 use Rattle.station.specs.Holding.{Holding, isLive}
 use Rattle.station.proofs.Rises.{received-gone}
-use Rattle.network.specs.World.{World, Event, Sort, delivery, loss, sortOf, nobody, holdingAt, letterAt, receiver, heard, put, exists, allowed, over, changeAs, change, after, fits, refusal, refused, accepted, numberOf, step, isStation, askRefusal}
-use Rattle.network.specs.History.{orElse, next}
+use Rattle.world.specs.World.{World, Event, Sort, delivery, loss, sortOf, nobody, holdingAt, letterAt, receiver, heard, put, exists, allowed, over, changeAs, change, after, fits, refusal, refused, accepted, numberOf, step, isStation, askRefusal}
+use Rattle.world.specs.History.{orElse, next}
 
 not-not : (b : Bool) → T (not (not b)) → T b
 not-not true t = tt
