@@ -5,7 +5,7 @@ use mathlib.Core.Path.{_≡_, refl, sym, ap, ap₂, _∙_}
 use lib.Dec.{eqb, leb, ltb}
 use lib.ListN.{getD}
 use borrow.Author.Tests.{lt-ltb, le-ltb, le-leb}
-use Rattle.lists.proofs.Tests.{and-yes}
+use Rattle.lists.proofs.Tests.{and-yes, and-no}
 use Rattle.net.specs.declared.Body.{Body}
 use Rattle.net.specs.declared.Body.the-variants.{Request, Reply, Notice}
 use Rattle.net.specs.declared.Letter.{Letter}
@@ -15,7 +15,7 @@ use Rattle.net.specs.Letters.{isCounter, bodyHolds, letterHolds}
 use Rattle.net.specs.Values.{networkOf, linkCount}
 use Rattle.net.proofs.ValueLaws.{links-of}
 use Rattle.marks.proofs.WordLaws.{own-read}
-use Rattle.formed.specs.Steps.{bodyTest}
+use Rattle.formed.specs.Formed.{bodyTest, letterTest}
 
 -- a number of 16 bits is a counter if it is no 0
 pub counter-is : (c : ℕ) → c ≤ 65535 → leb 1 c ≡ isCounter c
@@ -33,16 +33,26 @@ module _ (net : Net) where
     parts =
         ap₂ (λ (n : ℕ) (b : Bool). (ltb (x .link) n && isEnd (networkOf net) (x .link) (x .sender)) && b) (links-of net) (sym (body-is (x .body)))
 
-    pub letter-past : linkCount net ≤ x .link → false ≡ letterHolds (networkOf net) x
-    letter-past h = sym (parts ∙ ap (λ (b : Bool). (b && isEnd (networkOf net) (x .link) (x .sender)) && bodyTest (linkCount net) (x .body)) (le-ltb (x .link) (linkCount net) h))
+    -- with the ends of its link
+    pub letter-is : x .link < linkCount net → letterTest (linkCount net) (getD (net .low) (x .link) 0) (getD (net .high) (x .link) 0) x ≡ letterHolds (networkOf net) x
+    letter-is h =
+        ap (λ (b : Bool). (ltb (x .link) (linkCount net) && b) && bodyTest (linkCount net) (x .body)) (own-read net (x .sender) (x .link) _ h refl) ∙ sym parts
 
-    module _ (h : x .link < linkCount net) (r : Bool) (e : r ≡ (eqb (getD (net .low) (x .link) 0) (x .sender) || eqb (getD (net .high) (x .link) 0) (x .sender))) where
-      there : (b : Bool) → r ≡ b → letterHolds (networkOf net) x ≡ (b && bodyTest (linkCount net) (x .body))
-      there b d =
-          parts ∙ ap₂ (λ (a b : Bool). (a && b) && bodyTest (linkCount net) (x .body)) (lt-ltb (x .link) (linkCount net) h) (sym (own-read net (x .sender) (x .link) r h e) ∙ d)
+    -- a link that is not there: whatever the ends
+    pub letter-past : (low high : ℕ) → linkCount net ≤ x .link → letterTest (linkCount net) low high x ≡ letterHolds (networkOf net) x
+    letter-past low high h =
+        ap (λ (b : Bool). (b && (eqb low (x .sender) || eqb high (x .sender))) && bodyTest (linkCount net) (x .body)) (le-ltb (x .link) (linkCount net) h)
+        ∙ sym (parts ∙ ap (λ (b : Bool). (b && isEnd (networkOf net) (x .link) (x .sender)) && bodyTest (linkCount net) (x .body)) (le-ltb (x .link) (linkCount net) h))
 
-      pub letter-foreign : r ≡ false → false ≡ letterHolds (networkOf net) x
-      letter-foreign d = sym (there false d)
+-- ---- the code's order
+module _ (links low high : ℕ) (x : Letter) where
+  pub test-past : links ≤ x .link → false ≡ letterTest links low high x
+  test-past h = simp (le-ltb (x .link) links h)
 
-      pub letter-says : (q : Bool) (links : ℕ) → r ≡ true → links ≡ linkCount net → q ≡ bodyTest links (x .body) → q ≡ letterHolds (networkOf net) x
-      letter-says q links d l p = p ∙ ap (λ (n : ℕ). bodyTest n (x .body)) l ∙ sym (there true d)
+  pub test-foreign : (r : Bool) → r ≡ (eqb low (x .sender) || eqb high (x .sender)) → r ≡ false → false ≡ letterTest links low high x
+  test-foreign r e d =
+      sym (ap (λ (b : Bool). (ltb (x .link) links && b) && bodyTest links (x .body)) (sym e ∙ d) ∙ ap (λ (b : Bool). b && bodyTest links (x .body)) (and-no (ltb (x .link) links)))
+
+  pub test-says : (r q : Bool) → x .link < links → r ≡ (eqb low (x .sender) || eqb high (x .sender)) → r ≡ true → q ≡ bodyTest links (x .body) → q ≡ letterTest links low high x
+  test-says r q h e d p =
+      p ∙ sym (ap₂ (λ (a b : Bool). (a && b) && bodyTest links (x .body)) (lt-ltb (x .link) links h) (sym e ∙ d))

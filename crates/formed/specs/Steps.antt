@@ -1,22 +1,14 @@
 -- What the private steps of the code answer. Assumes nothing.
 use Prim.Native.Nat.{ℕ}
 use mathlib.Core.Bool.{Bool, true, _&&_, _||_}
-use lib.Dec.{eqb, ltb}
+use lib.Dec.{eqb}
 use Rattle.lists.specs.Lists.{if_then_else_, every, below}
-use Rattle.net.specs.declared.Body.{Body}
-use Rattle.net.specs.declared.Body.the-variants.{Request, Reply, Notice}
 use Rattle.net.specs.Letters.{isCounter}
 use Rattle.net.specs.Values.{isZero}
 use Rattle.marks.specs.declared.Marks.{Marks}
 use Rattle.station.specs.declared.Condition.{Condition}
 use Rattle.station.specs.declared.Condition.the-variants.{Down, Waiting, Live}
 use Rattle.station.specs.Holding.{implies, together, isOff, isTokenAlone}
-
--- what a letter says, in a network of so many links
-abbrev pub bodyTest : ℕ → Body → Bool
-bodyTest links Request = true
-bodyTest links (Reply c) = isCounter c
-bodyTest links (Notice subject c) = ltb subject links && isCounter c
 
 -- the test passes at each of the 64 places
 unfoldable pub everyPlace : (ℕ → Bool) → Bool

@@ -3,13 +3,12 @@ ghost use mathlib.Core.Path.{_≡_};
 ghost use mathlib.Core.Bool.{not, _&&_, _||_};
 ghost use lib.Dec.{eqb};
 ghost use Rattle.lists.specs.Words.{inWord};
-ghost use Rattle.net.specs.Letters.{isCounter, letterHolds};
-ghost use Rattle.net.specs.Values.{networkOf};
+ghost use Rattle.net.specs.Letters.{isCounter};
 ghost use Rattle.marks.specs.Marks.{wordBy, marksAt};
 ghost use Rattle.station.specs.Holding.{implies};
 ghost use Rattle.station.specs.declared.Condition.the-variants.{Down, Waiting, Live};
-ghost use Rattle.formed.specs.Formed.{stationFormed};
-ghost use Rattle.formed.specs.Steps.{bodyTest, everyPlace, counterTest, besideToken, marksTest};
+ghost use Rattle.formed.specs.Formed.{bodyTest, letterTest, stationFormed};
+ghost use Rattle.formed.specs.Steps.{everyPlace, counterTest, besideToken, marksTest};
 use marks::Words;
 use net::Body;
 use net::Letter;
@@ -45,20 +44,18 @@ fn body_formed(links: u8, body: Body) -> bool
     }
 }
 
-// Whether the letter may travel in the network: its links exist, its sender is an end of its link, its counter is no 0.
-pub fn letter_formed(net: Net, letter: Letter) -> bool
-    ensures { λ r. ⌜ r ≡ letterHolds (networkOf net) letter ⌝ }
+// Whether the letter may travel on a link with these ends, in a network of so many links: its links exist, its sender is
+// an end, its counter is no 0. It takes the ends and not the network, which would be copied for each letter of a state.
+pub fn letter_formed(links: u8, low: u8, high: u8, letter: Letter) -> bool
+    ensures { λ r. ⌜ r ≡ letterTest links low high letter ⌝ }
 {
-    let links = marks::at_most_64(net.links);
-    let link = letter.link;
-    if links as u16 <= link {
-        return false;
-    }
-    let i = link as usize;
-    if !ends_at(net.low[i], net.high[i], letter.sender) {
-        return false;
-    }
     let body = letter.body;
+    if links as u16 <= letter.link {
+        return false;
+    }
+    if !ends_at(low, high, letter.sender) {
+        return false;
+    }
     body_formed(links, body)
 }
 

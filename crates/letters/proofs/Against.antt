@@ -25,7 +25,7 @@ use Rattle.letters.specs.declared.Wrote.{Wrote}
 use Rattle.letters.specs.declared.Wrote.the-variants as wrote
 use Rattle.letters.specs.Letters.{refused, letter, Form, says, formOf, senderOf, sideOf, valuesHold, judged, letterFrom, readLetter, bodyBytes, writeLetter}
 use Rattle.letters.specs.Values.{reading, writing, wroteNumbers}
-use Rattle.letters.proofs.Good.{few-places}
+use Rattle.net.proofs.Good.{few-places}
 use Rattle.letters.proofs.Forms.{IsForm, is-form}
 use Rattle.letters.specs.Steps.{formIn, bodyTest, valuesTest, senderIn, endIn, sideIn}
 

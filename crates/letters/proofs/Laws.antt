@@ -23,7 +23,7 @@ use Rattle.net.specs.Values.{networkOf, netHolds}
 use Rattle.net.specs.Letters.{isCounter, bodyHolds, letterHolds}
 use Rattle.letters.specs.Letters.{refused, letter, Form, unknown, says, formOf, senderOf, sideOf, valuesHold, judged, letterFrom, readLetter, bodyBytes, writeLetter}
 use Rattle.letters.specs.Values.{reading}
-use Rattle.letters.proofs.Good.{sheet-good}
+use Rattle.net.proofs.Good.{sheet-good}
 use Rattle.letters.proofs.Forms.{tagOf, payload, bytes-are, is-form}
 
 -- ---- side and sender

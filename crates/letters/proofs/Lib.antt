@@ -1,6 +1,5 @@
 pub mod Steps
 pub mod Forms
-pub mod Good
 pub mod Against
 pub mod Laws
 pub mod Refusals

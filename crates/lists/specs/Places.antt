@@ -1,7 +1,8 @@
--- A list without one of its places, the lists that its elements give joined to one, and the largest number that they give.
--- Their laws: proofs/Places.antt, proofs/Sums.antt. Assumes nothing.
-use Prim.Native.Nat.{ℕ, zero, suc, max}
+-- A list without one of its places, a list in its room, the lists that its elements give joined to one, and the largest number that they give.
+-- Their laws: proofs/Places.antt, proofs/Sums.antt, proofs/Rooms.antt. Assumes nothing.
+use Prim.Native.Nat.{ℕ, zero, suc, _-_, max}
 use mathlib.Core.List.{List, [], _∷_, _++_}
+use lib.ListN.{length, take, drop, replicate}
 
 module _ {ℓ} {A : Type ℓ} where
   -- the list without its place n: the later ones close up; all of it where there is no such place
@@ -20,3 +21,12 @@ module _ {ℓ κ} {A : Type ℓ} {B : Type κ} where
   abbrev pub collect : (A → List B) → List A → List B
   collect g [] = []
   collect g (x ∷ xs) = g x ++ collect g xs
+
+module _ {A : Type 0} where
+  -- a list in room for so many, the unused places z
+  unfoldable pub roomed : ℕ → A → List A → List A
+  roomed size z xs = xs ++ replicate (size - length xs) z
+
+  -- a list whose place a closes up, as far as place i: the places before i are those without a, the others still the old ones
+  abbrev pub closing : ℕ → List A → ℕ → List A
+  closing a l i = take i (without a l) ++ drop i l

@@ -1,7 +1,7 @@
 use mathlib.Core.Bool.{Bool, _&&_}
 use mathlib.Core.Path.{sym, ap, _∙_}
 use lib.Dec.{ltb}
-use Rattle.formed.specs.Steps.{bodyTest}
+use Rattle.formed.specs.Formed.{bodyTest}
 use borrow.Author.Needs.{needs}
 use Rattle.formed.proofs.body_formed.Statement.{statement}
 use Rattle.formed.proofs.body_formed.Tie as tie

@@ -20,6 +20,9 @@ module _ (net : Net) (t : T (netHolds net)) where
 
   pub few-places : net .links ≤ 64
   few-places = leb→le (net .links) 64 (and-r (leb (net .stations) 32) _ (and-l (leb (net .stations) 32 && leb (net .links) 64) _ parts))
+
+  pub few-stations : net .stations ≤ 32
+  few-stations = leb→le (net .stations) 32 (and-l (leb (net .stations) 32) _ (and-l (leb (net .stations) 32 && leb (net .links) 64) _ parts))
 
   pub sheet-good : T (sheetHolds (networkOf net))
   sheet-good = and-r (leb (net .stations) 32 && leb (net .links) 64) _ parts

@@ -1,0 +1,80 @@
+use Prim.Native.Nat.{_≤_, _-_}
+use mathlib.Core.Bool.{Bool, true, _&&_}
+use mathlib.Core.Path.{_≡_, refl, sym, ap, ap₂, _∙_}
+use native.Mathlib.Omega.{arith}
+use lib.ListN.{length, getD}
+use borrow.Author.Tests.{not-true, not-false, eq-eqb}
+use Rattle.lists.specs.Lists.{every, below}
+use Rattle.lists.proofs.Numbers.{all-more}
+use Rattle.state.proofs.Places.{zeroAt, blank-marked, blank-counted, blank-all}
+use borrow.Author.Needs.{needs}
+use Rattle.state.proofs.is_blank.Statement.{statement}
+use Rattle.state.proofs.is_blank.Tie as tie
+
+abbrev Inv-loop : tie.InvT-loop
+Inv-loop st k₀ k = (k ≤ 64) × (every (zeroAt (st .counters)) (below k) ≡ true)
+
+abbrev μ-loop : tie.MeasureT-loop
+μ-loop st k₀ k = 64 - k
+
+size : (c : tie.Start Inv-loop μ-loop) → length (c .args .t1 .counters) ≡ 64
+size c = search needs
+
+is-down-requires : tie.Need-is-down-requires Inv-loop μ-loop
+is-down-requires c κs = search needs
+
+no-words-requires : tie.Need-no-words-requires Inv-loop μ-loop
+no-words-requires c κs = search needs
+
+both-requires : tie.Need-both-requires Inv-loop μ-loop
+both-requires c κs = search needs
+
+returns : tie.Need-returns Inv-loop μ-loop
+returns c = blank-marked (c .before .before .before .before .before .args .t1) _ (c .before .both .ensures ∙ ap₂ (λ (a b : Bool). a && b) (c .before .before .before .before .is-down .ensures) (c .before .before .no-words .ensures)) (not-true _ (c .if1 .taken))
+
+loop-holds : tie.Need-loop-holds Inv-loop μ-loop
+loop-holds c = (omega arith, refl)
+
+cast-i : tie.Need-cast-i Inv-loop μ-loop
+cast-i c = omega arith
+
+mul-if2 : tie.Need-mul-if2 Inv-loop μ-loop
+mul-if2 c = omega arith
+
+element-copy-out-if2 : tie.Need-element-copy-out-if2 Inv-loop μ-loop
+element-copy-out-if2 c = omega arith
+
+returns-2 : tie.Need-returns-2 Inv-loop μ-loop
+returns-2 c = blank-counted (c .before .before .before .before .before .before .before .before .before .args .t1) (c .before .before .before .loop .k) (omega arith) (size (c .before .before .before .before .before .before .before .before .before)) (c .if2 .taken)
+
+add-k : tie.Need-add-k Inv-loop μ-loop
+add-k c = omega arith
+
+loop-less : tie.Need-loop-less Inv-loop μ-loop
+loop-less c = omega arith
+
+loop-again : tie.Need-loop-again Inv-loop μ-loop
+loop-again c = (omega arith, all-more (zeroAt (c .before .before .before .before .before .before .before .before .before .args .t1 .counters)) (c .before .before .before .loop .k) (c .before .before .before .loop .inv .1) (eq-eqb _ 0 (c .if2 .left)))
+
+returns-3 : tie.Need-returns-3 Inv-loop μ-loop
+returns-3 c = blank-all (c .before .before .before .before .before .before .before .args .t1) _ (c .before .loop .k) (c .before .before .before .both .ensures ∙ ap₂ (λ (a b : Bool). a && b) (c .before .before .before .before .before .before .is-down .ensures) (c .before .before .before .before .no-words .ensures)) (not-false _ (c .before .before .if1 .left)) (omega arith) (size (c .before .before .before .before .before .before .before)) (c .before .loop .inv .1)
+
+pub is-blank-spec : {M : Type 1} → statement M
+is-blank-spec =
+    tie.close
+    (tie.spec
+    Inv-loop
+    μ-loop
+    is-down-requires
+    no-words-requires
+    both-requires
+    returns
+    loop-holds
+    cast-i
+    mul-if2
+    element-copy-out-if2
+    returns-2
+    add-k
+    loop-less
+    loop-again
+    returns-3)

@@ -1,0 +1,217 @@
+use Rattle.state.proofs.well_formed.Statement.{statement}
+use Rattle.state.proofs.well_formed.Tie as tie
+
+use Prim.Native.Nat.{ℕ, _≤_, _<_, _-_, _+_}
+use mathlib.Core.Bool.{Bool, true, false, _&&_}
+use mathlib.Core.Path.{_≡_, refl, sym, ap, ap₂, _∙_}
+use native.Mathlib.Omega.{arith}
+use borrow.Author.Needs.{needs}
+use mathlib.Core.List.{map}
+use lib.ListN.{length, length-map}
+use Rattle.station.proofs.Station as StationType
+use Rattle.net.proofs.Letter as LetterType
+use Rattle.lists.specs.Lists.{every, below}
+use Rattle.net.specs.Letters.{letterHolds}
+use Rattle.net.specs.Values.{networkOf}
+use borrow.Author.Tests.{not-true, not-false}
+use Rattle.lists.proofs.Tests.{is-T}
+use Rattle.state.proofs.Places.{restAt}
+use Rattle.state.proofs.Tested.{upto-more, upto-none, frame-net, frame-few, letter-seen, StationSeen, LetterSeen, refused, frame-bad, station-bad, letter-bad, rest-none, rest-more, all-seen, seen-sized}
+use Rattle.state.specs.State.{stationIn, letterIn, stationPlace, letterPlace, isNoLetter, Fits}
+
+abbrev Inv-loop : tie.InvT-loop
+Inv-loop s net flying i₀ i = (i ≤ 32) × ((t : ℕ) → t < i → (stationPlace net t (stationIn s t) ≡ true) × Fits (stationIn s t))
+
+abbrev μ-loop : tie.MeasureT-loop
+μ-loop s net flying i₀ i = 32 - i
+
+abbrev Inv-loop2 : tie.InvT-loop2
+Inv-loop2 s net flying j₀ j = (j ≤ flying) × ((t : ℕ) → t < j → letterHolds (networkOf net) (letterIn s t) ≡ true)
+
+abbrev μ-loop2 : tie.MeasureT-loop2
+μ-loop2 s net flying j₀ j = flying - j
+
+abbrev Inv-loop3 : tie.InvT-loop3
+Inv-loop3 s flying clean₀ j₀ clean j = (flying ≤ j) × (j ≤ 4096) × (clean ≡ every (restAt s flying) (below j))
+
+abbrev μ-loop3 : tie.MeasureT-loop3
+μ-loop3 s flying clean₀ j₀ clean j = 4096 - j
+
+stations-long : (c : tie.Start Inv-loop μ-loop Inv-loop2 μ-loop2 Inv-loop3 μ-loop3) → length (c .args .t1 .stations) ≡ 32
+stations-long c = 
+    let e : length (map (StationType.the-field .into) (c .args .t1 .stations)) ≡ 32 = search needs in
+    sym (length-map (c .args .t1 .stations) (StationType.the-field .into)) ∙ e
+
+letters-long : (c : tie.Start Inv-loop μ-loop Inv-loop2 μ-loop2 Inv-loop3 μ-loop3) → length (c .args .t1 .letters) ≡ 4096
+letters-long c = 
+    let e : length (map (LetterType.the-field .into) (c .args .t1 .letters)) ≡ 4096 = search needs in
+    sym (length-map (c .args .t1 .letters) (LetterType.the-field .into)) ∙ e
+
+frame-holds-requires :
+    tie.Need-frame-holds-requires Inv-loop μ-loop Inv-loop2 μ-loop2 Inv-loop3 μ-loop3
+frame-holds-requires c κs = search needs
+
+returns : tie.Need-returns Inv-loop μ-loop Inv-loop2 μ-loop2 Inv-loop3 μ-loop3
+returns c = refused (c .before .before .before .args .t1) (frame-bad (c .before .before .before .args .t1) _ (c .before .frame-holds .ensures) (not-true _ (c .if1 .taken)))
+
+loop-holds : tie.Need-loop-holds Inv-loop μ-loop Inv-loop2 μ-loop2 Inv-loop3 μ-loop3
+loop-holds c = (omega arith, upto-none (StationSeen (c .before .before .before .args .t1)))
+
+cast-at : tie.Need-cast-at Inv-loop μ-loop Inv-loop2 μ-loop2 Inv-loop3 μ-loop3
+cast-at c = omega arith
+
+mul-st : tie.Need-mul-st Inv-loop μ-loop Inv-loop2 μ-loop2 Inv-loop3 μ-loop3
+mul-st c = omega arith
+
+element-copy-out-st :
+    tie.Need-element-copy-out-st Inv-loop μ-loop Inv-loop2 μ-loop2 Inv-loop3 μ-loop3
+element-copy-out-st c = omega arith
+
+station-place-requires :
+    tie.Need-station-place-requires Inv-loop μ-loop Inv-loop2 μ-loop2 Inv-loop3 μ-loop3
+station-place-requires c κs = search needs
+
+returns-2 : tie.Need-returns-2 Inv-loop μ-loop Inv-loop2 μ-loop2 Inv-loop3 μ-loop3
+returns-2 c =
+    let s = c .before .before .before .before .before .before .before .before .args .t1 in
+    refused s (station-bad s (c .before .before .before .before .loop .i) (omega arith) (sym (c .before .station-place .ensures .0) ∙ not-true _ (c .if2 .taken)))
+
+add-i : tie.Need-add-i Inv-loop μ-loop Inv-loop2 μ-loop2 Inv-loop3 μ-loop3
+add-i c = omega arith
+
+loop-less : tie.Need-loop-less Inv-loop μ-loop Inv-loop2 μ-loop2 Inv-loop3 μ-loop3
+loop-less c = omega arith
+
+loop-again : tie.Need-loop-again Inv-loop μ-loop Inv-loop2 μ-loop2 Inv-loop3 μ-loop3
+loop-again c =
+    let s = c .before .before .before .before .before .before .before .before .args .t1 in
+    (omega arith, upto-more (StationSeen s) (c .before .before .before .before .loop .i) (c .before .before .before .before .loop .inv .1) (sym (c .before .station-place .ensures .0) ∙ not-false _ (c .if2 .left), c .before .station-place .ensures .1))
+
+loop2-holds : tie.Need-loop2-holds Inv-loop μ-loop Inv-loop2 μ-loop2 Inv-loop3 μ-loop3
+loop2-holds c = (omega arith, upto-none (LetterSeen (c .before .before .before .before .before .args .t1)))
+
+cast-at-2 : tie.Need-cast-at-2 Inv-loop μ-loop Inv-loop2 μ-loop2 Inv-loop3 μ-loop3
+cast-at-2 c = omega arith
+
+mul-x : tie.Need-mul-x Inv-loop μ-loop Inv-loop2 μ-loop2 Inv-loop3 μ-loop3
+mul-x c = omega arith
+
+element-copy-out-x :
+    tie.Need-element-copy-out-x Inv-loop μ-loop Inv-loop2 μ-loop2 Inv-loop3 μ-loop3
+element-copy-out-x c = let s = c .before .before .before .before .before .before .before .args .t1 in omega (arith, frame-few (s .net) (s .flying) (c .before .before .before .before .before .frame-holds .result) (c .before .before .before .before .before .frame-holds .ensures) (not-false _ (c .before .before .before .before .if1 .left)))
+
+in-room-requires : tie.Need-in-room-requires Inv-loop μ-loop Inv-loop2 μ-loop2 Inv-loop3 μ-loop3
+in-room-requires c κs = search needs
+
+element-copy-out-letter-formed :
+    tie.Need-element-copy-out-letter-formed Inv-loop μ-loop Inv-loop2 μ-loop2 Inv-loop3 μ-loop3
+element-copy-out-letter-formed c = omega (arith, c .in-room .ensures)
+
+element-copy-out-letter-formed-2 :
+    tie.Need-element-copy-out-letter-formed-2 Inv-loop μ-loop Inv-loop2 μ-loop2 Inv-loop3 μ-loop3
+element-copy-out-letter-formed-2 c = omega (arith, c .before .in-room .ensures)
+
+letter-formed-requires :
+    tie.Need-letter-formed-requires Inv-loop μ-loop Inv-loop2 μ-loop2 Inv-loop3 μ-loop3
+letter-formed-requires c κs = search needs
+
+returns-3 : tie.Need-returns-3 Inv-loop μ-loop Inv-loop2 μ-loop2 Inv-loop3 μ-loop3
+returns-3 c =
+    let s = c .before .before .before .before .before .before .before .before .before .before .before .before .before .args .t1 in
+    let fr = c .before .before .before .before .before .before .before .before .before .before .before .frame-holds .ensures in
+    refused s (letter-bad s (c .before .before .before .before .before .before .before .loop2 .j) (omega arith) (frame-few (s .net) (s .flying) _ fr (not-false _ (c .before .before .before .before .before .before .before .before .before .before .if1 .left))) (sym (letter-seen (s .net) (letterIn s (c .before .before .before .before .before .before .before .loop2 .j)) _ _ (frame-net (s .net) (s .flying) _ fr (not-false _ (c .before .before .before .before .before .before .before .before .before .before .if1 .left))) (c .before .before .before .before .in-room .ensures) (c .before .letter-formed .ensures)) ∙ not-true _ (c .if3 .taken)))
+
+add-j : tie.Need-add-j Inv-loop μ-loop Inv-loop2 μ-loop2 Inv-loop3 μ-loop3
+add-j c = omega arith
+
+loop2-less : tie.Need-loop2-less Inv-loop μ-loop Inv-loop2 μ-loop2 Inv-loop3 μ-loop3
+loop2-less c = omega arith
+
+loop2-again : tie.Need-loop2-again Inv-loop μ-loop Inv-loop2 μ-loop2 Inv-loop3 μ-loop3
+loop2-again c =
+    let s = c .before .before .before .before .before .before .before .before .before .before .before .before .before .args .t1 in
+    let fr = c .before .before .before .before .before .before .before .before .before .before .before .frame-holds .ensures in
+    (omega arith, upto-more (LetterSeen s) (c .before .before .before .before .before .before .before .loop2 .j) (c .before .before .before .before .before .before .before .loop2 .inv .1) (sym (letter-seen (s .net) (letterIn s (c .before .before .before .before .before .before .before .loop2 .j)) _ _ (frame-net (s .net) (s .flying) _ fr (not-false _ (c .before .before .before .before .before .before .before .before .before .before .if1 .left))) (c .before .before .before .before .in-room .ensures) (c .before .letter-formed .ensures)) ∙ not-false _ (c .if3 .left)))
+
+loop3-holds : tie.Need-loop3-holds Inv-loop μ-loop Inv-loop2 μ-loop2 Inv-loop3 μ-loop3
+loop3-holds c =
+    let s = c .before .before .before .before .before .before .before .args .t1 in
+    (omega arith, frame-few (s .net) (s .flying) _ (c .before .before .before .before .before .frame-holds .ensures) (not-false _ (c .before .before .before .before .if1 .left)), rest-none s)
+
+cast-at-3 : tie.Need-cast-at-3 Inv-loop μ-loop Inv-loop2 μ-loop2 Inv-loop3 μ-loop3
+cast-at-3 c = omega arith
+
+mul-x-2 : tie.Need-mul-x-2 Inv-loop μ-loop Inv-loop2 μ-loop2 Inv-loop3 μ-loop3
+mul-x-2 c = omega arith
+
+element-copy-out-x-2 :
+    tie.Need-element-copy-out-x-2 Inv-loop μ-loop Inv-loop2 μ-loop2 Inv-loop3 μ-loop3
+element-copy-out-x-2 c = omega arith
+
+still-zero-requires :
+    tie.Need-still-zero-requires Inv-loop μ-loop Inv-loop2 μ-loop2 Inv-loop3 μ-loop3
+still-zero-requires c κs = search needs
+
+add-j-2 : tie.Need-add-j-2 Inv-loop μ-loop Inv-loop2 μ-loop2 Inv-loop3 μ-loop3
+add-j-2 c = omega arith
+
+loop3-less : tie.Need-loop3-less Inv-loop μ-loop Inv-loop2 μ-loop2 Inv-loop3 μ-loop3
+loop3-less c = omega arith
+
+loop3-again : tie.Need-loop3-again Inv-loop μ-loop Inv-loop2 μ-loop2 Inv-loop3 μ-loop3
+loop3-again c =
+    let s = c .before .before .before .before .before .before .before .before .before .before .before .args .t1 in
+    (omega arith, omega arith, rest-more s _ _ (c .before .before .before .loop3 .j) (c .before .before .before .loop3 .inv .0) (c .before .before .before .loop3 .inv .2) (c .still-zero .ensures))
+
+returns-4 : tie.Need-returns-4 Inv-loop μ-loop Inv-loop2 μ-loop2 Inv-loop3 μ-loop3
+returns-4 c =
+    let s = c .before .before .before .before .before .before .before .before .before .args .t1 in
+    let n = is-T _ (sym (c .before .before .before .before .before .before .before .frame-holds .ensures) ∙ not-false _ (c .before .before .before .before .before .before .if1 .left)) in
+    let f : ((t : ℕ) → t < 32 → StationSeen s t) = λ t h. c .before .before .before .before .before .loop .inv .1 t (omega arith) in
+    let g : ((t : ℕ) → t < s .flying → LetterSeen s t) = λ t h. c .before .before .before .loop2 .inv .1 t (omega arith) in
+    let j : c .before .loop3 .j ≡ 4096 = omega arith in
+    let e = c .before .loop3 .inv .2 ∙ ap (λ (k : ℕ). every (restAt s (s .flying)) (below k)) j in
+    (all-seen s _ n f g e, seen-sized s _ n f g e (stations-long (c .before .before .before .before .before .before .before .before .before)) (letters-long (c .before .before .before .before .before .before .before .before .before)))
+
+pub well-formed-spec : {M : Type 1} → statement M
+well-formed-spec =
+    tie.close
+    (tie.spec
+    Inv-loop
+    μ-loop
+    Inv-loop2
+    μ-loop2
+    Inv-loop3
+    μ-loop3
+    frame-holds-requires
+    returns
+    loop-holds
+    cast-at
+    mul-st
+    element-copy-out-st
+    station-place-requires
+    returns-2
+    add-i
+    loop-less
+    loop-again
+    loop2-holds
+    cast-at-2
+    mul-x
+    element-copy-out-x
+    in-room-requires
+    element-copy-out-letter-formed
+    element-copy-out-letter-formed-2
+    letter-formed-requires
+    returns-3
+    add-j
+    loop2-less
+    loop2-again
+    loop3-holds
+    cast-at-3
+    mul-x-2
+    element-copy-out-x-2
+    still-zero-requires
+    add-j-2
+    loop3-less
+    loop3-again
+    returns-4)

@@ -1,0 +1,215 @@
+// The whole network as one value: what every station holds and the letters in flight. Its test (11), and the state right
+// after a sheet is read.
+ghost use mathlib.Core.Path.{_≡_};
+ghost use mathlib.Core.Bool.{true, _&&_};
+ghost use Prim.Native.Nat.{_<_, min};
+ghost use lib.Dec.{leb};
+ghost use lib.ListN.{length, replicate};
+ghost use Rattle.lists.specs.Lists.{every};
+ghost use Rattle.net.specs.Values.{isZero, netHolds};
+ghost use Rattle.station.specs.Holding.{isDown};
+ghost use Rattle.station.specs.Values.{blank};
+ghost use Rattle.world.specs.World.{noLetter};
+ghost use Rattle.state.specs.State.{isRequest, isBlank, isNoLetter, noWord, stationPlace, stateHolds, Fits, Sized, begunOf};
+use marks::Words;
+use net::Body;
+use net::Letter;
+use net::Net;
+use station::Condition;
+use station::Station;
+
+// Stations and letters stand at the places from 0 on; the first `flying` letters are in flight; unused places are zero.
+pub struct State {
+    pub net: Net,
+    pub flying: u16,
+    pub stations: [Station; 32],
+    pub letters: [Letter; 4096],
+}
+
+// A state just made, or the number that says no.
+pub struct Begun {
+    pub answer: u8,
+    pub state: State,
+}
+
+// ---- the test
+
+fn both(a: bool, b: bool) -> bool
+    ensures { λ r. ⌜ r ≡ (a && b) ⌝ }
+{
+    if a { b } else { false }
+}
+
+fn no_words(w: Words) -> bool
+    ensures { λ r. ⌜ r ≡ noWord w ⌝ }
+{
+    let early = both(both(w.token == 0, w.turn == 0), w.testing == 0);
+    both(both(early, w.asked == 0), w.quiet == 0)
+}
+
+fn is_down(c: Condition) -> bool
+    ensures { λ r. ⌜ r ≡ isDown c ⌝ }
+{
+    match c {
+        Condition::Down => true,
+        Condition::Waiting => false,
+        Condition::Live => false,
+    }
+}
+
+// Whether an unused place of the stations is zero.
+fn is_blank(st: Station) -> bool
+    ensures { λ r. ⌜ r ≡ isBlank st ⌝ }
+{
+    let condition = st.condition;
+    if !both(is_down(condition), no_words(st.marks)) {
+        return false;
+    }
+    for k in 0..64u8 {
+        let i = k as usize;
+        if st.counters[i] != 0 {
+            return false;
+        }
+    }
+    true
+}
+
+// Whether a place of the stations is right. What the type says of the station is told along: the network's step needs it of
+// every station of a state.
+fn station_place(net: Net, i: u8, st: Station) -> bool
+    ensures { λ r. ⌜ (r ≡ stationPlace net i st) × Fits st ⌝ }
+{
+    if i < net.stations {
+        return formed::station_formed(net, i, st);
+    }
+    is_blank(st)
+}
+
+fn is_request(b: Body) -> bool
+    ensures { λ r. ⌜ r ≡ isRequest b ⌝ }
+{
+    match b {
+        Body::Request => true,
+        Body::Reply(c) => false,
+        Body::Notice(j, c) => false,
+    }
+}
+
+// Whether the places seen so far and this one are zero.
+fn still_zero(clean: bool, x: Letter) -> bool
+    ensures { λ r. ⌜ r ≡ (clean && isNoLetter x) ⌝ }
+{
+    let body = x.body;
+    both(clean, both(both(x.link == 0, x.sender == 0), is_request(body)))
+}
+
+// A place of the links' room, whatever the number.
+fn in_room(link: u16) -> usize
+    ensures { λ r. ⌜ r ≡ min link 63 ⌝ }
+{
+    if link < 63 { link as usize } else { 63 }
+}
+
+// Whether the network is good and no more letters are in flight than there is room for.
+fn frame_holds(net: Net, flying: u16) -> bool
+    ensures { λ r. ⌜ r ≡ (netHolds net && leb flying 4096) ⌝ }
+{
+    both(net::keeps_sheet_rules(net), flying <= 4096)
+}
+
+// Whether the state is well formed. Where not, a call that is given it refuses with 11.
+pub fn well_formed(s: State) -> bool
+    ensures { λ r. ⌜ (r ≡ stateHolds s) × (r ≡ true → Sized s) ⌝ }
+{
+    let net = s.net;
+    let flying = s.flying;
+    if !frame_holds(net, flying) {
+        return false;
+    }
+    for i in 0..32u8 {
+        let at = i as usize;
+        let st = s.stations[at];
+        if !station_place(net, i, st) {
+            return false;
+        }
+    }
+    for j in 0..flying {
+        let at = j as usize;
+        let x = s.letters[at];
+        let k = in_room(x.link);
+        if !formed::letter_formed(net.links, net.low[k], net.high[k], x) {
+            return false;
+        }
+    }
+    let mut clean = true;
+    for j in flying..4096u16 {
+        let at = j as usize;
+        let x = s.letters[at];
+        clean = still_zero(clean, x);
+    }
+    clean
+}
+
+// ---- right after reading a sheet
+
+fn no_station() -> Station
+    ensures { λ r. ⌜ r ≡ blank ⌝ }
+{
+    Station {
+        condition: Condition::Down,
+        counters: [0u16; 64],
+        marks: Words {
+            token: 0,
+            turn: 0,
+            testing: 0,
+            asked: 0,
+            quiet: 0,
+        },
+    }
+}
+
+fn no_letter() -> Letter
+    ensures { λ r. ⌜ r ≡ noLetter ⌝ }
+{
+    Letter {
+        link: 0,
+        sender: 0,
+        body: Body::Request,
+    }
+}
+
+// The state with every station down and no letter in flight; 11 for a bad network, with a state that no call accepts.
+pub fn fresh(net: Net) -> Begun
+    ensures { λ r. ⌜ r ≡ begunOf net ⌝ }
+{
+    let nobody = no_station();
+    let mut stations = [nobody; 32];
+    let unused = no_letter();
+    let letters = [unused; 4096];
+    if !net::keeps_sheet_rules(net) {
+        return Begun {
+            answer: 11,
+            state: State {
+                net,
+                flying: 0,
+                stations,
+                letters,
+            },
+        };
+    }
+    let down = station::stop(net);
+    let n = net.stations;
+    for i in 0..n {
+        let at = i as usize;
+        stations[at] = down;
+    }
+    Begun {
+        answer: 0,
+        state: State {
+            net,
+            flying: 0,
+            stations,
+            letters,
+        },
+    }
+}
