@@ -1,3 +1,6 @@
 pub mod Places
 pub mod Tested
 pub mod Begin
+pub mod StationRoom
+pub mod Meaning
+pub mod LaidOut

@@ -102,7 +102,6 @@ pub record Sized (s : State) : Type 0 where
   pub letters : length (s .letters) ≡ 4096
   pub each : (i : ℕ) → i < 32 → Fits (stationIn s i)
 
-
 -- ---- right after reading a sheet; for a bad network 11, with room that is zero beside it: no well-formed state
 unfoldable pub unread : Net → State
 unread net = record { net = net; flying = 0; stations = replicate 32 blank; letters = replicate 4096 noLetter }

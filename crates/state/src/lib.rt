@@ -100,7 +100,10 @@ fn still_zero(clean: bool, x: Letter) -> bool
     ensures { λ r. ⌜ r ≡ (clean && isNoLetter x) ⌝ }
 {
     let body = x.body;
-    both(clean, both(both(x.link == 0, x.sender == 0), is_request(body)))
+    both(
+        clean,
+        both(both(x.link == 0, x.sender == 0), is_request(body)),
+    )
 }
 
 // A place of the links' room, whatever the number.

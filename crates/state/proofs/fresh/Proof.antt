@@ -56,9 +56,11 @@ loop-again : tie.Need-loop-again Inv-loop μ-loop
 loop-again c =
     let d : Station = c .before .before .stop .result in
     let old : List Station = replicate 32 (c .before .before .before .before .before .before .no-station .result) in
-    let few = good-stations (c .before .before .before .before .before .before .before .args .net) (c .before .before .before .before .keeps-sheet-rules .result) (c .before .before .before .before .keeps-sheet-rules .ensures) (not-false _ (c .before .before .before .if1 .left)) in
-    (omega arith, ap (λ (l : List Station). set l (c .before .loop .i) d) (c .before .loop .inv .1)
-    ∙ filled-more (λ (t : ℕ). d) old (c .before .loop .i) (omega (arith, few, length-replicate 32 (c .before .before .before .before .before .before .no-station .result))))
+    let few = good-stations (c .before .before .before .before .before .before .before .args .net) (c .before .before .before .before .keeps-sheet-rules .result) (c .before .before .before .before .keeps-sheet-rules .ensures) (not-false _ (c .before .before .before .if1 .left)) in (
+      omega arith,
+      ap (λ (l : List Station). set l (c .before .loop .i) d) (c .before .loop .inv .1)
+          ∙ filled-more (λ (t : ℕ). d) old (c .before .loop .i) (omega (arith, few, length-replicate 32 (c .before .before .before .before .before .before .no-station .result))),
+    )
 
 returns-2 : tie.Need-returns-2 Inv-loop μ-loop
 returns-2 c =

@@ -1,6 +1,5 @@
 use Rattle.state.proofs.well_formed.Statement.{statement}
 use Rattle.state.proofs.well_formed.Tie as tie
-
 use Prim.Native.Nat.{ℕ, _≤_, _<_, _-_, _+_}
 use mathlib.Core.Bool.{Bool, true, false, _&&_}
 use mathlib.Core.Path.{_≡_, refl, sym, ap, ap₂, _∙_}
@@ -38,12 +37,12 @@ abbrev μ-loop3 : tie.MeasureT-loop3
 μ-loop3 s flying clean₀ j₀ clean j = 4096 - j
 
 stations-long : (c : tie.Start Inv-loop μ-loop Inv-loop2 μ-loop2 Inv-loop3 μ-loop3) → length (c .args .t1 .stations) ≡ 32
-stations-long c = 
+stations-long c =
     let e : length (map (StationType.the-field .into) (c .args .t1 .stations)) ≡ 32 = search needs in
     sym (length-map (c .args .t1 .stations) (StationType.the-field .into)) ∙ e
 
 letters-long : (c : tie.Start Inv-loop μ-loop Inv-loop2 μ-loop2 Inv-loop3 μ-loop3) → length (c .args .t1 .letters) ≡ 4096
-letters-long c = 
+letters-long c =
     let e : length (map (LetterType.the-field .into) (c .args .t1 .letters)) ≡ 4096 = search needs in
     sym (length-map (c .args .t1 .letters) (LetterType.the-field .into)) ∙ e
 
