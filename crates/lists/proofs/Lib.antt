@@ -9,3 +9,4 @@ pub mod Kept
 pub mod First
 pub mod Without
 pub mod OneSum
+pub mod Heads

@@ -1,0 +1,2 @@
+pub mod LinkLaws
+pub mod PostLaws

@@ -59,6 +59,12 @@ fn less_lowest(w: u64) -> u64
 
 // ---- choices
 
+fn bit(on: bool) -> u16
+    ensures { λ r. ⌜ r ≡ (if on then 1 else 0) ⌝ }
+{
+    if on { 1 } else { 0 }
+}
+
 fn pick(on: bool, a: u64, b: u64) -> u64
     ensures { λ r. ⌜ r ≡ (if on then a else b) ⌝ }
 {
@@ -125,8 +131,7 @@ pub fn count(send: Sending) -> u16
     ensures { λ r. ⌜ ((s : ℕ) → r ≡ length (lettersOf s send)) ⌝ }
 {
     let notices = size(send.subjects) * size(send.ways);
-    let replies: u16 = if send.replies { 1 } else { 0 };
-    size(send.requests) + notices + replies
+    size(send.requests) + notices + bit(send.replies)
 }
 
 // The first letter left, from the station me; where none is left, any.
