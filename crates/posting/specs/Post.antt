@@ -6,6 +6,7 @@ use mathlib.Core.Path.{_≡_}
 use mathlib.Core.List.{List, [], _∷_, _++_}
 use lib.ListN.{getD}
 use Rattle.lists.specs.Lists.{if_then_else_}
+use Rattle.net.specs.declared.Body.{Body}
 use Rattle.net.specs.declared.Body.the-variants.{Request, Reply, Notice}
 use Rattle.net.specs.declared.Letter.{Letter}
 use Rattle.sending.specs.declared.Sending.{Sending}
@@ -49,11 +50,21 @@ tells p = not (someIn (p .requests)) && (someIn (p .subjects) && someIn (p .left
 abbrev pub tellsLast : Post → Bool
 tellsLast p = tells p && not (someIn (lessLowest (p .left)))
 
--- a request, a notice or the reply, by the two tests
+-- by the two tests: its link and what it says, a request, a notice or the reply
+abbrev pub linkBy : Bool → Bool → ℕ → ℕ → ℕ → ℕ
+linkBy true t request way reply = request
+linkBy false true request way reply = way
+linkBy false false request way reply = reply
+
+abbrev pub bodyBy : Bool → Bool → ℕ → ℕ → ℕ → Body
+bodyBy true t subject counter reply = Request
+bodyBy false true subject counter reply = Notice subject counter
+bodyBy false false subject counter reply = Reply reply
+
 abbrev pub firstBy : Bool → Bool → ℕ → Post → Letter
-firstBy true b s p = letter s (lowestIn (p .requests)) Request
-firstBy false true s p = letter s (lowestIn (p .left)) (Notice (lowestIn (p .subjects)) (getD (p .told) (lowestIn (p .subjects)) 0))
-firstBy false false s p = letter s (p .link) (Reply (p .reply))
+firstBy a t s p =
+    letter s (linkBy a t (lowestIn (p .requests)) (lowestIn (p .left)) (p .link))
+    (bodyBy a t (lowestIn (p .subjects)) (getD (p .told) (lowestIn (p .subjects)) 0) (p .reply))
 
 unfoldable pub firstLeft : ℕ → Post → Letter
 firstLeft s p = firstBy (asks p) (tells p) s p

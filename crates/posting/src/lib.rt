@@ -7,7 +7,7 @@ ghost use lib.ListN.{length};
 ghost use Rattle.lists.specs.Lists.{if_then_else_};
 ghost use Rattle.station.specs.Values.{membersOf, lettersOf};
 ghost use Rattle.posting.specs.Links.{someIn, lowestIn, lessLowest};
-ghost use Rattle.posting.specs.Post.{begunPost, firstLeft, restLeft};
+ghost use Rattle.posting.specs.Post.{begunPost, linkBy, bodyBy, firstLeft, restLeft};
 use counters::Counters;
 use net::Body;
 use net::Letter;
@@ -107,6 +107,29 @@ fn still_replies(asks: bool, tells: bool, replies: bool) -> bool
     false
 }
 
+// The link of the first letter left: of a request, of a notice or of the reply.
+fn link_by(asks: bool, tells: bool, request: u8, way: u8, reply: u8) -> u8
+    ensures { λ r. ⌜ r ≡ linkBy asks tells request way reply ⌝ }
+{
+    if asks {
+        return request;
+    }
+    if tells { way } else { reply }
+}
+
+// What it says.
+fn body_by(asks: bool, tells: bool, subject: u8, counter: u16, reply: u16) -> Body
+    ensures { λ r. ⌜ r ≡ bodyBy asks tells subject counter reply ⌝ }
+{
+    if asks {
+        return Body::Request;
+    }
+    if tells {
+        return Body::Notice(subject, counter);
+    }
+    Body::Reply(reply)
+}
+
 // ---- posting
 
 // The sending with nothing posted.
@@ -138,26 +161,22 @@ pub fn count(send: Sending) -> u16
 pub fn first(post: Post, me: u8) -> Letter
     ensures { λ r. ⌜ r ≡ firstLeft me post ⌝ }
 {
-    if some(post.requests) {
-        return Letter {
-            link: lowest(post.requests) as u16,
-            sender: me as u16,
-            body: Body::Request,
-        };
-    }
-    if tells_next(post.requests, post.subjects, post.left) {
-        let j = lowest(post.subjects);
-        let i = j as usize;
-        return Letter {
-            link: lowest(post.left) as u16,
-            sender: me as u16,
-            body: Body::Notice(j, post.told[i]),
-        };
-    }
+    let asks = some(post.requests);
+    let tells = tells_next(post.requests, post.subjects, post.left);
+    let subject = lowest(post.subjects);
+    let i = subject as usize;
+    let link = link_by(
+        asks,
+        tells,
+        lowest(post.requests),
+        lowest(post.left),
+        post.link,
+    );
+    let body = body_by(asks, tells, subject, post.told[i], post.reply);
     Letter {
-        link: post.link as u16,
+        link: link as u16,
         sender: me as u16,
-        body: Body::Reply(post.reply),
+        body,
     }
 }
 
