@@ -1,11 +1,10 @@
 -- Laws of a set of links that is gone through from its lowest link on: what its links are, and what a word's trailing zeros
 -- and ones say of them. Assumes nothing.
-use Prim.Native.Nat.{ℕ, zero, suc, _+_, _-_, _*_, _%_, _^_, _≤_, _<_}
+use Prim.Native.Nat.{ℕ, _+_, _-_, _*_, _%_, _^_, _≤_, _<_}
 use mathlib.Core.Bool.{Bool, true, false, not}
-use mathlib.Core.Path.{_≡_, refl, sym, ap, _∙_, subst, subst⁻¹}
+use mathlib.Core.Path.{_≡_, refl, sym, ap, _∙_, subst}
 use mathlib.Core.Logic.{⊎-elim}
 use mathlib.Core.List.{List, [], _∷_}
-use native.Mathlib.Decide.{decLt}
 use native.Mathlib.Nat.{zero-add}
 use native.Mathlib.Omega.{arith}
 use lib.Dec.{T, eqb}
@@ -13,9 +12,9 @@ use lib.ListN.{length}
 use lib.Count.{ones, trailingZeros}
 use lib.Pow.{ones-sub-lt}
 use borrow.Author.Tests.{eq-eqb, ne-eqb}
-use Rattle.lists.specs.Lists.{if_then_else_, keep, any, firstOf, below}
-use Rattle.lists.specs.Words.{bitAt, inWord}
-use Rattle.lists.proofs.Tests.{is-T, T-is}
+use Rattle.lists.specs.Lists.{if_then_else_, keep, firstOf, below}
+use Rattle.lists.specs.Words.{inWord}
+use Rattle.lists.proofs.Tests.{is-T}
 use Rattle.lists.proofs.Numbers.{length-from, any-in, first-is, first-none}
 use Rattle.lists.proofs.Words.{one-is-in, zero-is-out, not-at}
 use Rattle.lists.proofs.Counts.{ones-bits, Run, run}

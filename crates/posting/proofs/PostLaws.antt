@@ -1,7 +1,7 @@
 -- Laws of a sending that is being posted: at the beginning all its letters are left, and taking the first letter and what is
--- left after it takes them off one by one. A loop uses `step`. Assumes nothing.
-use Prim.Native.Nat.{ℕ, zero, suc, _+_, _*_, _≤_, _<_}
-use mathlib.Core.Bool.{Bool, true, false, not, _&&_, _||_}
+-- left after it takes them off one by one. A loop uses `start` and `step-seen`. Assumes nothing.
+use Prim.Native.Nat.{ℕ, suc, _+_, _<_}
+use mathlib.Core.Bool.{Bool, true, false, not, _&&_}
 use mathlib.Core.Path.{_≡_, refl, sym, ap, ap₂, _∙_, subst}
 use mathlib.Core.List.{List, [], _∷_, _++_}
 use native.Mathlib.Nat.{not-suc-le-zero}
@@ -10,14 +10,14 @@ use native.Mathlib.Omega.{arith}
 use lib.ListN.{length, getD, drop}
 use lib.Seq.{drop-cons}
 use Rattle.lists.specs.Lists.{if_then_else_}
-use Rattle.net.specs.declared.Body.the-variants.{Request, Reply, Notice}
+use Rattle.net.specs.declared.Body.the-variants.{Request, Reply}
 use Rattle.net.specs.declared.Letter.{Letter}
 use Rattle.sending.specs.declared.Sending.{Sending}
 use Rattle.station.specs.Acts.{letter, onEach, tell}
 use Rattle.station.specs.Values.{membersOf, lettersOf}
 use Rattle.posting.specs.declared.Post.{Post}
 use Rattle.posting.specs.Links.{someIn, lowestIn, lessLowest}
-use Rattle.posting.specs.Post.{telling, posted, Going, begunPost, asks, tells, tellsLast, firstBy, firstLeft, restBy, restLeft}
+use Rattle.posting.specs.Post.{telling, posted, Going, begunPost, asks, tells, firstBy, firstLeft, restBy, restLeft}
 use Rattle.posting.proofs.LinkLaws.{some-members, no-members, no-members-less}
 
 -- ---- notices
@@ -39,6 +39,10 @@ begun-posts s x =
 
 pub begun-going : (x : Sending) → Going (begunPost x)
 begun-going x e = e
+
+-- so a loop begins, with none appended
+pub start : (s : ℕ) (x : Sending) → (posted s (begunPost x) ≡ drop 0 (lettersOf s x)) × Going (begunPost x)
+start s x = (begun-posts s x, begun-going x)
 
 -- ---- what is left, by the lists that its words mean
 abbrev lettersBy : ℕ → Post → List ℕ → List ℕ → List ℕ → List ℕ → Bool → List Letter
@@ -119,9 +123,9 @@ module _ (s : ℕ) (p : Post) (g : Going p) where
 
 -- what is left after a letter goes on so
 going-by : (p : Post) (a t m : Bool) → someIn (lessLowest (p .left)) ≡ m → Going p → Going (restBy a t (t && not m) p)
-going-by p a true true e g = λ n. let z : _≡_ {A = ℕ} (length (membersOf (lessLowest (p .left)))) 0 = ap length n in absurd (omega (arith, ap length (some-members (lessLowest (p .left)) e)))
-going-by p a true false e g = λ n. n
-going-by p a false m e g = g
+going-by p a true true e g n = absurd (omega (arith, ap length n, ap length (some-members (lessLowest (p .left)) e)))
+going-by p a true false e g n = n
+going-by p a false m e g n = g n
 
 pub rest-going : (p : Post) → Going p → Going (restLeft p)
 unfolding restLeft
@@ -134,3 +138,10 @@ step s p L n d g e h =
     let q : posted s p ≡ getD L n d ∷ drop (suc n) L = e ∙ drop-cons L n d h in
     let w : firstLeft s p ∷ posted s (restLeft p) ≡ getD L n d ∷ drop (suc n) L = sym (next s p g (subst (λ (l : List Letter). 0 < length l) (sym q) (omega arith))) ∙ q in
     (cc, rw add-one (cc), rest-going p g)
+
+-- the same for what the code answered: the letter x, and q left after it
+pub step-seen : (s : ℕ) (p q : Post) (x : Letter) (L : List Letter) (n : ℕ) (d : Letter) → x ≡ firstLeft s p → q ≡ restLeft p → Going p → posted s p ≡ drop n L → n < length L
+    → (x ≡ getD L n d) × (posted s q ≡ drop (n + 1) L) × Going q
+step-seen s p q x L n d f r g e h =
+    let t = step s p L n d g e h in
+    (f ∙ t .0, ap (posted s) r ∙ t .1, subst Going (sym r) (t .2))

@@ -2,7 +2,7 @@
 // letters by one flat loop, and no list of them is built before. Every public function answers every input.
 ghost use mathlib.Core.Path.{_≡_};
 ghost use Prim.Native.Nat.{ℕ};
-ghost use mathlib.Core.Bool.{true, false, not, _&&_, _||_};
+ghost use mathlib.Core.Bool.{not, _&&_, _||_};
 ghost use lib.ListN.{length};
 ghost use Rattle.lists.specs.Lists.{if_then_else_};
 ghost use Rattle.station.specs.Values.{membersOf, lettersOf};
@@ -84,7 +84,7 @@ fn tells_next(requests: u64, subjects: u64, left: u64) -> bool
     false
 }
 
-// Whether it is the last of its subject, where less ways are left after it.
+// Whether it is the last of its subject: the word less of the ways left after it has none.
 fn tells_last(tells: bool, less: u64) -> bool
     ensures { λ r. ⌜ r ≡ (tells && not (someIn less)) ⌝ }
 {

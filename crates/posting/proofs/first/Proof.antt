@@ -1,4 +1,3 @@
-use mathlib.Core.Path.{subst⁻¹}
 use native.Mathlib.Omega.{arith}
 use Rattle.posting.proofs.LinkLaws.{lowest-lt}
 use Rattle.posting.proofs.Made.{first-made}
