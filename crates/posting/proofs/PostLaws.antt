@@ -38,11 +38,12 @@ begun-posts s x =
     (telling-all s (λ j. getD (x .told) j 0) (membersOf (x .subjects)) (membersOf (x .ways)))
 
 pub begun-going : (x : Sending) → Going (begunPost x)
+unfolding Going
 begun-going x e = e
 
--- so a loop begins, with none appended
-pub start : (s : ℕ) (x : Sending) → (posted s (begunPost x) ≡ drop 0 (lettersOf s x)) × Going (begunPost x)
-start s x = (begun-posts s x, begun-going x)
+-- so a loop begins, with p as the code answered it and none appended
+pub start : (s : ℕ) (x : Sending) (p : Post) → p ≡ begunPost x → (posted s p ≡ lettersOf s x) × Going p
+start s x p e = (ap (posted s) e ∙ begun-posts s x, subst Going (sym e) (begun-going x))
 
 -- ---- what is left, by the lists that its words mean
 abbrev lettersBy : ℕ → Post → List ℕ → List ℕ → List ℕ → List ℕ → Bool → List Letter
@@ -106,6 +107,7 @@ module _ (s : ℕ) (p : Post) (g : Going p) where
 
   taken : (a b l m : Bool) → someIn (p .requests) ≡ a → someIn (p .subjects) ≡ b → someIn (p .left) ≡ l → someIn (lessLowest (p .left)) ≡ m
       → Taken a (not a && (b && l)) ((not a && (b && l)) && not m)
+  unfolding Going
   taken true b l m ea eb el em = asked ea
   taken false true true true ea eb el em = told ea eb el
   taken false true true false ea eb el em = told-last ea eb el em
@@ -123,6 +125,7 @@ module _ (s : ℕ) (p : Post) (g : Going p) where
 
 -- what is left after a letter goes on so
 going-by : (p : Post) (a t m : Bool) → someIn (lessLowest (p .left)) ≡ m → Going p → Going (restBy a t (t && not m) p)
+unfolding Going
 going-by p a true true e g n = absurd (omega (arith, ap length n, ap length (some-members (lessLowest (p .left)) e)))
 going-by p a true false e g n = n
 going-by p a false m e g n = g n

@@ -29,7 +29,7 @@ posted s p =
     ++ (if p .replies then (letter s (p .link) (Reply (p .reply)) ∷ []) else []))
 
 -- where no way is left for the lowest subject, there was none: no subject is told halfway and then left
-abbrev pub Going : Post → Type 0
+unfoldable pub Going : Post → Type 0
 Going p = membersOf (p .left) ≡ [] → membersOf (p .ways) ≡ []
 
 -- ---- the beginning: every way is left for the lowest subject
