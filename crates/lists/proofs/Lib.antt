@@ -10,3 +10,4 @@ pub mod First
 pub mod Without
 pub mod OneSum
 pub mod Rooms
+pub mod Heads
