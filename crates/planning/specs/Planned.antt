@@ -11,9 +11,10 @@ use Rattle.net.specs.declared.Letter.{Letter}
 use Rattle.net.specs.declared.Net.{Net}
 use Rattle.net.specs.Values.{networkOf}
 use Rattle.sending.specs.Sent.{silent}
+use Rattle.station.specs.declared.Acted.{Acted}
 use Rattle.station.specs.declared.Station.{Station}
-use Rattle.station.specs.Acts.{Done, Kind, allowedAs}
-use Rattle.station.specs.Values.{holdingOf, laid, lettersOf}
+use Rattle.station.specs.Acts.{Done, started, stopped, spoken, Kind, allowedAs}
+use Rattle.station.specs.Values.{holdingOf, laid, lettersOf, unmarked, blank}
 use Rattle.hearing.specs.declared.Heard.{Heard}
 use Rattle.hearing.specs.declared.Heard.the-variants.{Gone, Nothing, TooHigh, Does}
 use Rattle.hearing.specs.declared.Effect.{Effect}
@@ -37,12 +38,29 @@ pub record Planned (net : Net) (s number : ℕ) (old room : Station) (d : Done) 
   pub raised : r .raised ≡ (if eqb number 0 then y else 0)
   pub dropped : r .dropped ≡ (if eqb number 0 then z else 0)
 
--- a plan that refuses, and one that only drops the letter
+-- a plan that refuses
 abbrev pub refusalOf : ℕ → Station → Plan
 refusalOf number st = record { answer = number; station = st; send = silent (st .counters); settled = 0; raised = 0; dropped = 0 }
 
+-- what was done with the tally's three numbers
+abbrev pub acceptedOf : Acted → ℕ → ℕ → ℕ → Plan
+acceptedOf q x y z = record { answer = 0; station = q .station; send = q .send; settled = x; raised = y; dropped = z }
+
+-- nothing sent
+abbrev pub silentOf : Station → Acted
+silentOf st = record { station = st; send = silent (st .counters) }
+
 abbrev pub lossOf : Body → Station → Plan
-lossOf b st = record { answer = 0; station = st; send = silent (st .counters); settled = bit (isNotice b); raised = 0; dropped = 1 }
+lossOf b st = acceptedOf (silentOf st) (bit (isNotice b)) 0 1
+
+-- the station after the acts that send nothing, by the kind's number
+abbrev pub turnedOf : Net → ℕ → ℕ → ℕ → Station → Station
+turnedOf net kind s b st =
+    let h = holdingOf net st in
+    if eqb kind 1 then laid net (unmarked st) (started (networkOf net) s h .holding)
+    else (if eqb kind 2 then laid net blank (stopped (networkOf net) 0 .holding)
+    else (if eqb kind 6 then laid net st (spoken (networkOf net) 0 b h .holding)
+    else st))
 
 -- the plan of an event of this sort, by its number
 abbrev pub PlansBy : ℕ → Net → Sort → ℕ → ℕ → Letter → Station → Plan → Type 0

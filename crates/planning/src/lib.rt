@@ -14,7 +14,7 @@ ghost use Rattle.station.specs.Acts.{kindOf};
 ghost use Rattle.station.specs.Values.{holdingOf, Acts};
 ghost use Rattle.world.specs.World.{sortOf, act, done, isNotice};
 ghost use Rattle.planning.specs.Plan.{concernedAs, linkThere, thereAs, roomAs};
-ghost use Rattle.planning.specs.Planned.{inRoom, Plans, ActPlans, LetterPlans, refusalOf, lossOf, numberSaid, raisedSaid, droppedSaid};
+ghost use Rattle.planning.specs.Planned.{inRoom, Plans, ActPlans, LetterPlans, refusalOf, silentOf, turnedOf, acceptedOf, lossOf, numberSaid, raisedEffect, raisedSaid, droppedSaid};
 use counters::Counters;
 use hearing::Effect;
 use hearing::Heard;
@@ -141,11 +141,11 @@ fn there(net: Net, flying: u16, kind: u32, a: u32, b: u32) -> bool
 fn refused(number: u8, st: Station) -> Plan
     ensures { λ r. ⌜ r ≡ refusalOf number st ⌝ }
 {
-    let counters = st.counters;
+    let told = st.counters;
     Plan {
         answer: number,
         station: st,
-        send: sending::silence(counters),
+        send: sending::silence(told),
         settled: 0,
         raised: 0,
         dropped: 0,
@@ -175,6 +175,33 @@ fn raised_by(kind: u8, c: u16) -> u64
     0
 }
 
+// The station, and nothing sent.
+fn silently(st: Station) -> Acted
+    ensures { λ r. ⌜ r ≡ silentOf st ⌝ }
+{
+    let told = st.counters;
+    Acted {
+        station: st,
+        send: sending::silence(told),
+    }
+}
+
+// The station me after the events that send nothing: start, stop, quiet ends.
+fn turned(net: Net, kind: u8, me: u8, b: u8, st: Station) -> Station
+    ensures { λ r. ⌜ r ≡ turnedOf net kind me b st ⌝ }
+{
+    if kind == 1 {
+        return station::start(net, me, st);
+    }
+    if kind == 2 {
+        return station::stop(net);
+    }
+    if kind == 6 {
+        return station::end_quiet(net, b, st);
+    }
+    st
+}
+
 // What events 1 to 6 do to the station me.
 fn acted(net: Net, kind: u8, me: u8, b: u8, st: Station) -> Acted
     ensures { λ r. ⌜ Acts net me (roomAs (act (kindOf kind)) st) (done (kindOf kind) (networkOf net) me b (holdingOf net st)) r ⌝ }
@@ -188,27 +215,23 @@ fn acted(net: Net, kind: u8, me: u8, b: u8, st: Station) -> Acted
     if kind == 5 {
         return testing::end_timeout(net, me, b, st);
     }
-    let counters = st.counters;
-    let send = sending::silence(counters);
-    if kind == 1 {
-        return Acted {
-            station: station::start(net, me, st),
-            send,
-        };
+    silently(turned(net, kind, me, b, st))
+}
+
+// What was done, with the tally's numbers.
+fn accepted(done: Acted, settled: u64, raised: u64, dropped: u64) -> Plan
+    ensures { λ r. ⌜ r ≡ acceptedOf done settled raised dropped ⌝ }
+{
+    let station = done.station;
+    let send = done.send;
+    Plan {
+        answer: 0,
+        station,
+        send,
+        settled,
+        raised,
+        dropped,
     }
-    if kind == 2 {
-        return Acted {
-            station: station::stop(net),
-            send,
-        };
-    }
-    if kind == 6 {
-        return Acted {
-            station: station::end_quiet(net, b, st),
-            send,
-        };
-    }
-    Acted { station: st, send }
 }
 
 // Events 1 to 6, once they are there: refused with 7, or done.
@@ -219,18 +242,9 @@ fn plan_act(net: Net, kind: u8, me: u8, b: u8, st: Station) -> Plan
     if !station::allows(net.links, kind, b, condition, st.marks) {
         return refused(7, st);
     }
-    let raised = raised_by(kind, counter_at(net.links, st.counters, b as u16));
-    let done = acted(net, kind, me, b, st);
-    let station = done.station;
-    let send = done.send;
-    Plan {
-        answer: 0,
-        station,
-        send,
-        settled: 0,
-        raised,
-        dropped: 0,
-    }
+    let counters = st.counters;
+    let raised = raised_by(kind, counter_at(net.links, counters, b as u16));
+    accepted(acted(net, kind, me, b, st), 0, raised, 0)
 }
 
 // ---- letters
@@ -270,14 +284,22 @@ fn dropped_said(said: Heard) -> u64
     }
 }
 
-// How many counters it raises, where the link's own counter is this: a reply's new one may be larger, a notice that is taken
-// always is.
+// How many counters it raises, where the link's own counter is this.
 fn raised_said(said: Heard, own: u16) -> u64
     ensures { λ r. ⌜ r ≡ raisedSaid said own ⌝ }
 {
-    let Heard::Does(effect) = said else {
-        return 0;
-    };
+    match said {
+        Heard::Gone => 0,
+        Heard::Nothing => 0,
+        Heard::TooHigh => 0,
+        Heard::Does(effect) => raised_effect(effect, own),
+    }
+}
+
+// A reply's new counter may be larger than the own one, that of a notice that is taken always is.
+fn raised_effect(effect: Effect, own: u16) -> u64
+    ensures { λ r. ⌜ r ≡ raisedEffect effect own ⌝ }
+{
     match effect {
         Effect::Asks => 0,
         Effect::Heals(to) => raised_to(own, to),
@@ -302,36 +324,16 @@ fn plan_letter(net: Net, me: u8, letter: Letter, st: Station) -> Plan
         return refused(8, st);
     }
     let body = letter.body;
-    let settled = settled_by(body);
-    let raised = raised_said(said, counter_at(net.links, st.counters, letter.link));
-    let dropped = dropped_said(said);
-    let done = hearing::receive(net, me, letter, st);
-    let station = done.station;
-    let send = done.send;
-    Plan {
-        answer: 0,
-        station,
-        send,
-        settled,
-        raised,
-        dropped,
-    }
+    let counters = st.counters;
+    let raised = raised_said(said, counter_at(net.links, counters, letter.link));
+    accepted(hearing::receive(net, me, letter, st), settled_by(body), raised, dropped_said(said))
 }
 
 // Event 8: the letter is dropped, and the station stays as it is.
 fn plan_loss(body: Body, st: Station) -> Plan
     ensures { λ r. ⌜ r ≡ lossOf body st ⌝ }
 {
-    let counters = st.counters;
-    let settled = settled_by(body);
-    Plan {
-        answer: 0,
-        station: st,
-        send: sending::silence(counters),
-        settled,
-        raised: 0,
-        dropped: 1,
-    }
+    accepted(silently(st), settled_by(body), 0, 1)
 }
 
 // What the event comes to at the station st, whose number is me.
