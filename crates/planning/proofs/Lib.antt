@@ -1,0 +1,5 @@
+pub mod Present
+pub mod Said
+pub mod Drafts
+pub mod Turns
+pub mod Events

@@ -1,0 +1,363 @@
+// What an event comes to at the one station that it concerns: a small plan, read from that station, the letter that is
+// meant and the network. Nothing is stored here; the network's step does that.
+ghost use mathlib.Core.Path.{_≡_};
+ghost use Prim.Native.Nat.{min};
+ghost use lib.Dec.{eqb, ltb};
+ghost use lib.ListN.{take};
+ghost use Rattle.lists.specs.Lists.{if_then_else_};
+ghost use Rattle.lists.specs.Words.{bit};
+ghost use Rattle.net.specs.Network.{ends, other};
+ghost use Rattle.net.specs.Values.{networkOf};
+ghost use Rattle.counters.specs.Counters.{even};
+ghost use Rattle.reach.specs.Reach.{counterIn};
+ghost use Rattle.station.specs.Acts.{kindOf};
+ghost use Rattle.station.specs.Values.{holdingOf, Acts};
+ghost use Rattle.world.specs.World.{sortOf, act, done, isNotice};
+ghost use Rattle.planning.specs.Plan.{concernedAs, linkThere, thereAs, roomAs};
+ghost use Rattle.planning.specs.Planned.{inRoom, Plans, ActPlans, LetterPlans, refusalOf, silentOf, turnedOf, acceptedOf, lossOf, numberSaid, raisedEffect, raisedSaid, droppedSaid};
+use counters::Counters;
+use hearing::Effect;
+use hearing::Heard;
+use net::Body;
+use net::Letter;
+use net::Net;
+use sending::Sending;
+use station::Acted;
+use station::Station;
+
+// A plan: the number that says no, or 0 and the station after the event, what it sends, and the tally's three numbers.
+pub struct Plan {
+    pub answer: u8,
+    pub station: Station,
+    pub send: Sending,
+    pub settled: u64,
+    pub raised: u64,
+    pub dropped: u64,
+}
+
+// A link's two ends.
+struct Ends {
+    low: u8,
+    high: u8,
+}
+
+// ---- what the numbers of an event mean
+
+fn at_most_32(x: u8) -> u8
+    ensures { λ r. ⌜ r ≡ min x 32 ⌝ }
+{
+    if x < 32 { x } else { 32 }
+}
+
+// A station's number that may be read in a room of 32; any other becomes 0.
+fn in_room(a: u32) -> u8
+    ensures { λ r. ⌜ r ≡ inRoom a ⌝ }
+{
+    if a < 32 { a as u8 } else { 0 }
+}
+
+// A link that is not there has the ends 0 and 0.
+fn ends_of(net: Net, k: u32) -> Ends
+    ensures { λ r. ⌜ (r .low ≡ ends (networkOf net) k .low) × (r .high ≡ ends (networkOf net) k .high) ⌝ }
+{
+    if marks::at_most_64(net.links) as u32 <= k {
+        return Ends { low: 0, high: 0 };
+    }
+    let i = k as usize;
+    Ends {
+        low: net.low[i],
+        high: net.high[i],
+    }
+}
+
+// The end of a letter's link that is not its sender.
+fn receiver(net: Net, link: u16, sender: u16) -> u8
+    ensures { λ r. ⌜ r ≡ other (networkOf net) link sender ⌝ }
+{
+    let e = ends_of(net, link as u32);
+    if e.low as u16 == sender {
+        return e.high;
+    }
+    e.low
+}
+
+// Whose station an event concerns: a for kinds 1 to 6, the receiver of the letter for 7; station 0 stands for 8, and stays
+// as it is. Always below 32, so that it may be read in the room of stations.
+pub fn concerned(net: Net, kind: u32, a: u32, letter: Letter) -> u8
+    ensures { λ r. ⌜ r ≡ inRoom (concernedAs (sortOf kind) (networkOf net) a letter) ⌝ }
+{
+    if kind == 7 {
+        return in_room(receiver(net, letter.link, letter.sender) as u32);
+    }
+    if kind == 8 {
+        return 0;
+    }
+    in_room(a)
+}
+
+// Whether b is a link at the station a.
+fn link_there(net: Net, a: u32, b: u32) -> bool
+    ensures { λ r. ⌜ r ≡ linkThere (networkOf net) a b ⌝ }
+{
+    if marks::at_most_64(net.links) as u32 <= b {
+        return false;
+    }
+    let e = ends_of(net, b);
+    if e.low as u32 == a {
+        return true;
+    }
+    e.high as u32 == a
+}
+
+// Whether there is such an event kind, station, link at that station or letter, and an unused number is 0; where not, the
+// event is refused with 6.
+fn there(net: Net, flying: u16, kind: u32, a: u32, b: u32) -> bool
+    ensures { λ r. ⌜ r ≡ thereAs (sortOf kind) (networkOf net) flying a b ⌝ }
+{
+    if kind < 1 {
+        return false;
+    }
+    if 8 < kind {
+        return false;
+    }
+    if 6 < kind {
+        if flying as u32 <= a {
+            return false;
+        }
+        return b == 0;
+    }
+    if at_most_32(net.stations) as u32 <= a {
+        return false;
+    }
+    if kind < 4 {
+        return b == 0;
+    }
+    link_there(net, a, b)
+}
+
+// ---- plans
+
+// A refusal hands back the station that it was given.
+fn refused(number: u8, st: Station) -> Plan
+    ensures { λ r. ⌜ r ≡ refusalOf number st ⌝ }
+{
+    let told = st.counters;
+    Plan {
+        answer: number,
+        station: st,
+        send: sending::silence(told),
+        settled: 0,
+        raised: 0,
+        dropped: 0,
+    }
+}
+
+// The counter of link k, 1 where the link is not there.
+fn counter_at(links: u8, counters: Counters, k: u16) -> u16
+    ensures { λ r. ⌜ r ≡ counterIn (take (min links 64) counters) k ⌝ }
+{
+    if marks::at_most_64(links) as u16 <= k {
+        return 1;
+    }
+    let i = k as usize;
+    counters[i]
+}
+
+// How many counters an act raises: a timeout raises one that was even.
+fn raised_by(kind: u8, c: u16) -> u64
+    ensures { λ r. ⌜ r ≡ (if eqb kind 5 then bit (even c) else 0) ⌝ }
+{
+    if kind == 5 {
+        if counters::is_even(c) {
+            return 1;
+        }
+    }
+    0
+}
+
+// The station, and nothing sent.
+fn silently(st: Station) -> Acted
+    ensures { λ r. ⌜ r ≡ silentOf st ⌝ }
+{
+    let told = st.counters;
+    Acted {
+        station: st,
+        send: sending::silence(told),
+    }
+}
+
+// The station me after the events that send nothing: start, stop, quiet ends.
+fn turned(net: Net, kind: u8, me: u8, b: u8, st: Station) -> Station
+    ensures { λ r. ⌜ r ≡ turnedOf net kind me b st ⌝ }
+{
+    if kind == 1 {
+        return station::start(net, me, st);
+    }
+    if kind == 2 {
+        return station::stop(net);
+    }
+    if kind == 6 {
+        return station::end_quiet(net, b, st);
+    }
+    st
+}
+
+// What events 1 to 6 do to the station me.
+fn acted(net: Net, kind: u8, me: u8, b: u8, st: Station) -> Acted
+    ensures { λ r. ⌜ Acts net me (roomAs (act (kindOf kind)) st) (done (kindOf kind) (networkOf net) me b (holdingOf net st)) r ⌝ }
+{
+    if kind == 3 {
+        return station::recover(net, me, st);
+    }
+    if kind == 4 {
+        return testing::end_interval(net, me, b, st);
+    }
+    if kind == 5 {
+        return testing::end_timeout(net, me, b, st);
+    }
+    silently(turned(net, kind, me, b, st))
+}
+
+// What was done, with the tally's numbers.
+fn accepted(done: Acted, settled: u64, raised: u64, dropped: u64) -> Plan
+    ensures { λ r. ⌜ r ≡ acceptedOf done settled raised dropped ⌝ }
+{
+    let station = done.station;
+    let send = done.send;
+    Plan {
+        answer: 0,
+        station,
+        send,
+        settled,
+        raised,
+        dropped,
+    }
+}
+
+// Events 1 to 6, once they are there: refused with 7, or done.
+fn plan_act(net: Net, kind: u8, me: u8, b: u8, st: Station) -> Plan
+    ensures { λ r. ⌜ ActPlans net (kindOf kind) me b st r ⌝ }
+{
+    let condition = st.condition;
+    if !station::allows(net.links, kind, b, condition, st.marks) {
+        return refused(7, st);
+    }
+    let counters = st.counters;
+    let raised = raised_by(kind, counter_at(net.links, counters, b as u16));
+    accepted(acted(net, kind, me, b, st), 0, raised, 0)
+}
+
+// ---- letters
+
+// A notice that is taken off is settled.
+fn settled_by(body: Body) -> u64
+    ensures { λ r. ⌜ r ≡ bit (isNotice body) ⌝ }
+{
+    match body {
+        Body::Request => 0,
+        Body::Reply(_) => 0,
+        Body::Notice(_, _) => 1,
+    }
+}
+
+// The number that the receiver's answer stands for.
+fn number_said(said: Heard) -> u8
+    ensures { λ r. ⌜ r ≡ numberSaid said ⌝ }
+{
+    match said {
+        Heard::Gone => 0,
+        Heard::Nothing => 0,
+        Heard::TooHigh => 8,
+        Heard::Does(_) => 0,
+    }
+}
+
+// How many letters are dropped by it.
+fn dropped_said(said: Heard) -> u64
+    ensures { λ r. ⌜ r ≡ droppedSaid said ⌝ }
+{
+    match said {
+        Heard::Gone => 1,
+        Heard::Nothing => 0,
+        Heard::TooHigh => 0,
+        Heard::Does(_) => 0,
+    }
+}
+
+// How many counters it raises, where the link's own counter is this.
+fn raised_said(said: Heard, own: u16) -> u64
+    ensures { λ r. ⌜ r ≡ raisedSaid said own ⌝ }
+{
+    match said {
+        Heard::Gone => 0,
+        Heard::Nothing => 0,
+        Heard::TooHigh => 0,
+        Heard::Does(effect) => raised_effect(effect, own),
+    }
+}
+
+// A reply's new counter may be larger than the own one, that of a notice that is taken always is.
+fn raised_effect(effect: Effect, own: u16) -> u64
+    ensures { λ r. ⌜ r ≡ raisedEffect effect own ⌝ }
+{
+    match effect {
+        Effect::Asks => 0,
+        Effect::Heals(to) => raised_to(own, to),
+        Effect::Levels(to) => raised_to(own, to),
+        Effect::Equal => 0,
+        Effect::Takes(_, _) => 1,
+    }
+}
+
+fn raised_to(own: u16, to: u16) -> u64
+    ensures { λ r. ⌜ r ≡ bit (ltb own to) ⌝ }
+{
+    if own < to { 1 } else { 0 }
+}
+
+// Event 7, once the letter is there: refused with 8, or received.
+fn plan_letter(net: Net, me: u8, letter: Letter, st: Station) -> Plan
+    ensures { λ r. ⌜ LetterPlans net me letter st r ⌝ }
+{
+    let said = hearing::hearing(net, me, letter, st);
+    if number_said(said) == 8 {
+        return refused(8, st);
+    }
+    let body = letter.body;
+    let counters = st.counters;
+    let raised = raised_said(said, counter_at(net.links, counters, letter.link));
+    accepted(hearing::receive(net, me, letter, st), settled_by(body), raised, dropped_said(said))
+}
+
+// Event 8: the letter is dropped, and the station stays as it is.
+fn plan_loss(body: Body, st: Station) -> Plan
+    ensures { λ r. ⌜ r ≡ lossOf body st ⌝ }
+{
+    accepted(silently(st), settled_by(body), 0, 1)
+}
+
+// What the event comes to at the station st, whose number is me.
+pub fn plan_event(
+    net: Net,
+    flying: u16,
+    kind: u32,
+    a: u32,
+    b: u32,
+    me: u8,
+    letter: Letter,
+    st: Station,
+) -> Plan
+    ensures { λ r. ⌜ Plans net flying (sortOf kind) a b me letter st r ⌝ }
+{
+    if !there(net, flying, kind, a, b) {
+        return refused(6, st);
+    }
+    if kind == 7 {
+        return plan_letter(net, me, letter, st);
+    }
+    if kind == 8 {
+        let body = letter.body;
+        return plan_loss(body, st);
+    }
+    plan_act(net, kind as u8, me, b as u8, st)
+}
