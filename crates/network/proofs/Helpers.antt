@@ -1,0 +1,57 @@
+-- What the small steps of the code answer, return by return. Assumes nothing.
+use Prim.Native.Nat.{ℕ, _+_, _-_, _≤_, _<_}
+use mathlib.Core.Bool.{Bool, true, false, not}
+use mathlib.Core.Path.{_≡_, refl, sym, ap, _∙_}
+use native.Mathlib.Omega.{arith}
+use lib.Dec.{eqb, ltb}
+use borrow.Author.Tests.{eq-eqb, ne-eqb, lt-ltb, le-ltb, not-true, not-false}
+use Rattle.lists.specs.Lists.{if_then_else_}
+use Rattle.net.specs.declared.Letter.{Letter}
+use Rattle.station.specs.Acts.{kindOf}
+use Rattle.world.specs.World.{Sort, act, delivery, loss, sortOf, noLetter}
+use Rattle.network.specs.Step.{leavesAs, placeBy, leftBy, numberBy}
+
+module _ (kind : ℕ) where
+  pub leaves-seven : kind ≡ 7 → true ≡ leavesAs (sortOf kind)
+  leaves-seven e = sym (ap (λ (b : Bool). leavesAs (if b then delivery else (if eqb kind 8 then loss else act (kindOf kind)))) (eq-eqb kind 7 e))
+
+  pub leaves-else : (kind ≡ 7 → ⊥) → eqb kind 8 ≡ leavesAs (sortOf kind)
+  leaves-else n =
+      go (eqb kind 8) ∙ sym (ap (λ (b : Bool). leavesAs (if b then delivery else (if eqb kind 8 then loss else act (kindOf kind)))) (ne-eqb kind 7 n))
+    where
+      go : (b : Bool) → b ≡ leavesAs (if b then loss else act (kindOf kind))
+      go true = refl
+      go false = refl
+
+module _ (leaves : Bool) where
+  pub place-none : (a : ℕ) → leaves ≡ false → 0 ≡ placeBy leaves a
+  place-none a e = sym (ap (λ (b : Bool). placeBy b a) e)
+
+  pub place-there : (a : ℕ) → leaves ≡ true → a < 4096 → a ≡ placeBy leaves a
+  place-there a e h = sym (ap (λ (b : Bool). placeBy b a) e ∙ ap (λ (b : Bool). if b then a else 0) (lt-ltb a 4096 h))
+
+  pub place-past : (a : ℕ) → leaves ≡ true → 4096 ≤ a → 0 ≡ placeBy leaves a
+  place-past a e h = sym (ap (λ (b : Bool). placeBy b a) e ∙ ap (λ (b : Bool). if b then a else 0) (le-ltb a 4096 h))
+
+  pub left-all : (n : ℕ) → leaves ≡ false → n ≡ leftBy leaves n
+  left-all n e = sym (ap (λ (b : Bool). leftBy b n) e)
+
+  pub left-less : (n r : ℕ) → leaves ≡ true → r ≡ n - 1 → r ≡ leftBy leaves n
+  left-less n r e h = h ∙ sym (ap (λ (b : Bool). leftBy b n) e)
+
+  pub freed-is : (x : Letter) → leaves ≡ true → noLetter ≡ (if leaves then noLetter else x)
+  freed-is x e = sym (ap (λ (b : Bool). if b then noLetter else x) e)
+
+module _ (planned left count : ℕ) where
+  pub number-planned : (planned ≡ 0 → ⊥) → planned ≡ numberBy planned left count
+  number-planned n = sym (ap (λ (b : Bool). if b then (if ltb 4096 (left + count) then 9 else 0) else planned) (ne-eqb planned 0 n))
+
+  pub number-nine : planned ≡ 0 → 4096 < left + count → 9 ≡ numberBy planned left count
+  number-nine e h =
+      sym (ap (λ (b : Bool). if b then (if ltb 4096 (left + count) then 9 else 0) else planned) (eq-eqb planned 0 e)
+      ∙ ap (λ (b : Bool). if b then 9 else 0) (lt-ltb 4096 (left + count) h))
+
+  pub number-none : planned ≡ 0 → left + count ≤ 4096 → 0 ≡ numberBy planned left count
+  number-none e h =
+      sym (ap (λ (b : Bool). if b then (if ltb 4096 (left + count) then 9 else 0) else planned) (eq-eqb planned 0 e)
+      ∙ ap (λ (b : Bool). if b then 9 else 0) (le-ltb 4096 (left + count) h))

@@ -1,0 +1,42 @@
+-- What a step of the network answers: the world's step of what the state means, laid out in zero room. Assumes nothing.
+use Prim.Native.Nat.{ℕ, _+_, _-_}
+use mathlib.Core.Bool.{Bool, true, false}
+use lib.Dec.{eqb, ltb}
+use Rattle.lists.specs.Lists.{if_then_else_}
+use Rattle.world.specs.World.{World, Event, Sort, act, delivery, loss, refusal, after, settled, raised, dropped}
+use Rattle.state.specs.declared.State.{State}
+use Rattle.state.specs.State.{worldOf, stateOf, stateHolds}
+use Rattle.network.specs.declared.Stepped.{Stepped}
+
+abbrev pub event : ℕ → ℕ → ℕ → Event
+event kind a b = record { kind = kind; a = a; b = b }
+
+-- a refusal hands back the state that it was given
+abbrev pub refusing : ℕ → State → Stepped
+refusing n s = record { answer = n; settled = 0; raised = 0; dropped = 0; state = s }
+
+abbrev pub accepting : State → Event → Stepped
+accepting s e =
+    record { answer = 0; settled = settled (worldOf s) e; raised = raised (worldOf s) e; dropped = dropped (worldOf s) e; state = stateOf (s .net) (after (worldOf s) e) }
+
+-- 11 where the state isn't well formed, then the world's refusals in their order
+unfoldable pub numberOf : State → Event → ℕ
+numberOf s e = if stateHolds s then refusal (worldOf s) e else 11
+
+unfoldable pub steppedOf : State → ℕ → ℕ → ℕ → Stepped
+steppedOf s kind a b = if eqb (numberOf s (event kind a b)) 0 then accepting s (event kind a b) else refusing (numberOf s (event kind a b)) s
+
+-- ---- what the private steps of the code answer
+abbrev pub leavesAs : Sort → Bool
+leavesAs (act k) = false
+leavesAs delivery = true
+leavesAs loss = true
+
+abbrev pub placeBy : Bool → ℕ → ℕ
+placeBy leaves a = if leaves then (if ltb a 4096 then a else 0) else 0
+
+abbrev pub leftBy : Bool → ℕ → ℕ
+leftBy leaves flying = if leaves then flying - 1 else flying
+
+abbrev pub numberBy : ℕ → ℕ → ℕ → ℕ
+numberBy planned left count = if eqb planned 0 then (if ltb 4096 (left + count) then 9 else 0) else planned

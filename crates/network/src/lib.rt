@@ -1,0 +1,148 @@
+// The network's step: one call takes the whole state and one event, and hands back the whole state after it, or the same
+// state and the number that says no. Only `step` itself holds a state: no helper takes or returns one, nor the letters' room.
+ghost use mathlib.Core.Path.{_≡_};
+ghost use mathlib.Core.Bool.{Bool};
+ghost use Prim.Native.Nat.{_+_, _-_};
+ghost use lib.Dec.{ltb, eqb};
+ghost use Rattle.lists.specs.Lists.{if_then_else_};
+ghost use Rattle.world.specs.World.{sortOf, noLetter};
+ghost use Rattle.network.specs.Step.{leavesAs, placeBy, leftBy, numberBy, steppedOf};
+use net::Body;
+use net::Letter;
+use state::State;
+
+// What a step answers: a number, the tally's three numbers of the event, and the state.
+pub struct Stepped {
+    pub answer: u8,
+    pub settled: u64,
+    pub raised: u64,
+    pub dropped: u64,
+    pub state: State,
+}
+
+// Whether an event of this kind takes a letter off the list.
+fn takes_letter(kind: u32) -> bool
+    ensures { λ r. ⌜ r ≡ leavesAs (sortOf kind) ⌝ }
+{
+    if kind == 7 {
+        return true;
+    }
+    kind == 8
+}
+
+// The place of the letter that is taken; place 0 stands for none.
+fn place_of(leaves: bool, a: u32) -> usize
+    ensures { λ r. ⌜ r ≡ placeBy leaves a ⌝ }
+{
+    if !leaves {
+        return 0;
+    }
+    if a < 4096 { a as usize } else { 0 }
+}
+
+// How many letters are left of those in flight.
+fn left_of(leaves: bool, flying: u16) -> u16
+    ensures { λ r. ⌜ r ≡ leftBy leaves flying ⌝ }
+{
+    if !leaves {
+        return flying;
+    }
+    if 0 < flying { flying - 1 } else { 0 }
+}
+
+// The number that the plan says, or 9 where so many letters more would be too many.
+fn number_of(planned: u8, left: u16, count: u16) -> u8
+    ensures { λ r. ⌜ r ≡ numberBy planned left count ⌝ }
+{
+    if planned != 0 {
+        return planned;
+    }
+    if 4096 < left as u32 + count as u32 { 9 } else { 0 }
+}
+
+fn pick(on: bool, a: usize, b: usize) -> usize
+    ensures { λ r. ⌜ r ≡ (if on then a else b) ⌝ }
+{
+    if on { a } else { b }
+}
+
+// What stands at the place that falls free: nothing, or where none does, the letter that is there.
+fn freed(leaves: bool, x: Letter) -> Letter
+    ensures { λ r. ⌜ r ≡ (if leaves then noLetter else x) ⌝ }
+{
+    if leaves {
+        return Letter {
+            link: 0,
+            sender: 0,
+            body: Body::Request,
+        };
+    }
+    x
+}
+
+// One event. Refusals in their order: 11, 6, 7, 8, 9; each hands back the state it was given.
+pub fn step(s: State, kind: u32, a: u32, b: u32) -> Stepped
+    ensures { λ r. ⌜ r ≡ steppedOf s kind a b ⌝ }
+{
+    if !state::well_formed(s) {
+        return Stepped {
+            answer: 11,
+            settled: 0,
+            raised: 0,
+            dropped: 0,
+            state: s,
+        };
+    }
+    let net = s.net;
+    let flying = s.flying;
+    let leaves = takes_letter(kind);
+    let place = place_of(leaves, a);
+    let x = s.letters[place];
+    let me = planning::concerned(net, kind, a, x);
+    let who = me as usize;
+    let st = s.stations[who];
+    let plan = planning::plan_event(net, flying, kind, a, b, me, x, st);
+    let send = plan.send;
+    let count = posting::count(send);
+    let left = left_of(leaves, flying);
+    let answer = number_of(plan.answer, left, count);
+    if answer != 0 {
+        return Stepped {
+            answer,
+            settled: 0,
+            raised: 0,
+            dropped: 0,
+            state: s,
+        };
+    }
+    let after = plan.station;
+    let mut next = s;
+    next.stations[who] = after;
+    // the later letters close up
+    let last = left as usize;
+    let from = pick(leaves, place, last);
+    for i in from..last {
+        let j = i + 1;
+        let y = next.letters[j];
+        next.letters[i] = y;
+    }
+    let free = pick(leaves, last, place);
+    let unused = freed(leaves, x);
+    next.letters[free] = unused;
+    // new letters go to the end
+    let mut post = posting::begun(send);
+    for k in 0..count {
+        let at = last + k as usize;
+        let y = posting::first(post, me);
+        next.letters[at] = y;
+        post = posting::rest(post);
+    }
+    next.flying = left + count;
+    Stepped {
+        answer: 0,
+        settled: plan.settled,
+        raised: plan.raised,
+        dropped: plan.dropped,
+        state: next,
+    }
+}
