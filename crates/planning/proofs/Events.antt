@@ -24,20 +24,17 @@ use Rattle.planning.proofs.Drafts.{does}
 
 -- the refusals, once it is known whether the event is there
 module _ (N : Network) (flying a b s : ℕ) (l : Letter) (h : Holding) where
-  pub not-there : (x : Sort) → thereAs x N flying a b ≡ false → refusalIn x N flying a b s l h ≡ 6
+  no-such : (x : Sort) → thereAs x N flying a b ≡ false → refusalIn x N flying a b s l h ≡ 6
   unfolding refusalIn
-  not-there x e = ap (λ (t : Bool). if not t then 6 else (if not (allowedIn x b h) then 7 else (if overIn N s x l h then 8 else 0))) e
+  no-such x e = ap (λ (t : Bool). if not t then 6 else (if not (allowedIn x b h) then 7 else (if overIn N s x l h then 8 else 0))) e
 
-  pub is-there : (x : Sort) → thereAs x N flying a b ≡ true → refusalIn x N flying a b s l h ≡ (if not (allowedIn x b h) then 7 else (if overIn N s x l h then 8 else 0))
+  -- by the code's answer
+  pub not-there : (x : Sort) (r : Bool) → r ≡ thereAs x N flying a b → not r ≡ true → refusalIn x N flying a b s l h ≡ 6
+  not-there x r p q = no-such x (sym p ∙ not-true r q)
+
+  is-there : (x : Sort) → thereAs x N flying a b ≡ true → refusalIn x N flying a b s l h ≡ (if not (allowedIn x b h) then 7 else (if overIn N s x l h then 8 else 0))
   unfolding refusalIn
   is-there x e = ap (λ (t : Bool). if not t then 6 else (if not (allowedIn x b h) then 7 else (if overIn N s x l h then 8 else 0))) e
-
--- what the code's answer says of it
-pub seen-not : (r v : Bool) → r ≡ v → not r ≡ true → v ≡ false
-seen-not r v e p = sym e ∙ not-true r p
-
-pub seen : (r v : Bool) → r ≡ v → not r ≡ false → v ≡ true
-seen r v e p = sym e ∙ not-false r p
 
 -- the code's number, 8 or another
 pub not-eight : (b : Bool) (v : ℕ) → v ≡ (if b then 8 else 0) → (v ≡ 8 → ⊥) → b ≡ false
@@ -52,11 +49,11 @@ module _ (net : Net) (flying a b s : ℕ) (l : Letter) (st : Station) (kind : �
   h = holdingOf net st
 
   -- an event that is there, by its sort
-  pub by-sort : (x : Sort) (r : Plan) → sortOf kind ≡ x → thereAs (sortOf kind) (networkOf net) flying a b ≡ true
+  pub by-sort : (x : Sort) (r : Plan) (t : Bool) → sortOf kind ≡ x → t ≡ thereAs (sortOf kind) (networkOf net) flying a b → not t ≡ false
       → PlansBy (if not (allowedIn x b h) then 7 else (if overIn (networkOf net) s x l h then 8 else 0)) net x b s l st r → Plans net flying (sortOf kind) a b s l st r
-  by-sort x r e t p =
+  by-sort x r t e u v p =
       subst⁻¹ (λ (y : Sort). Plans net flying y a b s l st r) e
-      (subst⁻¹ (λ (n : ℕ). PlansBy n net x b s l st r) (is-there (networkOf net) flying a b s l h x (ap (λ (y : Sort). thereAs y (networkOf net) flying a b) (sym e) ∙ t)) p)
+      (subst⁻¹ (λ (n : ℕ). PlansBy n net x b s l st r) (is-there (networkOf net) flying a b s l h x (ap (λ (y : Sort). thereAs y (networkOf net) flying a b) (sym e) ∙ sym u ∙ not-false t v)) p)
 
   -- a loss changes nothing
   pub loss-plans : (r : Plan) → Fit (st .marks) → r ≡ lossOf (l .body) st → PlansBy 0 net loss b s l st r

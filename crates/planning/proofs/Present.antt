@@ -1,10 +1,10 @@
 -- What the numbers of an event mean, in the order in which the code asks. Assumes nothing.
 use Prim.Native.Nat.{ℕ, zero, suc, _≤_, _<_, min}
-use mathlib.Core.Bool.{Bool, true, false, _&&_, _||_}
+use mathlib.Core.Bool.{Bool, true, false, not, _&&_, _||_}
 use mathlib.Core.Path.{_≡_, refl, sym, ap, ap₂, _∙_, subst}
 use native.Mathlib.Decide.{ℕ-discrete}
 use native.Mathlib.Omega.{arith}
-use borrow.Author.Tests.{eq-eqb, ne-eqb, lt-ltb, le-ltb}
+use borrow.Author.Tests.{not-false, eq-eqb, ne-eqb, lt-ltb, le-ltb}
 use lib.Dec.{T, eqb, ltb, ltb→lt, eqb→eq}
 use lib.ListN.{length, List·getD-eq-default}
 use Rattle.lists.specs.Lists.{if_then_else_}
@@ -144,5 +144,5 @@ module _ (N : Network) (flying a b : ℕ) where
     act-small (suc (suc (suc (suc (suc (suc zero)))))) t = (omega arith, small-link t)
     act-small (suc (suc (suc (suc (suc (suc (suc n))))))) t = absurd t
 
-    pub kind-small : (kind : ℕ) → (kind ≡ 7 → ⊥) → (kind ≡ 8 → ⊥) → thereAs (sortOf kind) N flying a b ≡ true → (kind ≤ 6) × (b < 64)
-    kind-small kind p q e = act-small kind (is-T _ (there-by kind _ (sort-else kind p q) ∙ e))
+    pub kind-small : (kind : ℕ) (t : Bool) → (kind ≡ 7 → ⊥) → (kind ≡ 8 → ⊥) → t ≡ thereAs (sortOf kind) N flying a b → not t ≡ false → (kind ≤ 6) × (b < 64)
+    kind-small kind t p q e f = act-small kind (is-T _ (there-by kind _ (sort-else kind p q) ∙ sym e ∙ not-false t f))

@@ -2,10 +2,12 @@
 -- of `world` for one station. That they are the world's: proofs/Worlds.antt. Assumes nothing.
 use Prim.Native.Nat.{ℕ}
 use mathlib.Core.Bool.{Bool, true, false, not, _&&_}
+use mathlib.Core.List.{List}
 use lib.Dec.{eqb, ltb}
 use lib.ListN.{length}
 use Rattle.lists.specs.Lists.{if_then_else_}
 use Rattle.lists.specs.Words.{bit}
+use Rattle.lists.specs.Places.{without}
 use Rattle.net.specs.declared.Letter.{Letter}
 use Rattle.net.specs.Network.{Network, isEnd}
 use Rattle.net.specs.Network as Net
@@ -86,3 +88,9 @@ roomAs (act quietEnd) st = st
 roomAs (act other) st = st
 roomAs delivery st = st
 roomAs loss st = st
+
+-- the letters left in flight: one that is delivered or lost leaves the list, and the later ones close up
+abbrev pub leftAs : Sort → ℕ → List Letter → List Letter
+leftAs (act k) a xs = xs
+leftAs delivery a xs = without a xs
+leftAs loss a xs = without a xs

@@ -326,7 +326,12 @@ fn plan_letter(net: Net, me: u8, letter: Letter, st: Station) -> Plan
     let body = letter.body;
     let counters = st.counters;
     let raised = raised_said(said, counter_at(net.links, counters, letter.link));
-    accepted(hearing::receive(net, me, letter, st), settled_by(body), raised, dropped_said(said))
+    accepted(
+        hearing::receive(net, me, letter, st),
+        settled_by(body),
+        raised,
+        dropped_said(said),
+    )
 }
 
 // Event 8: the letter is dropped, and the station stays as it is.

@@ -10,7 +10,7 @@ use Rattle.station.proofs.Laid.{Fit}
 use Rattle.world.specs.World.{act, delivery, loss, sortOf}
 use Rattle.world.proofs.Sorts.{sort-delivery, sort-loss}
 use Rattle.planning.proofs.Drafts.{refuses}
-use Rattle.planning.proofs.Events.{not-there, seen-not, seen, by-sort, loss-plans}
+use Rattle.planning.proofs.Events.{not-there, by-sort, loss-plans}
 use Rattle.planning.proofs.Present.{sort-else, kind-small}
 use borrow.Author.Needs.{needs}
 use Rattle.planning.proofs.plan_event.Statement.{statement}
@@ -32,7 +32,7 @@ returns : tie.Need-returns
 returns c =
     let a = c .before .before .before .args in
     refuses _ _ _ _ _ _ _ _ _ 6 refl _ (c .refused .ensures)
-    (not-there (networkOf (a .net)) (a .flying) (a .a) (a .b) (a .me) (a .letter) (holdingOf (a .net) (a .st)) (sortOf (a .kind)) (seen-not _ _ (c .before .before .there .ensures) (c .before .if1 .taken)))
+    (not-there (networkOf (a .net)) (a .flying) (a .a) (a .b) (a .me) (a .letter) (holdingOf (a .net) (a .st)) (sortOf (a .kind)) _ (c .before .before .there .ensures) (c .before .if1 .taken))
 
 plan-letter-requires : tie.Need-plan-letter-requires
 plan-letter-requires c κs = search needs
@@ -40,7 +40,7 @@ plan-letter-requires c κs = search needs
 returns-2 : tie.Need-returns-2
 returns-2 c =
     let a = c .before .before .before .before .args in
-    by-sort (a .net) (a .flying) (a .a) (a .b) (a .me) (a .letter) (a .st) (a .kind) delivery _ (sort-delivery (a .kind) (c .before .if2 .taken)) (seen _ _ (c .before .before .before .there .ensures) (c .before .before .if1 .left)) (c .plan-letter .ensures)
+    by-sort (a .net) (a .flying) (a .a) (a .b) (a .me) (a .letter) (a .st) (a .kind) delivery _ _ (sort-delivery (a .kind) (c .before .if2 .taken)) (c .before .before .before .there .ensures) (c .before .before .if1 .left) (c .plan-letter .ensures)
 
 plan-loss-requires : tie.Need-plan-loss-requires
 plan-loss-requires c κs = search needs
@@ -48,18 +48,18 @@ plan-loss-requires c κs = search needs
 returns-3 : tie.Need-returns-3
 returns-3 c =
     let a = c .before .before .before .before .before .args in
-    by-sort (a .net) (a .flying) (a .a) (a .b) (a .me) (a .letter) (a .st) (a .kind) loss _ (sort-loss (a .kind) (c .before .if3 .taken)) (seen _ _ (c .before .before .before .before .there .ensures) (c .before .before .before .if1 .left))
+    by-sort (a .net) (a .flying) (a .a) (a .b) (a .me) (a .letter) (a .st) (a .kind) loss _ _ (sort-loss (a .kind) (c .before .if3 .taken)) (c .before .before .before .before .there .ensures) (c .before .before .before .if1 .left)
     (loss-plans (a .net) (a .flying) (a .a) (a .b) (a .me) (a .letter) (a .st) (a .kind) _ (fit (c .before .before .before .before .before)) (c .plan-loss .ensures))
 
 cast-plan-act : tie.Need-cast-plan-act
 cast-plan-act c =
     let a = c .before .before .before .before .args in
-    omega (arith, kind-small (networkOf (a .net)) (a .flying) (a .a) (a .b) (few (c .before .before .before .before)) (a .kind) (c .before .if2 .left) (c .if3 .left) (seen _ _ (c .before .before .before .there .ensures) (c .before .before .if1 .left)))
+    omega (arith, kind-small (networkOf (a .net)) (a .flying) (a .a) (a .b) (few (c .before .before .before .before)) (a .kind) _ (c .before .if2 .left) (c .if3 .left) (c .before .before .before .there .ensures) (c .before .before .if1 .left))
 
 cast-plan-act-2 : tie.Need-cast-plan-act-2
 cast-plan-act-2 c =
     let a = c .before .before .before .before .args in
-    omega (arith, kind-small (networkOf (a .net)) (a .flying) (a .a) (a .b) (few (c .before .before .before .before)) (a .kind) (c .before .if2 .left) (c .if3 .left) (seen _ _ (c .before .before .before .there .ensures) (c .before .before .if1 .left)))
+    omega (arith, kind-small (networkOf (a .net)) (a .flying) (a .a) (a .b) (few (c .before .before .before .before)) (a .kind) _ (c .before .if2 .left) (c .if3 .left) (c .before .before .before .there .ensures) (c .before .before .if1 .left))
 
 plan-act-requires : tie.Need-plan-act-requires
 plan-act-requires c κs = search needs
@@ -67,7 +67,7 @@ plan-act-requires c κs = search needs
 returns-4 : tie.Need-returns-4
 returns-4 c =
     let a = c .before .before .before .before .before .args in
-    by-sort (a .net) (a .flying) (a .a) (a .b) (a .me) (a .letter) (a .st) (a .kind) (act (kindOf (a .kind))) _ (sort-else (a .kind) (c .before .before .if2 .left) (c .before .if3 .left)) (seen _ _ (c .before .before .before .before .there .ensures) (c .before .before .before .if1 .left)) (c .plan-act .ensures)
+    by-sort (a .net) (a .flying) (a .a) (a .b) (a .me) (a .letter) (a .st) (a .kind) (act (kindOf (a .kind))) _ _ (sort-else (a .kind) (c .before .before .if2 .left) (c .before .if3 .left)) (c .before .before .before .before .there .ensures) (c .before .before .before .if1 .left) (c .plan-act .ensures)
 
 pub plan-event-spec : {M : Type 1} → statement M
 plan-event-spec =
