@@ -1,14 +1,16 @@
 -- What the small steps of the code answer, return by return. Assumes nothing.
 use Prim.Native.Nat.{ℕ, _+_, _-_, _≤_, _<_}
 use mathlib.Core.Bool.{Bool, true, false, not}
-use mathlib.Core.Path.{_≡_, refl, sym, ap, _∙_}
+use mathlib.Core.Path.{_≡_, refl, sym, ap, _∙_, subst⁻¹}
 use native.Mathlib.Omega.{arith}
-use lib.Dec.{eqb, ltb}
+use lib.Dec.{eqb, ltb, ltb→lt}
 use borrow.Author.Tests.{eq-eqb, ne-eqb, lt-ltb, le-ltb, not-true, not-false}
 use Rattle.lists.specs.Lists.{if_then_else_}
+use Rattle.lists.proofs.Tests.{if-elim}
 use Rattle.net.specs.declared.Letter.{Letter}
 use Rattle.station.specs.Acts.{kindOf}
 use Rattle.world.specs.World.{Sort, act, delivery, loss, sortOf, noLetter}
+use Rattle.planning.specs.Planned.{inRoom}
 use Rattle.network.specs.Step.{leavesAs, placeBy, leftBy, numberBy}
 
 module _ (kind : ℕ) where
@@ -23,16 +25,19 @@ module _ (kind : ℕ) where
       go true = refl
       go false = refl
 
+pub place-there : (a : ℕ) → a < 4096 → a ≡ placeBy a
+place-there a h = sym (ap (λ (b : Bool). if b then a else 0) (lt-ltb a 4096 h))
+
+pub place-past : (a : ℕ) → 4096 ≤ a → 0 ≡ placeBy a
+place-past a h = sym (ap (λ (b : Bool). if b then a else 0) (le-ltb a 4096 h))
+
+pub place-few : (a r : ℕ) → r ≡ placeBy a → r < 4096
+place-few a r e = subst⁻¹ (λ (n : ℕ). n < 4096) e (if-elim (λ (n : ℕ). n < 4096) (ltb a 4096) (λ t. ltb→lt a 4096 t) (λ t. omega arith))
+
+pub room-few : (n r : ℕ) → r ≡ inRoom n → r < 32
+room-few n r e = subst⁻¹ (λ (n : ℕ). n < 32) e (if-elim (λ (n : ℕ). n < 32) (ltb n 32) (λ t. ltb→lt n 32 t) (λ t. omega arith))
+
 module _ (leaves : Bool) where
-  pub place-none : (a : ℕ) → leaves ≡ false → 0 ≡ placeBy leaves a
-  place-none a e = sym (ap (λ (b : Bool). placeBy b a) e)
-
-  pub place-there : (a : ℕ) → leaves ≡ true → a < 4096 → a ≡ placeBy leaves a
-  place-there a e h = sym (ap (λ (b : Bool). placeBy b a) e ∙ ap (λ (b : Bool). if b then a else 0) (lt-ltb a 4096 h))
-
-  pub place-past : (a : ℕ) → leaves ≡ true → 4096 ≤ a → 0 ≡ placeBy leaves a
-  place-past a e h = sym (ap (λ (b : Bool). placeBy b a) e ∙ ap (λ (b : Bool). if b then a else 0) (le-ltb a 4096 h))
-
   pub left-all : (n : ℕ) → leaves ≡ false → n ≡ leftBy leaves n
   left-all n e = sym (ap (λ (b : Bool). leftBy b n) e)
 

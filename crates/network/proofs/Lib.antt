@@ -1,1 +1,4 @@
 pub mod Helpers
+pub mod Known
+pub mod Made
+pub mod Loops

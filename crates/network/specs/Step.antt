@@ -32,8 +32,8 @@ leavesAs (act k) = false
 leavesAs delivery = true
 leavesAs loss = true
 
-abbrev pub placeBy : Bool → ℕ → ℕ
-placeBy leaves a = if leaves then (if ltb a 4096 then a else 0) else 0
+abbrev pub placeBy : ℕ → ℕ
+placeBy a = if ltb a 4096 then a else 0
 
 abbrev pub leftBy : Bool → ℕ → ℕ
 leftBy leaves flying = if leaves then flying - 1 else flying

@@ -30,13 +30,10 @@ fn takes_letter(kind: u32) -> bool
     kind == 8
 }
 
-// The place of the letter that is taken; place 0 stands for none.
-fn place_of(leaves: bool, a: u32) -> usize
-    ensures { λ r. ⌜ r ≡ placeBy leaves a ⌝ }
+// The place of the letter that a names, where there is one; the event may mean none.
+fn place_of(a: u32) -> usize
+    ensures { λ r. ⌜ r ≡ placeBy a ⌝ }
 {
-    if !leaves {
-        return 0;
-    }
     if a < 4096 { a as usize } else { 0 }
 }
 
@@ -57,7 +54,11 @@ fn number_of(planned: u8, left: u16, count: u16) -> u8
     if planned != 0 {
         return planned;
     }
-    if 4096 < left as u32 + count as u32 { 9 } else { 0 }
+    if 4096 < left as u32 + count as u32 {
+        9
+    } else {
+        0
+    }
 }
 
 fn pick(on: bool, a: usize, b: usize) -> usize
@@ -95,8 +96,7 @@ pub fn step(s: State, kind: u32, a: u32, b: u32) -> Stepped
     }
     let net = s.net;
     let flying = s.flying;
-    let leaves = takes_letter(kind);
-    let place = place_of(leaves, a);
+    let place = place_of(a);
     let x = s.letters[place];
     let me = planning::concerned(net, kind, a, x);
     let who = me as usize;
@@ -104,6 +104,7 @@ pub fn step(s: State, kind: u32, a: u32, b: u32) -> Stepped
     let plan = planning::plan_event(net, flying, kind, a, b, me, x, st);
     let send = plan.send;
     let count = posting::count(send);
+    let leaves = takes_letter(kind);
     let left = left_of(leaves, flying);
     let answer = number_of(plan.answer, left, count);
     if answer != 0 {

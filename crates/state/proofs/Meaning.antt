@@ -105,7 +105,7 @@ module _ (s : State) (z : Sized s) (t : T (stateHolds s)) where
   letter-formed j h =
       subst (λ (b : Bool). T (if b then letterHolds (networkOf net) (letterIn s j) else isNoLetter (letterIn s j))) (lt-ltb j (s .flying) h) (letter-at j (omega (arith, holds-few)))
 
-  letter-unused : (j : ℕ) → s .flying ≤ j → j < 4096 → letterIn s j ≡ noLetter
+  pub letter-unused : (j : ℕ) → s .flying ≤ j → j < 4096 → letterIn s j ≡ noLetter
   letter-unused j h l =
       no-letter-is (letterIn s j)
       (subst (λ (b : Bool). T (if b then letterHolds (networkOf net) (letterIn s j) else isNoLetter (letterIn s j))) (le-ltb j (s .flying) h) (letter-at j l))
