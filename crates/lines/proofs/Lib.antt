@@ -1,1 +1,4 @@
 pub mod Events
+pub mod Hex
+mod HexReads
+pub mod Cases

@@ -1,2 +1,4 @@
 pub mod Events
 pub mod Steps
+pub mod Hex
+pub mod HexSteps

@@ -1,5 +1,5 @@
 -- Text for lent output: numbers in decimal, a byte in hexadecimal, and what an output holds after a text was put at a place.
--- Their laws: proofs/Digits.antt, proofs/Puts.antt. Assumes nothing.
+-- Their laws: proofs/Digits.antt, proofs/Puts.antt, proofs/Chains.antt. Assumes nothing.
 use Prim.Native.Nat.{ℕ, zero, suc, _+_, _*_, _-_, _/_, _%_}
 use mathlib.Core.Bool.{Bool, _&&_}
 use mathlib.Core.List.{List, [], _∷_, _++_}
