@@ -3,6 +3,7 @@ use mathlib.Core.Path.{_≡_, refl}
 use mathlib.Core.List.{[], _∷_, map}
 use lib.ListN.{replicate}
 use Rattle.lines.specs.Events.{pieces, isEvent, eventLine}
+use Rattle.lines.specs.Split.{linesOf}
 use Rattle.lines.specs.Hex.{malformed, octets, hexValue, hexLine}
 
 -- "7 0 0"; "007 1 999999999"; then malformed: no bytes; two numbers; four; two spaces; a space before; a space behind; ten digits; a letter
@@ -27,3 +28,9 @@ pub hex-cases : map hexLine ([] ∷ (48 ∷ 97 ∷ 70 ∷ 49 ∷ []) ∷ replica
     ≡ octets [] ∷ octets (10 ∷ 241 ∷ []) ∷ octets (replicate 32 255) ∷ malformed ∷ malformed ∷ malformed ∷ []
 unfolding hexValue hexLine
 hex-cases = refl
+
+-- no bytes; a lone newline; "a"; "a", newline; newline, "a"; "a", two newlines, "b"
+pub line-cases : map linesOf ([] ∷ (10 ∷ []) ∷ (97 ∷ []) ∷ (97 ∷ 10 ∷ []) ∷ (10 ∷ 97 ∷ []) ∷ (97 ∷ 10 ∷ 10 ∷ 98 ∷ []) ∷ [])
+    ≡ [] ∷ ([] ∷ []) ∷ ((97 ∷ []) ∷ []) ∷ ((97 ∷ []) ∷ []) ∷ ([] ∷ (97 ∷ []) ∷ []) ∷ ((97 ∷ []) ∷ [] ∷ (98 ∷ []) ∷ []) ∷ []
+unfolding linesOf
+line-cases = refl

@@ -2,3 +2,4 @@ pub mod Events
 pub mod Steps
 pub mod Hex
 pub mod HexSteps
+pub mod Split
