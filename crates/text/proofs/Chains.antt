@@ -82,3 +82,10 @@ module _ (xs ys : List ℕ) (from : ℕ) (old : List ℕ) (at : ℕ) (out : List
             size = length-put ys at out ∙ c .size;
             output = λ i. absurd (omega (arith, c .size, over));
           }
+
+-- the same with what a call promises of its answer and of the output
+pub chain-next : {xs : List ℕ} {from : ℕ} {old : List ℕ} {at : ℕ} {out : List ℕ} (ys : List ℕ) {r : ℕ} {next : List ℕ} → Chain xs from old at out
+    → (r ≡ placeAfter ys at out) × (next ≡ putAt ys at out) → Chain (xs ++ ys) from old r next
+chain-next {xs} {from} {old} {at} {out} ys c p =
+    let w = chain-more xs ys from old at out c in
+    record { place = p .0 ∙ w .place; size = ap length (p .1) ∙ w .size; output = λ l. p .1 ∙ w .output (omega (arith, p .0)) }
