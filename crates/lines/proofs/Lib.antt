@@ -1,0 +1,5 @@
+pub mod Events
+pub mod Hex
+pub mod Split
+mod HexReads
+pub mod Cases

@@ -1,0 +1,236 @@
+// Lines of text, read byte by byte: a line may be of any length, and its bytes arrive in pieces.
+ghost use mathlib.Core.Path.{_≡_};
+ghost use Prim.Native.Nat.{_≤_, _<_};
+ghost use Rattle.lines.specs.Steps.{start, spoilt, withDigit, nextNumber, readOn, lineEnd, lineNumbers};
+ghost use Rattle.lines.specs.Hex.{hexValue};
+ghost use Rattle.lines.specs.HexSteps.{hexStart, notHex, withHex, readHex, hexEnd};
+
+// How far an event line has been read.
+pub struct Reading {
+    // the number under way, from 0; above 2 the line is malformed, whatever follows
+    pub place: u8,
+    // its digits so far, and what they make
+    pub digits: u8,
+    pub value: u32,
+    // the numbers before it
+    pub first: u32,
+    pub second: u32,
+}
+
+pub enum Line {
+    Malformed,
+    // kind, a, b
+    Event(u32, u32, u32),
+}
+
+// A line of which no byte is read.
+pub fn begin() -> Reading
+    ensures { λ r. ⌜ r ≡ start ⌝ }
+{
+    Reading {
+        place: 0,
+        digits: 0, // an empty number is none
+        value: 0,
+        first: 0,
+        second: 0,
+    }
+}
+
+fn malformed() -> Reading
+    ensures { λ r. ⌜ r ≡ spoilt ⌝ }
+{
+    Reading {
+        place: 3,
+        digits: 0,
+        value: 0,
+        first: 0,
+        second: 0,
+    }
+}
+
+fn with_digit(r: Reading, digit: u8) -> Reading
+    requires { ⌜ digit ≤ 9 ⌝ }
+    ensures { λ n. ⌜ n ≡ withDigit r digit ⌝ }
+{
+    if 9 <= r.digits {
+        return malformed();
+    }
+    // fewer than nine digits make no such number; a reading that was not made here may hold one
+    if 100_000_000 <= r.value {
+        return malformed();
+    }
+    Reading {
+        place: r.place,
+        digits: r.digits + 1,
+        value: r.value * 10 + (digit as u32),
+        first: r.first,
+        second: r.second,
+    }
+}
+
+fn next_number(r: Reading) -> Reading
+    ensures { λ n. ⌜ n ≡ nextNumber r ⌝ }
+{
+    if r.digits == 0 {
+        return malformed();
+    }
+    if r.place == 0 {
+        return Reading {
+            place: 1,
+            digits: 0,
+            value: 0,
+            first: r.value,
+            second: 0,
+        };
+    }
+    if r.place == 1 {
+        return Reading {
+            place: 2,
+            digits: 0,
+            value: 0,
+            first: r.first,
+            second: r.value,
+        };
+    }
+    malformed()
+}
+
+// One byte more of the line; its newline is not one of them.
+pub fn read_on(r: Reading, byte: u8) -> Reading
+    ensures { λ n. ⌜ n ≡ readOn r byte ⌝ }
+{
+    if byte == 32 {
+        return next_number(r);
+    }
+    if byte < 48 {
+        return malformed();
+    }
+    if 57 < byte {
+        return malformed();
+    }
+    with_digit(r, byte - 48)
+}
+
+// What a line says that ends here.
+pub fn line_end(r: Reading) -> Line
+    ensures { λ l. ⌜ lineNumbers l ≡ lineEnd r ⌝ }
+{
+    if r.digits == 0 {
+        return Line::Malformed;
+    }
+    if r.place == 2 {
+        return Line::Event(r.first, r.second, r.value);
+    }
+    Line::Malformed
+}
+
+// How far a line of hexadecimal digits has been read.
+pub struct HexReading {
+    // digits so far; above 64 the line is malformed, whatever follows
+    pub count: usize,
+    // the digit that waits for the second of its pair
+    pub high: u8,
+    // a byte for each pair
+    pub bytes: [u8; 32],
+}
+
+pub enum HexLine {
+    NotHex,
+    // so many bytes, at the front of the reading's room
+    Bytes(usize),
+}
+
+// A hexadecimal line of which no byte is read.
+pub fn begin_hex() -> HexReading
+    ensures { λ r. ⌜ r ≡ hexStart ⌝ }
+{
+    let bytes = [0u8; 32];
+    HexReading {
+        count: 0,
+        high: 0,
+        bytes,
+    }
+}
+
+fn hex_value(byte: u8) -> u8
+    ensures { λ r. ⌜ r ≡ hexValue byte ⌝ }
+{
+    if byte < 48 {
+        return 16;
+    }
+    if byte <= 57 {
+        return byte - 48;
+    }
+    if byte < 65 {
+        return 16;
+    }
+    if byte <= 70 {
+        return byte - 55;
+    }
+    if byte < 97 {
+        return 16;
+    }
+    if byte <= 102 {
+        return byte - 87;
+    }
+    16
+}
+
+fn not_hex(r: HexReading) -> HexReading
+    ensures { λ n. ⌜ n ≡ notHex r ⌝ }
+{
+    let bytes = r.bytes;
+    HexReading {
+        count: 65,
+        high: 0,
+        bytes,
+    }
+}
+
+fn with_hex(r: HexReading, digit: u8) -> HexReading
+    requires { ⌜ (digit < 16) × (r .count < 64) ⌝ }
+    ensures { λ n. ⌜ n ≡ withHex r digit ⌝ }
+{
+    let mut bytes = r.bytes;
+    if r.count % 2 == 0 {
+        return HexReading {
+            count: r.count + 1,
+            high: digit,
+            bytes,
+        };
+    }
+    let at = r.count / 2;
+    bytes[at] = r.high % 16 * 16 + digit;
+    HexReading {
+        count: r.count + 1,
+        high: 0,
+        bytes,
+    }
+}
+
+// One byte more of a hexadecimal line; its newline is not one of them.
+pub fn read_hex(r: HexReading, byte: u8) -> HexReading
+    ensures { λ n. ⌜ n ≡ readHex r byte ⌝ }
+{
+    let digit = hex_value(byte);
+    if 16 <= digit {
+        return not_hex(r);
+    }
+    if 64 <= r.count {
+        return not_hex(r);
+    }
+    with_hex(r, digit)
+}
+
+// What a hexadecimal line says that ends here.
+pub fn hex_end(r: HexReading) -> HexLine
+    ensures { λ l. ⌜ l ≡ hexEnd r ⌝ }
+{
+    if 64 < r.count {
+        return HexLine::NotHex;
+    }
+    if r.count % 2 == 0 {
+        return HexLine::Bytes(r.count / 2);
+    }
+    HexLine::NotHex
+}

@@ -1,0 +1,70 @@
+// Text into lent output: each function puts its text at a place and answers the place behind it. Where the text does not fit,
+// nothing is touched and the answer is one beyond the output's end. Nothing fits there, so a chain of puts needs one test, at its end.
+ghost use mathlib.Core.Path.{_≡_};
+ghost use Prim.Native.Nat.{_≤_, _<_};
+ghost use lib.ListN.{length, drop};
+ghost use Rattle.text.specs.Text.{digits, hexDigit, hexPair, putAt, placeAfter};
+
+// A word as it stands.
+pub fn put_word(out: &mut [u8], at: usize, word: &[u8]) -> usize
+    ensures place { λ r. ⌜ r ≡ placeAfter (now (word .entry)) at (now (out .entry)) ⌝ }
+    ensures output { λ r. ⌜ now (out .exit) ≡ putAt (now (word .entry)) at (now (out .entry)) ⌝ }
+{
+    let n = word.len();
+    if out.len() < at {
+        return out.len() + 1;
+    }
+    if out.len() - at < n {
+        return out.len() + 1;
+    }
+    let mut i: usize = 0;
+    while i < n {
+        out[at + i] = word[i];
+        i += 1;
+    }
+    at + n
+}
+
+fn hex_digit(n: u8) -> u8
+    requires { ⌜ n < 16 ⌝ }
+    ensures { λ r. ⌜ r ≡ hexDigit n ⌝ }
+{
+    if n < 10 { 48 + n } else { 55 + n }
+}
+
+// A byte as two hexadecimal digits, upper case.
+pub fn put_hex(out: &mut [u8], at: usize, byte: u8) -> usize
+    ensures place { λ r. ⌜ r ≡ placeAfter (hexPair byte) at (now (out .entry)) ⌝ }
+    ensures output { λ r. ⌜ now (out .exit) ≡ putAt (hexPair byte) at (now (out .entry)) ⌝ }
+{
+    let pair = [hex_digit(byte / 16), hex_digit(byte % 16)];
+    put_word(out, at, &pair)
+}
+
+// The digits of n at the end of the room, and where they start: the last digit is known first.
+fn spell(room: &mut [u8], n: u64) -> usize
+    requires { ⌜ length (now room) ≡ 20 ⌝ }
+    ensures start { λ r. ⌜ r ≤ 20 ⌝ }
+    ensures digits { λ r. ⌜ drop r (now (room .exit)) ≡ digits n ⌝ }
+{
+    let mut m = n;
+    let mut i: usize = 19;
+    while 10 <= m {
+        room[i] = 48 + (m % 10) as u8;
+        m = m / 10;
+        i -= 1;
+    }
+    room[i] = 48 + m as u8;
+    i
+}
+
+// A number in decimal.
+pub fn put_number(out: &mut [u8], at: usize, n: u64) -> usize
+    ensures place { λ r. ⌜ r ≡ placeAfter (digits n) at (now (out .entry)) ⌝ }
+    ensures output { λ r. ⌜ now (out .exit) ≡ putAt (digits n) at (now (out .entry)) ⌝ }
+{
+    // no 64-bit number has more digits
+    let mut room = [0u8; 20];
+    let start = spell(&mut room, n);
+    put_word(out, at, &room[start..])
+}
