@@ -58,8 +58,8 @@ module _ (links : ℕ) (counters : List ℕ) (k : ℕ) (size : length counters �
 
 -- ---- what an act raises
 module _ (kind c : ℕ) where
-  pub raised-at : (b : Bool) → kind ≡ 5 → even c ≡ b → bit b ≡ (if eqb kind 5 then bit (even c) else 0)
-  raised-at b p q = ap bit (sym q) ∙ ap (λ (x : Bool). if x then bit (even c) else 0) (sym (eq-eqb kind 5 p))
+  pub raised-at : (own : ℕ) (r b : Bool) → own ≡ c → r ≡ even own → r ≡ b → kind ≡ 5 → bit b ≡ (if eqb kind 5 then bit (even c) else 0)
+  raised-at own r b p q e f = ap bit (sym e ∙ q ∙ ap (λ (n : ℕ). even n) p) ∙ ap (λ (x : Bool). if x then bit (even c) else 0) (sym (eq-eqb kind 5 f))
 
   pub raised-not : (kind ≡ 5 → ⊥) → 0 ≡ (if eqb kind 5 then bit (even c) else 0)
   raised-not p = ap (λ (x : Bool). if x then bit (even c) else 0) (sym (ne-eqb kind 5 p))

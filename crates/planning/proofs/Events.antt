@@ -36,11 +36,6 @@ module _ (N : Network) (flying a b s : ℕ) (l : Letter) (h : Holding) where
   unfolding refusalIn
   is-there x e = ap (λ (t : Bool). if not t then 6 else (if not (allowedIn x b h) then 7 else (if overIn N s x l h then 8 else 0))) e
 
--- the code's number, 8 or another
-pub not-eight : (b : Bool) (v : ℕ) → v ≡ (if b then 8 else 0) → (v ≡ 8 → ⊥) → b ≡ false
-not-eight true v p q = absurd (q p)
-not-eight false v p q = refl
-
 pub no-over : (b : Bool) → b ≡ false → _≡_ {A = ℕ} (if b then 8 else 0) 0
 no-over b e = ap (λ (x : Bool). if x then 8 else 0) e
 
@@ -56,5 +51,5 @@ module _ (net : Net) (flying a b s : ℕ) (l : Letter) (st : Station) (kind : �
       (subst⁻¹ (λ (n : ℕ). PlansBy n net x b s l st r) (is-there (networkOf net) flying a b s l h x (ap (λ (y : Sort). thereAs y (networkOf net) flying a b) (sym e) ∙ sym u ∙ not-false t v)) p)
 
   -- a loss changes nothing
-  pub loss-plans : (r : Plan) → Fit (st .marks) → r ≡ lossOf (l .body) st → PlansBy 0 net loss b s l st r
+  pub loss-plans : (r : Plan) → Fit (st .marks) → r ≡ lossOf l st → PlansBy 0 net loss b s l st r
   loss-plans r f e = does net s 0 st st (unchanged h) _ 0 1 (silentOf st) (does-same net s st (unchanged h) (st .counters) f refl refl) _ 0 1 r e refl refl refl refl

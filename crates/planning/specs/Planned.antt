@@ -6,7 +6,6 @@ use mathlib.Core.List.{[]}
 use lib.Dec.{eqb, ltb}
 use Rattle.lists.specs.Lists.{if_then_else_}
 use Rattle.lists.specs.Words.{bit}
-use Rattle.net.specs.declared.Body.{Body}
 use Rattle.net.specs.declared.Letter.{Letter}
 use Rattle.net.specs.declared.Net.{Net}
 use Rattle.net.specs.Values.{networkOf}
@@ -50,8 +49,8 @@ acceptedOf q x y z = record { answer = 0; station = q .station; send = q .send; 
 abbrev pub silentOf : Station → Acted
 silentOf st = record { station = st; send = silent (st .counters) }
 
-abbrev pub lossOf : Body → Station → Plan
-lossOf b st = acceptedOf (silentOf st) (bit (isNotice b)) 0 1
+abbrev pub lossOf : Letter → Station → Plan
+lossOf l st = acceptedOf (silentOf st) (bit (isNotice (l .body))) 0 1
 
 -- the station after the acts that send nothing, by the kind's number
 abbrev pub turnedOf : Net → ℕ → ℕ → ℕ → Station → Station
@@ -81,19 +80,15 @@ ActPlans net k s b st r =
 abbrev pub LetterPlans : Net → ℕ → Letter → Station → Plan → Type 0
 LetterPlans net s l st r = PlansBy (if overIn (networkOf net) s delivery l (holdingOf net st) then 8 else 0) net delivery 0 s l st r
 
--- ---- the receiver's answer to a letter: its number, the letters dropped, the counters raised where the link's own is this
-abbrev pub numberSaid : Heard → ℕ
-numberSaid Gone = 0
-numberSaid Nothing = 0
-numberSaid TooHigh = 8
-numberSaid (Does e) = 0
+-- ---- by the receiver's answer to a letter
+-- what becomes of it: 8 where it is refused, 1 where it is dropped, else 0
+abbrev pub fateSaid : Heard → ℕ
+fateSaid Gone = 1
+fateSaid Nothing = 0
+fateSaid TooHigh = 8
+fateSaid (Does e) = 0
 
-abbrev pub droppedSaid : Heard → ℕ
-droppedSaid Gone = 1
-droppedSaid Nothing = 0
-droppedSaid TooHigh = 0
-droppedSaid (Does e) = 0
-
+-- the counters raised, where the link's own is this
 abbrev pub raisedEffect : Effect → ℕ → ℕ
 raisedEffect Asks own = 0
 raisedEffect (Heals to) own = bit (ltb own to)

@@ -23,9 +23,6 @@ returns c =
     let a = c .before .before .before .args in
     refuses _ _ _ _ _ _ _ _ _ 7 refl _ (c .refused .ensures) (by-seven _ _ (allowed-is (a .net) (a .me) (a .b) (a .st) (a .kind) _ _ (c .before .before .allows .ensures) (not-true _ (c .before .if1 .taken))))
 
-counter-at-requires : tie.Need-counter-at-requires
-counter-at-requires c κs = search needs
-
 raised-by-requires : tie.Need-raised-by-requires
 raised-by-requires c κs = search needs
 
@@ -37,9 +34,9 @@ accepted-requires c κs = search needs
 
 returns-2 : tie.Need-returns-2
 returns-2 c =
-    let a = c .before .before .before .before .before .before .before .args in
-    does _ _ _ _ _ _ _ _ _ _ (c .before .acted .ensures) _ _ _ _ (c .accepted .ensures) (by-seven _ _ (allowed-is (a .net) (a .me) (a .b) (a .st) (a .kind) _ _ (c .before .before .before .before .before .before .allows .ensures) (not-false _ (c .before .before .before .before .before .if1 .left)))) refl
-    (raised-is (a .net) (a .me) (a .b) (a .st) (a .kind) _ _ (c .before .before .before .counter-at .ensures) (c .before .before .raised-by .ensures)) refl
+    let a = c .before .before .before .before .before .before .args in
+    does _ _ _ _ _ _ _ _ _ _ (c .before .acted .ensures) _ _ _ _ (c .accepted .ensures) (by-seven _ _ (allowed-is (a .net) (a .me) (a .b) (a .st) (a .kind) _ _ (c .before .before .before .before .before .allows .ensures) (not-false _ (c .before .before .before .before .if1 .left)))) refl
+    (raised-is (a .net) (a .me) (a .b) (a .st) (a .kind) _ (c .before .before .raised-by .ensures)) refl
 
 pub plan-act-spec : {M : Type 1} → statement M
 plan-act-spec =
@@ -48,7 +45,6 @@ plan-act-spec =
     allows-requires
     refused-requires
     returns
-    counter-at-requires
     raised-by-requires
     acted-requires
     accepted-requires
