@@ -21,17 +21,17 @@ use Rattle.station.specs.Values.{Acts}
 use Rattle.station.proofs.Sent.{sent-nothing}
 use Rattle.sending.specs.Sent.{silent}
 use Rattle.planning.specs.declared.Plan.{Plan}
-use Rattle.planning.specs.Planned.{Planned, refusalOf, acceptedOf}
+use Rattle.planning.specs.Planned.{Planned, staysOf, acceptedOf}
 
 module _ (net : Net) (s number : ℕ) (old room : Station) (d : Done) (x y z : ℕ) where
   abbrev P : ℕ → Plan → Type 0
   P n r = Planned net s n old room d x y z r
 
   -- a refusal, whatever would have been done
-  pub refuses : (n : ℕ) → eqb n 0 ≡ false → (r : Plan) → r ≡ refusalOf n old → number ≡ n → P number r
+  pub refuses : (n : ℕ) → eqb n 0 ≡ false → (r : Plan) → r ≡ staysOf n 0 0 old → number ≡ n → P number r
   refuses n e r p q = subst⁻¹ (λ (m : ℕ). P m r) q (subst⁻¹ (P n) p whole)
     where
-      whole : P n (refusalOf n old)
+      whole : P n (staysOf n 0 0 old)
       whole = record {
         answer = refl;
         station = simp e;

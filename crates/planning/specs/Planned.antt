@@ -18,7 +18,7 @@ use Rattle.hearing.specs.declared.Heard.{Heard}
 use Rattle.hearing.specs.declared.Heard.the-variants.{Gone, Nothing, TooHigh, Does}
 use Rattle.hearing.specs.declared.Effect.{Effect}
 use Rattle.hearing.specs.declared.Effect.the-variants.{Asks, Heals, Levels, Equal, Takes}
-use Rattle.world.specs.World.{Sort, act, delivery, done, settledAs, isNotice}
+use Rattle.world.specs.World.{Sort, act, delivery, done, settledAs}
 use Rattle.world.specs.Steps.{raisedAct}
 use Rattle.planning.specs.declared.Plan.{Plan}
 use Rattle.planning.specs.Plan.{overIn, doneIn, raisedIn, droppedIn, refusalIn, roomAs}
@@ -37,9 +37,9 @@ pub record Planned (net : Net) (s number : ℕ) (old room : Station) (d : Done) 
   pub raised : r .raised ≡ (if eqb number 0 then y else 0)
   pub dropped : r .dropped ≡ (if eqb number 0 then z else 0)
 
--- a plan that refuses
-abbrev pub refusalOf : ℕ → Station → Plan
-refusalOf number st = record { answer = number; station = st; send = silent (st .counters); settled = 0; raised = 0; dropped = 0 }
+-- the station stays as it was: refused, or only a letter dropped
+abbrev pub staysOf : ℕ → ℕ → ℕ → Station → Plan
+staysOf number x z st = record { answer = number; station = st; send = silent (st .counters); settled = x; raised = 0; dropped = z }
 
 -- what was done with the tally's three numbers
 abbrev pub acceptedOf : Acted → ℕ → ℕ → ℕ → Plan
@@ -48,9 +48,6 @@ acceptedOf q x y z = record { answer = 0; station = q .station; send = q .send; 
 -- nothing sent
 abbrev pub silentOf : Station → Acted
 silentOf st = record { station = st; send = silent (st .counters) }
-
-abbrev pub lossOf : Letter → Station → Plan
-lossOf l st = acceptedOf (silentOf st) (bit (isNotice (l .body))) 0 1
 
 -- the station after the acts that send nothing, by the kind's number
 abbrev pub turnedOf : Net → ℕ → ℕ → ℕ → Station → Station

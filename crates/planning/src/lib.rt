@@ -14,7 +14,7 @@ ghost use Rattle.station.specs.Acts.{kindOf};
 ghost use Rattle.station.specs.Values.{holdingOf, Acts};
 ghost use Rattle.world.specs.World.{sortOf, act, done, isNotice};
 ghost use Rattle.planning.specs.Plan.{concernedAs, linkThere, thereAs, roomAs};
-ghost use Rattle.planning.specs.Planned.{inRoom, Plans, ActPlans, LetterPlans, refusalOf, silentOf, turnedOf, acceptedOf, lossOf, fateSaid, raisedEffect, raisedSaid};
+ghost use Rattle.planning.specs.Planned.{inRoom, Plans, ActPlans, LetterPlans, staysOf, silentOf, turnedOf, acceptedOf, fateSaid, raisedEffect, raisedSaid};
 use counters::Counters;
 use hearing::Effect;
 use hearing::Heard;
@@ -137,18 +137,18 @@ fn there(net: Net, flying: u16, kind: u32, a: u32, b: u32) -> bool
 
 // ---- plans
 
-// A refusal hands back the station that it was given.
-fn refused(number: u8, st: Station) -> Plan
-    ensures { λ r. ⌜ r ≡ refusalOf number st ⌝ }
+// The station stays as it was given, and nothing is sent: a refusal, or a letter that is lost.
+fn stays(number: u8, settled: u64, dropped: u64, st: Station) -> Plan
+    ensures { λ r. ⌜ r ≡ staysOf number settled dropped st ⌝ }
 {
     let told = st.counters;
     Plan {
         answer: number,
         station: st,
         send: sending::silence(told),
-        settled: 0,
+        settled,
         raised: 0,
-        dropped: 0,
+        dropped,
     }
 }
 
@@ -240,7 +240,7 @@ fn plan_act(net: Net, kind: u8, me: u8, b: u8, st: Station) -> Plan
 {
     let condition = st.condition;
     if !station::allows(net.links, kind, b, condition, st.marks) {
-        return refused(7, st);
+        return stays(7, 0, 0, st);
     }
     let counters = st.counters;
     let raised = raised_by(net.links, kind, counters, b);
@@ -311,7 +311,7 @@ fn plan_letter(net: Net, me: u8, letter: Letter, st: Station) -> Plan
     let said = hearing::hearing(net, me, letter, st);
     let fate = fate_of(said);
     if fate == 8 {
-        return refused(8, st);
+        return stays(8, 0, 0, st);
     }
     let settled = settled_by(letter);
     let counters = st.counters;
@@ -323,13 +323,6 @@ fn plan_letter(net: Net, me: u8, letter: Letter, st: Station) -> Plan
         raised,
         dropped,
     )
-}
-
-// Event 8: the letter is dropped, and the station stays as it is.
-fn plan_loss(letter: Letter, st: Station) -> Plan
-    ensures { λ r. ⌜ r ≡ lossOf letter st ⌝ }
-{
-    accepted(silently(st), settled_by(letter), 0, 1)
 }
 
 // What the event comes to at the station st, whose number is me.
@@ -346,13 +339,13 @@ pub fn plan_event(
     ensures { λ r. ⌜ Plans net flying (sortOf kind) a b me letter st r ⌝ }
 {
     if !there(net, flying, kind, a, b) {
-        return refused(6, st);
+        return stays(6, 0, 0, st);
     }
     if kind == 7 {
         return plan_letter(net, me, letter, st);
     }
     if kind == 8 {
-        return plan_loss(letter, st);
+        return stays(0, settled_by(letter), 1, st);
     }
     plan_act(net, kind as u8, me, b as u8, st)
 }

@@ -15,13 +15,13 @@ by-seven b v e = ap (λ (x : Bool). if not x then 7 else 0) e
 allows-requires : tie.Need-allows-requires
 allows-requires c κs = search needs
 
-refused-requires : tie.Need-refused-requires
-refused-requires c κs = search needs
+stays-requires : tie.Need-stays-requires
+stays-requires c κs = search needs
 
 returns : tie.Need-returns
 returns c =
     let a = c .before .before .before .args in
-    refuses _ _ _ _ _ _ _ _ _ 7 refl _ (c .refused .ensures) (by-seven _ _ (allowed-is (a .net) (a .me) (a .b) (a .st) (a .kind) _ _ (c .before .before .allows .ensures) (not-true _ (c .before .if1 .taken))))
+    refuses _ _ _ _ _ _ _ _ _ 7 refl _ (c .stays .ensures) (by-seven _ _ (allowed-is (a .net) (a .me) (a .b) (a .st) (a .kind) _ _ (c .before .before .allows .ensures) (not-true _ (c .before .if1 .taken))))
 
 raised-by-requires : tie.Need-raised-by-requires
 raised-by-requires c κs = search needs
@@ -43,7 +43,7 @@ plan-act-spec =
     tie.close
     (tie.spec
     allows-requires
-    refused-requires
+    stays-requires
     returns
     raised-by-requires
     acted-requires

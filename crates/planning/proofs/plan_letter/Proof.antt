@@ -17,13 +17,13 @@ hearing-requires c κs = search needs
 fate-of-requires : tie.Need-fate-of-requires
 fate-of-requires c κs = search needs
 
-refused-requires : tie.Need-refused-requires
-refused-requires c κs = search needs
+stays-requires : tie.Need-stays-requires
+stays-requires c κs = search needs
 
 returns : tie.Need-returns
 returns c =
     let a = c .before .before .before .before .args in
-    refuses _ _ _ _ _ _ _ _ _ 8 refl _ (c .refused .ensures)
+    refuses _ _ _ _ _ _ _ _ _ 8 refl _ (c .stays .ensures)
     (over-said (networkOf (a .net)) (a .me) (a .letter) (holdingOf (a .net) (a .st)) (c .before .before .before .hearing .result) _ (c .before .before .before .hearing .ensures) (c .before .before .fate-of .ensures) (c .before .if1 .taken))
 
 settled-by-requires : tie.Need-settled-by-requires
@@ -60,7 +60,7 @@ plan-letter-spec =
     (tie.spec
     hearing-requires
     fate-of-requires
-    refused-requires
+    stays-requires
     returns
     settled-by-requires
     counter-at-requires
