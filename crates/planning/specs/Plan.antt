@@ -13,7 +13,7 @@ use Rattle.net.specs.Network.{Network, isEnd}
 use Rattle.net.specs.Network as Net
 use Rattle.station.specs.declared.Station.{Station}
 use Rattle.station.specs.Holding.{Holding}
-use Rattle.station.specs.Acts.{Done, unchanged, received, hears, bodyOver, Kind, start, stop, recovery, intervalEnd, timeoutEnd, quietEnd, other, allowedAs}
+use Rattle.station.specs.Acts.{Done, unchanged, received, hears, bodyOver, start, stop, recovery, intervalEnd, timeoutEnd, quietEnd, other, allowedAs}
 use Rattle.station.specs.Values.{unmarked, blank}
 use Rattle.world.specs.World.{Sort, act, delivery, loss, done}
 use Rattle.world.specs.Steps.{raisedAct, raisedBody}

@@ -1,4 +1,3 @@
-use Prim.Native.Nat.{ℕ}
 use mathlib.Core.Path.{refl, ap, _∙_}
 use Rattle.net.specs.Values.{networkOf}
 use Rattle.station.specs.Values.{holdingOf}
