@@ -154,6 +154,13 @@ module _ (w : World) (e : Event) where
   unfolding refusalIn
   number-none s l h p = ap (λ (t : Bool). byThree t (allowedIn (sortOf (e .kind)) (e .b) h) (overIn (w .net) s (sortOf (e .kind)) l h)) (there-is ∙ p)
 
+  pub zero-there : number ≡ 0 → exists w e ≡ true
+  zero-there z = go (exists w e) refl
+    where
+      go : (b : Bool) → exists w e ≡ b → b ≡ true
+      go true p = refl
+      go false p = absurd (let q : _≡_ {A = ℕ} 6 0 = sym (number-none place meant held p) ∙ z in omega arith)
+
   -- so it is enough to have looked at the right one where the event is there
   pub number-at : (s : ℕ) (l : Letter) (h : Holding) → (exists w e ≡ true → (s ≡ place) × ((l ≡ meant) × (h ≡ held)))
       → refusalIn (sortOf (e .kind)) (w .net) (length (w .letters)) (e .a) (e .b) s l h ≡ number

@@ -94,3 +94,9 @@ abbrev pub leftAs : Sort → ℕ → List Letter → List Letter
 leftAs (act k) a xs = xs
 leftAs delivery a xs = without a xs
 leftAs loss a xs = without a xs
+
+-- whether an event takes a letter off: only then it matters which letter is meant
+abbrev pub takesAs : Sort → Bool
+takesAs (act k) = false
+takesAs delivery = true
+takesAs loss = true
