@@ -316,6 +316,7 @@ fn plan_letter(net: Net, me: u8, letter: Letter, st: Station) -> Plan
     let settled = settled_by(letter);
     let counters = st.counters;
     let raised = raised_said(said, counter_at(net.links, counters, letter.link));
+    // not refused: 1 where the letter is dropped, else 0
     let dropped = fate as u64;
     accepted(
         hearing::receive(net, me, letter, st),
