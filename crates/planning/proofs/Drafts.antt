@@ -1,6 +1,6 @@
 -- A plan made of parts, return by return. Assumes nothing.
 use Prim.Native.Nat.{ℕ, _≤_, _<_, min}
-use mathlib.Core.Bool.{Bool, true, false}
+use mathlib.Core.Bool.{Bool, false}
 use mathlib.Core.Path.{_≡_, refl, sym, ap, _∙_, subst⁻¹}
 use mathlib.Core.List.{List}
 use native.Mathlib.Omega.{arith}
@@ -21,17 +21,17 @@ use Rattle.station.specs.Values.{Acts}
 use Rattle.station.proofs.Sent.{sent-nothing}
 use Rattle.sending.specs.Sent.{silent}
 use Rattle.planning.specs.declared.Plan.{Plan}
-use Rattle.planning.specs.Planned.{Planned, refusalOf, acceptedOf}
+use Rattle.planning.specs.Planned.{Planned, staysOf, acceptedOf}
 
 module _ (net : Net) (s number : ℕ) (old room : Station) (d : Done) (x y z : ℕ) where
   abbrev P : ℕ → Plan → Type 0
   P n r = Planned net s n old room d x y z r
 
   -- a refusal, whatever would have been done
-  pub refuses : (n : ℕ) → eqb n 0 ≡ false → (r : Plan) → r ≡ refusalOf n old → number ≡ n → P number r
+  pub refuses : (n : ℕ) → eqb n 0 ≡ false → (r : Plan) → r ≡ staysOf n 0 0 old → number ≡ n → P number r
   refuses n e r p q = subst⁻¹ (λ (m : ℕ). P m r) q (subst⁻¹ (P n) p whole)
     where
-      whole : P n (refusalOf n old)
+      whole : P n (staysOf n 0 0 old)
       whole = record {
         answer = refl;
         station = simp e;
@@ -58,8 +58,8 @@ module _ (links : ℕ) (counters : List ℕ) (k : ℕ) (size : length counters �
 
 -- ---- what an act raises
 module _ (kind c : ℕ) where
-  pub raised-at : (b : Bool) → kind ≡ 5 → even c ≡ b → bit b ≡ (if eqb kind 5 then bit (even c) else 0)
-  raised-at b p q = ap bit (sym q) ∙ ap (λ (x : Bool). if x then bit (even c) else 0) (sym (eq-eqb kind 5 p))
+  pub raised-at : (own : ℕ) (r b : Bool) → own ≡ c → r ≡ even own → r ≡ b → kind ≡ 5 → bit b ≡ (if eqb kind 5 then bit (even c) else 0)
+  raised-at own r b p q e f = ap bit (sym e ∙ q ∙ ap (λ (n : ℕ). even n) p) ∙ ap (λ (x : Bool). if x then bit (even c) else 0) (sym (eq-eqb kind 5 f))
 
   pub raised-not : (kind ≡ 5 → ⊥) → 0 ≡ (if eqb kind 5 then bit (even c) else 0)
   raised-not p = ap (λ (x : Bool). if x then bit (even c) else 0) (sym (ne-eqb kind 5 p))

@@ -2,10 +2,9 @@
 use Prim.Native.Nat.{ℕ}
 use mathlib.Core.Bool.{Bool, true, false, not}
 use mathlib.Core.Path.{_≡_, refl, sym, ap, _∙_, subst⁻¹}
-use mathlib.Core.List.{List}
-use native.Mathlib.Omega.{arith}
 use borrow.Author.Tests.{not-true, not-false}
 use Rattle.lists.specs.Lists.{if_then_else_}
+use Rattle.lists.specs.Words.{bit}
 use Rattle.net.specs.declared.Letter.{Letter}
 use Rattle.net.specs.declared.Net.{Net}
 use Rattle.net.specs.Network.{Network}
@@ -16,10 +15,10 @@ use Rattle.station.specs.Acts.{unchanged}
 use Rattle.station.specs.Values.{holdingOf}
 use Rattle.station.proofs.Laid.{Fit}
 use Rattle.station.proofs.Acting.{does-same}
-use Rattle.world.specs.World.{Sort, loss, sortOf}
+use Rattle.world.specs.World.{Sort, loss, sortOf, isNotice}
 use Rattle.planning.specs.declared.Plan.{Plan}
 use Rattle.planning.specs.Plan.{thereAs, allowedIn, overIn, refusalIn}
-use Rattle.planning.specs.Planned.{PlansBy, Plans, silentOf, lossOf}
+use Rattle.planning.specs.Planned.{PlansBy, Plans, silentOf, staysOf}
 use Rattle.planning.proofs.Drafts.{does}
 
 -- the refusals, once it is known whether the event is there
@@ -36,11 +35,6 @@ module _ (N : Network) (flying a b s : ℕ) (l : Letter) (h : Holding) where
   unfolding refusalIn
   is-there x e = ap (λ (t : Bool). if not t then 6 else (if not (allowedIn x b h) then 7 else (if overIn N s x l h then 8 else 0))) e
 
--- the code's number, 8 or another
-pub not-eight : (b : Bool) (v : ℕ) → v ≡ (if b then 8 else 0) → (v ≡ 8 → ⊥) → b ≡ false
-not-eight true v p q = absurd (q p)
-not-eight false v p q = refl
-
 pub no-over : (b : Bool) → b ≡ false → _≡_ {A = ℕ} (if b then 8 else 0) 0
 no-over b e = ap (λ (x : Bool). if x then 8 else 0) e
 
@@ -56,5 +50,5 @@ module _ (net : Net) (flying a b s : ℕ) (l : Letter) (st : Station) (kind : �
       (subst⁻¹ (λ (n : ℕ). PlansBy n net x b s l st r) (is-there (networkOf net) flying a b s l h x (ap (λ (y : Sort). thereAs y (networkOf net) flying a b) (sym e) ∙ sym u ∙ not-false t v)) p)
 
   -- a loss changes nothing
-  pub loss-plans : (r : Plan) → Fit (st .marks) → r ≡ lossOf (l .body) st → PlansBy 0 net loss b s l st r
-  loss-plans r f e = does net s 0 st st (unchanged h) _ 0 1 (silentOf st) (does-same net s st (unchanged h) (st .counters) f refl refl) _ 0 1 r e refl refl refl refl
+  pub loss-plans : (r : Plan) (n : ℕ) → Fit (st .marks) → r ≡ staysOf 0 n 1 st → n ≡ bit (isNotice (l .body)) → PlansBy 0 net loss b s l st r
+  loss-plans r n f e p = does net s 0 st st (unchanged h) _ 0 1 (silentOf st) (does-same net s st (unchanged h) (st .counters) f refl refl) n 0 1 r e refl p refl refl

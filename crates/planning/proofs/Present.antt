@@ -1,7 +1,7 @@
 -- What the numbers of an event mean, in the order in which the code asks. Assumes nothing.
-use Prim.Native.Nat.{ℕ, zero, suc, _≤_, _<_, min}
+use Prim.Native.Nat.{ℕ, zero, suc, _≤_, _<_}
 use mathlib.Core.Bool.{Bool, true, false, not, _&&_, _||_}
-use mathlib.Core.Path.{_≡_, refl, sym, ap, ap₂, _∙_, subst}
+use mathlib.Core.Path.{_≡_, refl, sym, ap, ap₂, _∙_}
 use native.Mathlib.Decide.{ℕ-discrete}
 use native.Mathlib.Omega.{arith}
 use borrow.Author.Tests.{not-false, eq-eqb, ne-eqb, lt-ltb, le-ltb}
@@ -11,10 +11,10 @@ use Rattle.lists.specs.Lists.{if_then_else_}
 use Rattle.lists.proofs.Tests.{is-T, and-l, and-r}
 use Rattle.net.specs.declared.Letter.{Letter}
 use Rattle.net.specs.declared.Net.{Net}
-use Rattle.net.specs.Network.{Ends, Network, ends, isEnd}
+use Rattle.net.specs.Network.{Network, ends, isEnd}
 use Rattle.net.specs.Network as Net
 use Rattle.net.specs.Values.{networkOf, linkCount}
-use Rattle.net.proofs.ValueLaws.{stations-of, links-of}
+use Rattle.net.proofs.ValueLaws.{links-of}
 use Rattle.station.specs.Acts.{kindOf}
 use Rattle.world.specs.World.{Sort, act, sortOf}
 use Rattle.world.proofs.Sorts.{sort-act, sort-delivery, sort-loss, sort-none}

@@ -1,5 +1,5 @@
--- What the receiver's answer to a letter says of its number, of what is dropped and of what is raised. Assumes nothing.
-use Prim.Native.Nat.{ℕ, zero, suc, _%_, max}
+-- What the receiver's answer to a letter says: whether it is refused or dropped, and the counters raised. Assumes nothing.
+use Prim.Native.Nat.{ℕ, zero, suc, _+_, _%_, max}
 use mathlib.Core.Bool.{Bool, true, false, not, _&&_, _||_}
 use mathlib.Core.Path.{_≡_, refl, sym, ap, _∙_}
 use mathlib.Core.List.{List, [], _∷_}
@@ -23,9 +23,9 @@ use Rattle.hearing.specs.declared.Heard.the-variants.{Gone, Nothing, TooHigh, D
 use Rattle.hearing.specs.declared.Effect.the-variants.{Asks, Heals, Levels, Equal, Takes}
 use Rattle.hearing.specs.Heard.{heardNumbers}
 use Rattle.world.specs.Steps.{raisedBody}
-use Rattle.planning.specs.Planned.{numberSaid, droppedSaid, raisedSaid}
+use Rattle.planning.specs.Planned.{fateSaid, raisedSaid}
 
--- ---- the three as read off the answer's numbers
+-- ---- both as read off the answer's numbers
 -- by the number of what the letter does, and the new counter
 abbrev raisedAt : ℕ → ℕ → ℕ → ℕ
 raisedAt own zero to = 0
@@ -38,17 +38,11 @@ raisedAt own (suc (suc (suc (suc (suc n))))) to = 1
 abbrev raisedList : ℕ → List ℕ → ℕ
 raisedList own l = raisedAt own (getD l 2 0) (getD l 3 0)
 
-number-read : (r : Heard) → numberSaid r ≡ getD (heardNumbers r) 0 0
-number-read Gone = refl
-number-read Nothing = refl
-number-read TooHigh = refl
-number-read (Does e) = refl
-
-dropped-read : (r : Heard) → droppedSaid r ≡ getD (heardNumbers r) 1 0
-dropped-read Gone = refl
-dropped-read Nothing = refl
-dropped-read TooHigh = refl
-dropped-read (Does e) = refl
+fate-read : (r : Heard) → fateSaid r ≡ getD (heardNumbers r) 0 0 + getD (heardNumbers r) 1 0
+fate-read Gone = refl
+fate-read Nothing = refl
+fate-read TooHigh = refl
+fate-read (Does e) = refl
 
 raised-read : (r : Heard) (own : ℕ) → raisedSaid r own ≡ raisedList own (heardNumbers r)
 raised-read Gone own = refl
@@ -89,58 +83,56 @@ module _ (N : Network) (s : ℕ) (x : Letter) (h : Holding) where
   abbrev rest : ℕ → Bool → Bool → Bool → List ℕ
   rest c w a b = if w then (8 ∷ 0 ∷ []) else (if a then (0 ∷ 0 ∷ 2 ∷ healed own c ∷ []) else (if b then (0 ∷ 0 ∷ 4 ∷ []) else (0 ∷ 0 ∷ 3 ∷ healed own c ∷ [])))
 
-  -- ---- the number
-  rest-number : (c : ℕ) (w a b : Bool) → getD (rest c w a b) 0 0 ≡ (if w then 8 else 0)
-  rest-number c true a b = refl
-  rest-number c false true b = refl
-  rest-number c false false true = refl
-  rest-number c false false false = refl
+  -- ---- what becomes of the letter
+  abbrev fateList : List ℕ → ℕ
+  fateList l = getD l 0 0 + getD l 1 0
 
-  body-number : (y : Body) → getD (bodyAnswer N s k y h) 0 0 ≡ (if bodyOver N s k y h then 8 else 0)
-  body-number Request = refl
-  body-number (Reply c) = go (mark h k .testing) ∙ ap (λ (b : Bool). if b then 8 else 0) (sym (over-is c))
+  rest-fate : (c : ℕ) (w a b : Bool) → fateList (rest c w a b) ≡ (if w then 8 else 0)
+  rest-fate c true a b = refl
+  rest-fate c false true b = refl
+  rest-fate c false false true = refl
+  rest-fate c false false false = refl
+
+  body-fate : (y : Body) → fateList (bodyAnswer N s k y h) ≡ (if bodyOver N s k y h then 8 else 0)
+  body-fate Request = refl
+  body-fate (Reply c) = go (mark h k .testing) ∙ ap (λ (b : Bool). if b then 8 else 0) (sym (over-is c))
     where
-      go : (t : Bool) → getD (if t then replyAnswer own c else (0 ∷ 0 ∷ [])) 0 0 ≡ (if t && ltb 65535 (healed own c) then 8 else 0)
-      go true = rest-number c (ltb 65535 (healed own c)) (odd own || odd c) (eqb own c)
+      go : (t : Bool) → fateList (if t then replyAnswer own c else (0 ∷ 0 ∷ [])) ≡ (if t && ltb 65535 (healed own c) then 8 else 0)
+      go true = rest-fate c (ltb 65535 (healed own c)) (odd own || odd c) (eqb own c)
       go false = refl
-  body-number (Notice j c) = go (takes N s j c h)
+  body-fate (Notice j c) = go (takes N s j c h)
     where
-      go : (b : Bool) → getD (if b then (0 ∷ 0 ∷ 5 ∷ j ∷ c ∷ []) else (0 ∷ 0 ∷ [])) 0 0 ≡ 0
+      go : (b : Bool) → fateList (if b then (0 ∷ 0 ∷ 5 ∷ j ∷ c ∷ []) else (0 ∷ 0 ∷ [])) ≡ 0
       go true = refl
       go false = refl
 
-  pub number-said : (r : Heard) → heardNumbers r ≡ answer N s x h → numberSaid r ≡ (if hears N s k h && bodyOver N s k (x .body) h then 8 else 0)
+  -- refused with 8, dropped, or neither
+  fate-said : (r : Heard) → heardNumbers r ≡ answer N s x h → fateSaid r ≡ (if hears N s k h && bodyOver N s k (x .body) h then 8 else bit (not (hears N s k h)))
   unfolding answer
-  number-said r q = number-read r ∙ ap (λ (l : List ℕ). getD l 0 0) q ∙ go (hears N s k h)
+  fate-said r q = fate-read r ∙ ap fateList q ∙ go (hears N s k h)
     where
-      go : (b : Bool) → getD (if b then bodyAnswer N s k (x .body) h else (0 ∷ 1 ∷ [])) 0 0 ≡ (if b && bodyOver N s k (x .body) h then 8 else 0)
-      go true = body-number (x .body)
+      go : (b : Bool) → fateList (if b then bodyAnswer N s k (x .body) h else (0 ∷ 1 ∷ [])) ≡ (if b && bodyOver N s k (x .body) h then 8 else bit (not b))
+      go true = body-fate (x .body)
       go false = refl
 
-  -- ---- dropped
-  body-dropped : (y : Body) → getD (bodyAnswer N s k y h) 1 0 ≡ 0
-  body-dropped Request = refl
-  body-dropped (Reply c) = go (mark h k .testing) (ltb 65535 (healed own c)) (odd own || odd c) (eqb own c)
+  -- by the code's answer
+  pub over-said : (r : Heard) (v : ℕ) → heardNumbers r ≡ answer N s x h → v ≡ fateSaid r → v ≡ 8 → _≡_ {A = ℕ} (if hears N s k h && bodyOver N s k (x .body) h then 8 else 0) 8
+  over-said r v q p e = go (hears N s k h && bodyOver N s k (x .body) h) (hears N s k h) (sym e ∙ p ∙ fate-said r q)
     where
-      go : (t w a b : Bool) → getD (if t then rest c w a b else (0 ∷ 0 ∷ [])) 1 0 ≡ 0
-      go true true a b = refl
-      go true false true b = refl
-      go true false false true = refl
-      go true false false false = refl
-      go false w a b = refl
-  body-dropped (Notice j c) = go (takes N s j c h)
-    where
-      go : (b : Bool) → getD (if b then (0 ∷ 0 ∷ 5 ∷ j ∷ c ∷ []) else (0 ∷ 0 ∷ [])) 1 0 ≡ 0
-      go true = refl
-      go false = refl
+      go : (o b : Bool) → 8 ≡ (if o then 8 else bit (not b)) → _≡_ {A = ℕ} (if o then 8 else 0) 8
+      go true b z = refl
+      go false true z = absurd (omega arith)
+      go false false z = absurd (omega arith)
 
-  pub dropped-said : (r : Heard) → heardNumbers r ≡ answer N s x h → droppedSaid r ≡ bit (not (hears N s k h))
-  unfolding answer
-  dropped-said r q = dropped-read r ∙ ap (λ (l : List ℕ). getD l 1 0) q ∙ go (hears N s k h)
+  pub fits-said : (r : Heard) (v : ℕ) → heardNumbers r ≡ answer N s x h → v ≡ fateSaid r → (v ≡ 8 → ⊥) → (hears N s k h && bodyOver N s k (x .body) h) ≡ false
+  fits-said r v q p e = go (hears N s k h && bodyOver N s k (x .body) h) (p ∙ fate-said r q)
     where
-      go : (b : Bool) → getD (if b then bodyAnswer N s k (x .body) h else (0 ∷ 1 ∷ [])) 1 0 ≡ bit (not b)
-      go true = body-dropped (x .body)
-      go false = refl
+      go : (o : Bool) → v ≡ (if o then 8 else bit (not (hears N s k h))) → o ≡ false
+      go true z = absurd (e z)
+      go false z = refl
+
+  pub dropped-said : (r : Heard) (v : ℕ) → heardNumbers r ≡ answer N s x h → v ≡ fateSaid r → (hears N s k h && bodyOver N s k (x .body) h) ≡ false → v ≡ bit (not (hears N s k h))
+  dropped-said r v q p e = p ∙ fate-said r q ∙ ap (λ (o : Bool). if o then 8 else bit (not (hears N s k h))) e
 
   -- ---- raised, where the number is 0
   rest-raised : (c : ℕ) (w a b : Bool) → odd own || odd c ≡ a → eqb own c ≡ b → w ≡ false → raisedList own (rest c w a b) ≡ bit (ltb own (healed own c))

@@ -88,5 +88,5 @@ module _ (net : Net) (s b : ℕ) (st : Station) where
   raised-kind (suc (suc (suc (suc (suc (suc (suc n))))))) =
       ap (λ (x : Bool). if x then bit (even (counter h b)) else 0) (ne-eqb (suc (suc (suc (suc (suc (suc (suc n))))))) 5 (λ e. omega arith))
 
-  pub raised-is : (kind c r : ℕ) → c ≡ counterIn (take (linkCount net) (st .counters)) b → r ≡ (if eqb kind 5 then bit (even c) else 0) → r ≡ raisedAct (kindOf kind) b h
-  raised-is kind c r p q = q ∙ ap (λ (n : ℕ). if eqb kind 5 then bit (even n) else 0) (p ∙ counter-is b) ∙ raised-kind kind
+  pub raised-is : (kind r : ℕ) → r ≡ (if eqb kind 5 then bit (even (counterIn (take (linkCount net) (st .counters)) b)) else 0) → r ≡ raisedAct (kindOf kind) b h
+  raised-is kind r q = q ∙ ap (λ (n : ℕ). if eqb kind 5 then bit (even n) else 0) (counter-is b) ∙ raised-kind kind

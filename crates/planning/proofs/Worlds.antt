@@ -2,7 +2,7 @@
 -- tally's three numbers. Assumes nothing.
 use Prim.Native.Nat.{ℕ, _≤_, _<_}
 use mathlib.Core.Bool.{Bool, true, false, not, _&&_}
-use mathlib.Core.Path.{_≡_, refl, sym, ap, ap₂, _∙_, subst⁻¹}
+use mathlib.Core.Path.{_≡_, refl, sym, ap, ap₂, _∙_}
 use mathlib.Core.List.{List, []}
 use native.Mathlib.Omega.{arith}
 use borrow.Author.Tests.{eq-eqb, ne-eqb, lt-ltb}
@@ -11,12 +11,12 @@ use lib.ListN.{length}
 use lib.Seq.{set-getD}
 use Rattle.lists.specs.Lists.{if_then_else_}
 use Rattle.lists.specs.Places.{without}
-use Rattle.lists.proofs.Tests.{T-is, T-not-is, and-l, and-r}
+use Rattle.lists.proofs.Tests.{and-l, and-r}
 use Rattle.net.specs.declared.Letter.{Letter}
 use Rattle.net.specs.Network.{Network, sheetHolds}
 use Rattle.station.specs.Holding.{Holding}
 use Rattle.station.specs.Acts.{Done, Kind, start, stop, recovery, intervalEnd, timeoutEnd, quietEnd, other}
-use Rattle.world.specs.World.{World, Event, Sort, act, delivery, loss, sortOf, nobody, holdingAt, letterAt, heard, isStation, existsAs, exists, allowedSort, allowed, letterOver, overSort, over, put, changeAs, change, after, fits, refusal, wellFormed, settledAs, settled, droppedAs, dropped, raised}
+use Rattle.world.specs.World.{World, Event, Sort, act, delivery, loss, sortOf, nobody, holdingAt, letterAt, heard, isStation, existsAs, exists, allowedSort, allowed, letterOver, overSort, over, put, changeAs, change, after, fits, refusal, settledAs, settled, droppedAs, dropped, raised}
 use Rattle.world.specs.Steps.{raisedAs}
 use Rattle.world.proofs.Steps.{step-accepts}
 use Rattle.world.proofs.Keeps.{Formed, at-posted}
@@ -153,6 +153,13 @@ module _ (w : World) (e : Event) where
   pub number-none : (s : ℕ) (l : Letter) (h : Holding) → exists w e ≡ false → refusalIn (sortOf (e .kind)) (w .net) (length (w .letters)) (e .a) (e .b) s l h ≡ 6
   unfolding refusalIn
   number-none s l h p = ap (λ (t : Bool). byThree t (allowedIn (sortOf (e .kind)) (e .b) h) (overIn (w .net) s (sortOf (e .kind)) l h)) (there-is ∙ p)
+
+  pub zero-there : number ≡ 0 → exists w e ≡ true
+  zero-there z = go (exists w e) refl
+    where
+      go : (b : Bool) → exists w e ≡ b → b ≡ true
+      go true p = refl
+      go false p = absurd (let q : _≡_ {A = ℕ} 6 0 = sym (number-none place meant held p) ∙ z in omega arith)
 
   -- so it is enough to have looked at the right one where the event is there
   pub number-at : (s : ℕ) (l : Letter) (h : Holding) → (exists w e ≡ true → (s ≡ place) × ((l ≡ meant) × (h ≡ held)))

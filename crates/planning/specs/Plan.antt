@@ -13,7 +13,7 @@ use Rattle.net.specs.Network.{Network, isEnd}
 use Rattle.net.specs.Network as Net
 use Rattle.station.specs.declared.Station.{Station}
 use Rattle.station.specs.Holding.{Holding}
-use Rattle.station.specs.Acts.{Done, unchanged, received, hears, bodyOver, Kind, start, stop, recovery, intervalEnd, timeoutEnd, quietEnd, other, allowedAs}
+use Rattle.station.specs.Acts.{Done, unchanged, received, hears, bodyOver, start, stop, recovery, intervalEnd, timeoutEnd, quietEnd, other, allowedAs}
 use Rattle.station.specs.Values.{unmarked, blank}
 use Rattle.world.specs.World.{Sort, act, delivery, loss, done}
 use Rattle.world.specs.Steps.{raisedAct, raisedBody}
@@ -94,3 +94,9 @@ abbrev pub leftAs : Sort → ℕ → List Letter → List Letter
 leftAs (act k) a xs = xs
 leftAs delivery a xs = without a xs
 leftAs loss a xs = without a xs
+
+-- whether an event takes a letter off: only then it matters which letter is meant
+abbrev pub takesAs : Sort → Bool
+takesAs (act k) = false
+takesAs delivery = true
+takesAs loss = true

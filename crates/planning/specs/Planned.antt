@@ -6,7 +6,6 @@ use mathlib.Core.List.{[]}
 use lib.Dec.{eqb, ltb}
 use Rattle.lists.specs.Lists.{if_then_else_}
 use Rattle.lists.specs.Words.{bit}
-use Rattle.net.specs.declared.Body.{Body}
 use Rattle.net.specs.declared.Letter.{Letter}
 use Rattle.net.specs.declared.Net.{Net}
 use Rattle.net.specs.Values.{networkOf}
@@ -19,7 +18,7 @@ use Rattle.hearing.specs.declared.Heard.{Heard}
 use Rattle.hearing.specs.declared.Heard.the-variants.{Gone, Nothing, TooHigh, Does}
 use Rattle.hearing.specs.declared.Effect.{Effect}
 use Rattle.hearing.specs.declared.Effect.the-variants.{Asks, Heals, Levels, Equal, Takes}
-use Rattle.world.specs.World.{Sort, act, delivery, done, settledAs, isNotice}
+use Rattle.world.specs.World.{Sort, act, delivery, done, settledAs}
 use Rattle.world.specs.Steps.{raisedAct}
 use Rattle.planning.specs.declared.Plan.{Plan}
 use Rattle.planning.specs.Plan.{overIn, doneIn, raisedIn, droppedIn, refusalIn, roomAs}
@@ -38,9 +37,9 @@ pub record Planned (net : Net) (s number : ℕ) (old room : Station) (d : Done) 
   pub raised : r .raised ≡ (if eqb number 0 then y else 0)
   pub dropped : r .dropped ≡ (if eqb number 0 then z else 0)
 
--- a plan that refuses
-abbrev pub refusalOf : ℕ → Station → Plan
-refusalOf number st = record { answer = number; station = st; send = silent (st .counters); settled = 0; raised = 0; dropped = 0 }
+-- the station stays as it was: refused, or only a letter dropped
+abbrev pub staysOf : ℕ → ℕ → ℕ → Station → Plan
+staysOf number x z st = record { answer = number; station = st; send = silent (st .counters); settled = x; raised = 0; dropped = z }
 
 -- what was done with the tally's three numbers
 abbrev pub acceptedOf : Acted → ℕ → ℕ → ℕ → Plan
@@ -49,9 +48,6 @@ acceptedOf q x y z = record { answer = 0; station = q .station; send = q .send; 
 -- nothing sent
 abbrev pub silentOf : Station → Acted
 silentOf st = record { station = st; send = silent (st .counters) }
-
-abbrev pub lossOf : Body → Station → Plan
-lossOf b st = acceptedOf (silentOf st) (bit (isNotice b)) 0 1
 
 -- the station after the acts that send nothing, by the kind's number
 abbrev pub turnedOf : Net → ℕ → ℕ → ℕ → Station → Station
@@ -81,19 +77,15 @@ ActPlans net k s b st r =
 abbrev pub LetterPlans : Net → ℕ → Letter → Station → Plan → Type 0
 LetterPlans net s l st r = PlansBy (if overIn (networkOf net) s delivery l (holdingOf net st) then 8 else 0) net delivery 0 s l st r
 
--- ---- the receiver's answer to a letter: its number, the letters dropped, the counters raised where the link's own is this
-abbrev pub numberSaid : Heard → ℕ
-numberSaid Gone = 0
-numberSaid Nothing = 0
-numberSaid TooHigh = 8
-numberSaid (Does e) = 0
+-- ---- by the receiver's answer to a letter
+-- what becomes of it: 8 where it is refused, 1 where it is dropped, else 0
+abbrev pub fateSaid : Heard → ℕ
+fateSaid Gone = 1
+fateSaid Nothing = 0
+fateSaid TooHigh = 8
+fateSaid (Does e) = 0
 
-abbrev pub droppedSaid : Heard → ℕ
-droppedSaid Gone = 1
-droppedSaid Nothing = 0
-droppedSaid TooHigh = 0
-droppedSaid (Does e) = 0
-
+-- the counters raised, where the link's own is this
 abbrev pub raisedEffect : Effect → ℕ → ℕ
 raisedEffect Asks own = 0
 raisedEffect (Heals to) own = bit (ltb own to)

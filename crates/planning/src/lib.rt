@@ -14,7 +14,7 @@ ghost use Rattle.station.specs.Acts.{kindOf};
 ghost use Rattle.station.specs.Values.{holdingOf, Acts};
 ghost use Rattle.world.specs.World.{sortOf, act, done, isNotice};
 ghost use Rattle.planning.specs.Plan.{concernedAs, linkThere, thereAs, roomAs};
-ghost use Rattle.planning.specs.Planned.{inRoom, Plans, ActPlans, LetterPlans, refusalOf, silentOf, turnedOf, acceptedOf, lossOf, numberSaid, raisedEffect, raisedSaid, droppedSaid};
+ghost use Rattle.planning.specs.Planned.{inRoom, Plans, ActPlans, LetterPlans, staysOf, silentOf, turnedOf, acceptedOf, fateSaid, raisedEffect, raisedSaid};
 use counters::Counters;
 use hearing::Effect;
 use hearing::Heard;
@@ -137,18 +137,18 @@ fn there(net: Net, flying: u16, kind: u32, a: u32, b: u32) -> bool
 
 // ---- plans
 
-// A refusal hands back the station that it was given.
-fn refused(number: u8, st: Station) -> Plan
-    ensures { λ r. ⌜ r ≡ refusalOf number st ⌝ }
+// The station stays as it was given, and nothing is sent: a refusal, or a letter that is lost.
+fn stays(number: u8, settled: u64, dropped: u64, st: Station) -> Plan
+    ensures { λ r. ⌜ r ≡ staysOf number settled dropped st ⌝ }
 {
     let told = st.counters;
     Plan {
         answer: number,
         station: st,
         send: sending::silence(told),
-        settled: 0,
+        settled,
         raised: 0,
-        dropped: 0,
+        dropped,
     }
 }
 
@@ -163,12 +163,12 @@ fn counter_at(links: u8, counters: Counters, k: u16) -> u16
     counters[i]
 }
 
-// How many counters an act raises: a timeout raises one that was even.
-fn raised_by(kind: u8, c: u16) -> u64
-    ensures { λ r. ⌜ r ≡ (if eqb kind 5 then bit (even c) else 0) ⌝ }
+// How many counters an act on link b raises: a timeout raises one that was even.
+fn raised_by(links: u8, kind: u8, counters: Counters, b: u8) -> u64
+    ensures { λ r. ⌜ r ≡ (if eqb kind 5 then bit (even (counterIn (take (min links 64) counters) b)) else 0) ⌝ }
 {
     if kind == 5 {
-        if counters::is_even(c) {
+        if counters::is_even(counter_at(links, counters, b as u16)) {
             return 1;
         }
     }
@@ -240,19 +240,20 @@ fn plan_act(net: Net, kind: u8, me: u8, b: u8, st: Station) -> Plan
 {
     let condition = st.condition;
     if !station::allows(net.links, kind, b, condition, st.marks) {
-        return refused(7, st);
+        return stays(7, 0, 0, st);
     }
     let counters = st.counters;
-    let raised = raised_by(kind, counter_at(net.links, counters, b as u16));
+    let raised = raised_by(net.links, kind, counters, b);
     accepted(acted(net, kind, me, b, st), 0, raised, 0)
 }
 
 // ---- letters
 
 // A notice that is taken off is settled.
-fn settled_by(body: Body) -> u64
-    ensures { λ r. ⌜ r ≡ bit (isNotice body) ⌝ }
+fn settled_by(letter: Letter) -> u64
+    ensures { λ r. ⌜ r ≡ bit (isNotice (letter .body)) ⌝ }
 {
+    let body = letter.body;
     match body {
         Body::Request => 0,
         Body::Reply(_) => 0,
@@ -260,26 +261,14 @@ fn settled_by(body: Body) -> u64
     }
 }
 
-// The number that the receiver's answer stands for.
-fn number_said(said: Heard) -> u8
-    ensures { λ r. ⌜ r ≡ numberSaid said ⌝ }
-{
-    match said {
-        Heard::Gone => 0,
-        Heard::Nothing => 0,
-        Heard::TooHigh => 8,
-        Heard::Does(_) => 0,
-    }
-}
-
-// How many letters are dropped by it.
-fn dropped_said(said: Heard) -> u64
-    ensures { λ r. ⌜ r ≡ droppedSaid said ⌝ }
+// What becomes of a letter by the receiver's answer: 8 where it is refused, 1 where it is dropped, else 0.
+fn fate_of(said: Heard) -> u8
+    ensures { λ r. ⌜ r ≡ fateSaid said ⌝ }
 {
     match said {
         Heard::Gone => 1,
         Heard::Nothing => 0,
-        Heard::TooHigh => 0,
+        Heard::TooHigh => 8,
         Heard::Does(_) => 0,
     }
 }
@@ -320,25 +309,21 @@ fn plan_letter(net: Net, me: u8, letter: Letter, st: Station) -> Plan
     ensures { λ r. ⌜ LetterPlans net me letter st r ⌝ }
 {
     let said = hearing::hearing(net, me, letter, st);
-    if number_said(said) == 8 {
-        return refused(8, st);
+    let fate = fate_of(said);
+    if fate == 8 {
+        return stays(8, 0, 0, st);
     }
-    let body = letter.body;
+    let settled = settled_by(letter);
     let counters = st.counters;
     let raised = raised_said(said, counter_at(net.links, counters, letter.link));
+    // not refused: 1 where the letter is dropped, else 0
+    let dropped = fate as u64;
     accepted(
         hearing::receive(net, me, letter, st),
-        settled_by(body),
+        settled,
         raised,
-        dropped_said(said),
+        dropped,
     )
-}
-
-// Event 8: the letter is dropped, and the station stays as it is.
-fn plan_loss(body: Body, st: Station) -> Plan
-    ensures { λ r. ⌜ r ≡ lossOf body st ⌝ }
-{
-    accepted(silently(st), settled_by(body), 0, 1)
 }
 
 // What the event comes to at the station st, whose number is me.
@@ -355,14 +340,13 @@ pub fn plan_event(
     ensures { λ r. ⌜ Plans net flying (sortOf kind) a b me letter st r ⌝ }
 {
     if !there(net, flying, kind, a, b) {
-        return refused(6, st);
+        return stays(6, 0, 0, st);
     }
     if kind == 7 {
         return plan_letter(net, me, letter, st);
     }
     if kind == 8 {
-        let body = letter.body;
-        return plan_loss(body, st);
+        return stays(0, settled_by(letter), 1, st);
     }
     plan_act(net, kind as u8, me, b as u8, st)
 }

@@ -15,16 +15,13 @@ by-seven b v e = ap (λ (x : Bool). if not x then 7 else 0) e
 allows-requires : tie.Need-allows-requires
 allows-requires c κs = search needs
 
-refused-requires : tie.Need-refused-requires
-refused-requires c κs = search needs
+stays-requires : tie.Need-stays-requires
+stays-requires c κs = search needs
 
 returns : tie.Need-returns
 returns c =
     let a = c .before .before .before .args in
-    refuses _ _ _ _ _ _ _ _ _ 7 refl _ (c .refused .ensures) (by-seven _ _ (allowed-is (a .net) (a .me) (a .b) (a .st) (a .kind) _ _ (c .before .before .allows .ensures) (not-true _ (c .before .if1 .taken))))
-
-counter-at-requires : tie.Need-counter-at-requires
-counter-at-requires c κs = search needs
+    refuses _ _ _ _ _ _ _ _ _ 7 refl _ (c .stays .ensures) (by-seven _ _ (allowed-is (a .net) (a .me) (a .b) (a .st) (a .kind) _ _ (c .before .before .allows .ensures) (not-true _ (c .before .if1 .taken))))
 
 raised-by-requires : tie.Need-raised-by-requires
 raised-by-requires c κs = search needs
@@ -37,18 +34,17 @@ accepted-requires c κs = search needs
 
 returns-2 : tie.Need-returns-2
 returns-2 c =
-    let a = c .before .before .before .before .before .before .before .args in
-    does _ _ _ _ _ _ _ _ _ _ (c .before .acted .ensures) _ _ _ _ (c .accepted .ensures) (by-seven _ _ (allowed-is (a .net) (a .me) (a .b) (a .st) (a .kind) _ _ (c .before .before .before .before .before .before .allows .ensures) (not-false _ (c .before .before .before .before .before .if1 .left)))) refl
-    (raised-is (a .net) (a .me) (a .b) (a .st) (a .kind) _ _ (c .before .before .before .counter-at .ensures) (c .before .before .raised-by .ensures)) refl
+    let a = c .before .before .before .before .before .before .args in
+    does _ _ _ _ _ _ _ _ _ _ (c .before .acted .ensures) _ _ _ _ (c .accepted .ensures) (by-seven _ _ (allowed-is (a .net) (a .me) (a .b) (a .st) (a .kind) _ _ (c .before .before .before .before .before .allows .ensures) (not-false _ (c .before .before .before .before .if1 .left)))) refl
+    (raised-is (a .net) (a .me) (a .b) (a .st) (a .kind) _ (c .before .before .raised-by .ensures)) refl
 
 pub plan-act-spec : {M : Type 1} → statement M
 plan-act-spec =
     tie.close
     (tie.spec
     allows-requires
-    refused-requires
+    stays-requires
     returns
-    counter-at-requires
     raised-by-requires
     acted-requires
     accepted-requires

@@ -25,13 +25,13 @@ few c = omega (arith, links-of (c .args .net))
 there-requires : tie.Need-there-requires
 there-requires c κs = search needs
 
-refused-requires : tie.Need-refused-requires
-refused-requires c κs = search needs
+stays-requires : tie.Need-stays-requires
+stays-requires c κs = search needs
 
 returns : tie.Need-returns
 returns c =
     let a = c .before .before .before .args in
-    refuses _ _ _ _ _ _ _ _ _ 6 refl _ (c .refused .ensures)
+    refuses _ _ _ _ _ _ _ _ _ 6 refl _ (c .stays .ensures)
     (not-there (networkOf (a .net)) (a .flying) (a .a) (a .b) (a .me) (a .letter) (holdingOf (a .net) (a .st)) (sortOf (a .kind)) _ (c .before .before .there .ensures) (c .before .if1 .taken))
 
 plan-letter-requires : tie.Need-plan-letter-requires
@@ -42,14 +42,17 @@ returns-2 c =
     let a = c .before .before .before .before .args in
     by-sort (a .net) (a .flying) (a .a) (a .b) (a .me) (a .letter) (a .st) (a .kind) delivery _ _ (sort-delivery (a .kind) (c .before .if2 .taken)) (c .before .before .before .there .ensures) (c .before .before .if1 .left) (c .plan-letter .ensures)
 
-plan-loss-requires : tie.Need-plan-loss-requires
-plan-loss-requires c κs = search needs
+settled-by-requires : tie.Need-settled-by-requires
+settled-by-requires c κs = search needs
+
+stays-requires-2 : tie.Need-stays-requires-2
+stays-requires-2 c κs = search needs
 
 returns-3 : tie.Need-returns-3
 returns-3 c =
-    let a = c .before .before .before .before .before .args in
-    by-sort (a .net) (a .flying) (a .a) (a .b) (a .me) (a .letter) (a .st) (a .kind) loss _ _ (sort-loss (a .kind) (c .before .if3 .taken)) (c .before .before .before .before .there .ensures) (c .before .before .before .if1 .left)
-    (loss-plans (a .net) (a .flying) (a .a) (a .b) (a .me) (a .letter) (a .st) (a .kind) _ (fit (c .before .before .before .before .before)) (c .plan-loss .ensures))
+    let a = c .before .before .before .before .before .before .args in
+    by-sort (a .net) (a .flying) (a .a) (a .b) (a .me) (a .letter) (a .st) (a .kind) loss _ _ (sort-loss (a .kind) (c .before .before .if3 .taken)) (c .before .before .before .before .before .there .ensures) (c .before .before .before .before .if1 .left)
+    (loss-plans (a .net) (a .flying) (a .a) (a .b) (a .me) (a .letter) (a .st) (a .kind) _ _ (fit (c .before .before .before .before .before .before)) (c .stays2 .ensures) (c .before .settled-by .ensures))
 
 cast-plan-act : tie.Need-cast-plan-act
 cast-plan-act c =
@@ -74,11 +77,12 @@ plan-event-spec =
     tie.close
     (tie.spec
     there-requires
-    refused-requires
+    stays-requires
     returns
     plan-letter-requires
     returns-2
-    plan-loss-requires
+    settled-by-requires
+    stays-requires-2
     returns-3
     cast-plan-act
     cast-plan-act-2
