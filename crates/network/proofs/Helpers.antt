@@ -10,18 +10,19 @@ use Rattle.lists.proofs.Tests.{if-elim}
 use Rattle.net.specs.declared.Letter.{Letter}
 use Rattle.station.specs.Acts.{kindOf}
 use Rattle.world.specs.World.{Sort, act, delivery, loss, sortOf, noLetter}
+use Rattle.planning.specs.Plan.{takesAs}
 use Rattle.planning.specs.Planned.{inRoom}
-use Rattle.network.specs.Step.{leavesAs, placeBy, leftBy, numberBy}
+use Rattle.network.specs.Step.{placeBy, leftBy, numberBy}
 
 module _ (kind : ℕ) where
-  pub leaves-seven : kind ≡ 7 → true ≡ leavesAs (sortOf kind)
-  leaves-seven e = sym (ap (λ (b : Bool). leavesAs (if b then delivery else (if eqb kind 8 then loss else act (kindOf kind)))) (eq-eqb kind 7 e))
+  pub leaves-seven : kind ≡ 7 → true ≡ takesAs (sortOf kind)
+  leaves-seven e = sym (ap (λ (b : Bool). takesAs (if b then delivery else (if eqb kind 8 then loss else act (kindOf kind)))) (eq-eqb kind 7 e))
 
-  pub leaves-else : (kind ≡ 7 → ⊥) → eqb kind 8 ≡ leavesAs (sortOf kind)
+  pub leaves-else : (kind ≡ 7 → ⊥) → eqb kind 8 ≡ takesAs (sortOf kind)
   leaves-else n =
-      go (eqb kind 8) ∙ sym (ap (λ (b : Bool). leavesAs (if b then delivery else (if eqb kind 8 then loss else act (kindOf kind)))) (ne-eqb kind 7 n))
+      go (eqb kind 8) ∙ sym (ap (λ (b : Bool). takesAs (if b then delivery else (if eqb kind 8 then loss else act (kindOf kind)))) (ne-eqb kind 7 n))
     where
-      go : (b : Bool) → b ≡ leavesAs (if b then loss else act (kindOf kind))
+      go : (b : Bool) → b ≡ takesAs (if b then loss else act (kindOf kind))
       go true = refl
       go false = refl
 

@@ -26,13 +26,13 @@ use Rattle.state.specs.declared.State.{State}
 use Rattle.state.specs.State.{stationIn, letterIn, worldOf, stateHolds, Sized}
 use Rattle.state.proofs.Meaning as M
 use Rattle.planning.specs.declared.Plan.{Plan}
-use Rattle.planning.specs.Plan.{concernedAs, doneIn, raisedIn, droppedIn, refusalIn, roomAs, leftAs}
+use Rattle.planning.specs.Plan.{concernedAs, doneIn, raisedIn, droppedIn, refusalIn, roomAs, leftAs, takesAs}
 use Rattle.planning.specs.Planned.{inRoom, Plans}
 use Rattle.planning.proofs.Worlds as W
-use Rattle.network.specs.Step.{event, leavesAs, placeBy, leftBy, numberBy}
+use Rattle.network.specs.Step.{event, placeBy, leftBy, numberBy}
 
 -- ---- how many letters are left
-left-length : (x : Sort) (a : ℕ) (xs : List Letter) → (leavesAs x ≡ true → a < length xs) → length (leftAs x a xs) ≡ leftBy (leavesAs x) (length xs)
+left-length : (x : Sort) (a : ℕ) (xs : List Letter) → (takesAs x ≡ true → a < length xs) → length (leftAs x a xs) ≡ leftBy (takesAs x) (length xs)
 left-length (act k) a xs h = refl
 left-length delivery a xs h = omega (arith, length-without a xs (h refl))
 left-length loss a xs h = omega (arith, length-without a xs (h refl))
@@ -54,12 +54,12 @@ module _ (s : State) (z : Sized s) (t : T (stateHolds s)) (kind a b : ℕ) where
   net-is = M.net-is s z t
 
   -- a letter that is taken is there
-  taken-as : (x : Sort) → T (existsAs x w a b) → leavesAs x ≡ true → a < length (w .letters)
+  taken-as : (x : Sort) → T (existsAs x w a b) → takesAs x ≡ true → a < length (w .letters)
   taken-as (act k) h l = absurd (subst (λ (c : Bool). T (not c)) l tt)
   taken-as delivery h l = ltb→lt a _ (and-l (ltb a (length (w .letters))) _ h)
   taken-as loss h l = ltb→lt a _ (and-l (ltb a (length (w .letters))) _ h)
 
-  pub taken-there : T (exists w e) → leavesAs X ≡ true → a < length (w .letters)
+  pub taken-there : T (exists w e) → takesAs X ≡ true → a < length (w .letters)
   unfolding exists
   taken-there h = taken-as X h
 
@@ -171,7 +171,7 @@ module _ (s : State) (z : Sized s) (t : T (stateHolds s)) (kind a b : ℕ) where
             ∙ ap₂ (λ (l : Letter) (g : Holding). raisedIn (w .net) (W.place w e) X b l g) (x-is event-there) (h-is event-there) ∙ sym (W.raised-by w e ok r)
 
       -- ---- the number
-      module _ (count left answer : ℕ) (leaves : Bool) (ce : count ≡ length (lettersOf me (p .send))) (le : leaves ≡ leavesAs X)
+      module _ (count left answer : ℕ) (leaves : Bool) (ce : count ≡ length (lettersOf me (p .send))) (le : leaves ≡ takesAs X)
           (fe : left ≡ leftBy leaves (s .flying)) (ae : answer ≡ numberBy (p .answer) left count) where
         pub left-is : W.number w e ≡ 0 → length (leftAs X a (w .letters)) ≡ left
         left-is q =

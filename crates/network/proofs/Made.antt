@@ -28,11 +28,11 @@ use Rattle.state.specs.State.{stationIn, letterIn, worldOf, stateOf, stateHolds
 use Rattle.state.proofs.Meaning as M
 use Rattle.state.proofs.StationRoom.{Spare, spare-unmarked, spare-laid}
 use Rattle.planning.specs.declared.Plan.{Plan}
-use Rattle.planning.specs.Plan.{concernedAs, roomAs, leftAs}
+use Rattle.planning.specs.Plan.{concernedAs, roomAs, leftAs, takesAs}
 use Rattle.planning.specs.Planned.{inRoom, Plans}
 use Rattle.planning.proofs.Worlds as W
 use Rattle.network.specs.declared.Stepped.{Stepped}
-use Rattle.network.specs.Step.{event, refusing, accepting, numberOf, steppedOf, leavesAs, placeBy, leftBy, numberBy}
+use Rattle.network.specs.Step.{event, refusing, accepting, numberOf, steppedOf, placeBy, leftBy, numberBy}
 use Rattle.network.proofs.Known as K
 
 -- ---- the answer by its number
@@ -84,8 +84,8 @@ module _ (xs : List Letter) (few : length xs ≤ 4096) where
   closed a place last f g =
       ap (λ (i : ℕ). set (closing i room last) last noLetter) (f .0) ∙ roomed-less 4096 noLetter xs a last (f .1) few (omega (arith, f .1, g))
 
-  closed-as : (x : Sort) (a place last : ℕ) → (leavesAs x ≡ true → (place ≡ a) × (a < length xs)) → last ≡ leftBy (leavesAs x) (length xs)
-      → set (closing (if leavesAs x then place else last) room last) (if leavesAs x then last else place) (if leavesAs x then noLetter else getD room place noLetter)
+  closed-as : (x : Sort) (a place last : ℕ) → (takesAs x ≡ true → (place ≡ a) × (a < length xs)) → last ≡ leftBy (takesAs x) (length xs)
+      → set (closing (if takesAs x then place else last) room last) (if takesAs x then last else place) (if takesAs x then noLetter else getD room place noLetter)
       ≡ roomed 4096 noLetter (leftAs x a xs)
   closed-as (act k) a place last f g =
       ap (λ (l : List Letter). set l place (getD room place noLetter)) (closing-none last room) ∙ set-getD room place noLetter
@@ -113,7 +113,7 @@ pub record Facts (s : State) (kind a b place me : ℕ) (p : Plan) (count left an
   pub who : me ≡ inRoom (concernedAs (sortOf kind) (networkOf (s .net)) a (letterIn s place))
   pub plans : Plans (s .net) (s .flying) (sortOf kind) a b me (letterIn s place) (stationIn s me) p
   pub counts : count ≡ length (lettersOf me (p .send))
-  pub goes : leaves ≡ leavesAs (sortOf kind)
+  pub goes : leaves ≡ takesAs (sortOf kind)
   pub stays : left ≡ leftBy leaves (s .flying)
   pub says : answer ≡ numberBy (p .answer) left count
 
@@ -217,7 +217,7 @@ module _ {s : State} {kind a b place me : ℕ} {p : Plan} {count left answer : �
         → unused ≡ (if leaves then noLetter else letterIn s place) → set (closing from (s .letters) last) free unused ≡ roomed 4096 noLetter leftLetters
     closed-up from last free unused l x y z =
         ap₂ (λ (i : ℕ) (u : Letter). set (closing i (s .letters) last) free u) (x ∙ ap (λ (c : Bool). if c then place else last) (f .goes)) (z ∙ ap (λ (c : Bool). if c then noLetter else letterIn s place) (f .goes))
-        ∙ ap₂ (λ (j : ℕ) (r : List Letter). set (closing (if leavesAs X then place else last) r last) j (if leavesAs X then noLetter else getD r place noLetter))
+        ∙ ap₂ (λ (j : ℕ) (r : List Letter). set (closing (if takesAs X then place else last) r last) j (if takesAs X then noLetter else getD r place noLetter))
         (y ∙ ap (λ (c : Bool). if c then last else place) (f .goes)) old-letters
         ∙ closed-as (w .letters) (ok .room) X a place last
         (λ t. (K.place-is s (f .sized) (f .holds) kind a b place me (f .at) (f .who) there, K.taken-there s (f .sized) (f .holds) kind a b there t))
@@ -227,7 +227,7 @@ module _ {s : State} {kind a b place me : ℕ} {p : Plan} {count left answer : �
     pub closes-within : (from last : ℕ) → last ≡ left → from ≡ (if leaves then place else last) → (from ≤ last) × (from < last → last < 4096)
     closes-within from last l x = go leaves (f .goes) x (f .stays)
       where
-        go : (c : Bool) → c ≡ leavesAs X → from ≡ (if c then place else last) → left ≡ leftBy c (s .flying) → (from ≤ last) × (from < last → last < 4096)
+        go : (c : Bool) → c ≡ takesAs X → from ≡ (if c then place else last) → left ≡ leftBy c (s .flying) → (from ≤ last) × (from < last → last < 4096)
         go true g x y =
             let i = K.place-is s (f .sized) (f .holds) kind a b place me (f .at) (f .who) there in
             let j = K.taken-there s (f .sized) (f .holds) kind a b there (sym g) in
@@ -240,7 +240,7 @@ module _ {s : State} {kind a b place me : ℕ} {p : Plan} {count left answer : �
     pub free-within : (last free : ℕ) → last ≡ left → free ≡ (if leaves then last else place) → free < 4096
     free-within last free l x = go leaves (f .goes) x (f .stays)
       where
-        go : (c : Bool) → c ≡ leavesAs X → free ≡ (if c then last else place) → left ≡ leftBy c (s .flying) → free < 4096
+        go : (c : Bool) → c ≡ takesAs X → free ≡ (if c then last else place) → left ≡ leftBy c (s .flying) → free < 4096
         go true g x y =
             let j = K.taken-there s (f .sized) (f .holds) kind a b there (sym g) in
             omega (arith, x, y, l, j, ok .room, flying-is)

@@ -1,9 +1,9 @@
 -- What a step of the network answers: the world's step of what the state means, laid out in zero room. Assumes nothing.
 use Prim.Native.Nat.{ℕ, _+_, _-_}
-use mathlib.Core.Bool.{Bool, true, false}
+use mathlib.Core.Bool.{Bool}
 use lib.Dec.{eqb, ltb}
 use Rattle.lists.specs.Lists.{if_then_else_}
-use Rattle.world.specs.World.{World, Event, Sort, act, delivery, loss, refusal, after, settled, raised, dropped}
+use Rattle.world.specs.World.{Event, fresh, refusal, after, settled, raised, dropped}
 use Rattle.state.specs.declared.State.{State}
 use Rattle.state.specs.State.{worldOf, stateOf, stateHolds}
 use Rattle.network.specs.declared.Stepped.{Stepped}
@@ -27,11 +27,6 @@ unfoldable pub steppedOf : State → ℕ → ℕ → ℕ → Stepped
 steppedOf s kind a b = if eqb (numberOf s (event kind a b)) 0 then accepting s (event kind a b) else refusing (numberOf s (event kind a b)) s
 
 -- ---- what the private steps of the code answer
-abbrev pub leavesAs : Sort → Bool
-leavesAs (act k) = false
-leavesAs delivery = true
-leavesAs loss = true
-
 abbrev pub placeBy : ℕ → ℕ
 placeBy a = if ltb a 4096 then a else 0
 

@@ -6,7 +6,8 @@ ghost use Prim.Native.Nat.{_+_, _-_};
 ghost use lib.Dec.{ltb, eqb};
 ghost use Rattle.lists.specs.Lists.{if_then_else_};
 ghost use Rattle.world.specs.World.{sortOf, noLetter};
-ghost use Rattle.network.specs.Step.{leavesAs, placeBy, leftBy, numberBy, steppedOf};
+ghost use Rattle.planning.specs.Plan.{takesAs};
+ghost use Rattle.network.specs.Step.{placeBy, leftBy, numberBy, steppedOf};
 use net::Body;
 use net::Letter;
 use state::State;
@@ -22,7 +23,7 @@ pub struct Stepped {
 
 // Whether an event of this kind takes a letter off the list.
 fn takes_letter(kind: u32) -> bool
-    ensures { λ r. ⌜ r ≡ leavesAs (sortOf kind) ⌝ }
+    ensures { λ r. ⌜ r ≡ takesAs (sortOf kind) ⌝ }
 {
     if kind == 7 {
         return true;

@@ -4,4 +4,3 @@ pub mod Drafts
 pub mod Turns
 pub mod Events
 pub mod Worlds
-pub mod Callers

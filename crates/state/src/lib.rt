@@ -210,7 +210,7 @@ pub fn fresh(net: Net) -> Begun
         answer: 0,
         state: State {
             net,
-            flying: 0,
+            flying: 0, // no letter
             stations,
             letters,
         },
