@@ -2,3 +2,4 @@ pub mod Helpers
 pub mod Known
 pub mod Made
 pub mod Loops
+pub mod Bridge
