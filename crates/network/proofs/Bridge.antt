@@ -83,7 +83,7 @@ module _ (s : State) (kind a b : ℕ) where
         record {
           number = sym (ap World.numberOf o);
           world = laid-means (s .net) (after (worldOf s) e) n m f ∙ sym (ap (orElse (worldOf s)) o);
-          good = record { sized = laid-sized (s .net) (after (worldOf s) e) n m f; holds = laid-holds (s .net) (after (worldOf s) e) n m f };
+          good = record { sized = laid-sized (s .net) (after (worldOf s) e) n m f (g .sized .ends); holds = laid-holds (s .net) (after (worldOf s) e) n m f };
           refused-same = λ z. absurd (z refl);
           counts-settled = sym (ap (λ (x : Outcome). ifTaken x (settled (worldOf s) e)) o);
           counts-raised = sym (ap (λ (x : Outcome). ifTaken x (raised (worldOf s) e)) o);

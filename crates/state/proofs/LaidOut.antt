@@ -30,7 +30,7 @@ use Rattle.formed.specs.Formed.{stationFormed}
 use Rattle.world.specs.World.{World, nobody, noLetter, holdingAt, fresh}
 use Rattle.world.proofs.Keeps.{Formed, fresh-formed}
 use Rattle.state.specs.declared.State.{State}
-use Rattle.state.specs.State.{beyond, stationIn, letterIn, worldOf, stateOf, isBlank, isNoLetter, stationPlace, letterPlace, stationsHold, lettersHold, stateHolds, Fits, Sized}
+use Rattle.state.specs.State.{beyond, stationIn, letterIn, worldOf, stateOf, isBlank, isNoLetter, stationPlace, letterPlace, stationsHold, lettersHold, stateHolds, Fits, Ends64, Sized}
 use Rattle.state.proofs.StationRoom.{Spare, spare-formed, fits-laid, laid-spare, holding-laid, is-blank, fits-blank}
 
 module _ (net : Net) (w : World) (n : T (netHolds net)) (e : networkOf net ≡ w .net) (f : Formed w) where
@@ -95,9 +95,10 @@ module _ (net : Net) (w : World) (n : T (netHolds net)) (e : networkOf net ≡ w
   out-flying = refl
 
   -- ---- what the type says
-  pub laid-sized : Sized out
+  pub laid-sized : Ends64 net → Sized out
   unfolding stateOf
-  laid-sized = record {
+  laid-sized d = record {
+    ends = d;
     stations = length-roomed 32 blank laidAll (omega (arith, few, laid-count));
     letters = length-roomed 4096 noLetter (w .letters) (f .room);
     each = λ i l. fits i l (decLt i (net .stations));
@@ -178,7 +179,7 @@ module _ (net : Net) (n : T (netHolds net)) where
   abbrev first : State
   first = stateOf net (fresh (networkOf net))
 
-  pub first-sized : Sized first
+  pub first-sized : Ends64 net → Sized first
   first-sized = laid-sized net (fresh (networkOf net)) n fresh-net (fresh-formed (networkOf net) (sheet-good net n))
 
   pub first-holds : T (stateHolds first)

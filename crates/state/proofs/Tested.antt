@@ -19,7 +19,7 @@ use Rattle.net.proofs.Good.{few-places}
 use Rattle.formed.specs.Formed.{letterTest}
 use Rattle.formed.proofs.LetterTests.{letter-is, letter-past}
 use Rattle.state.specs.declared.State.{State}
-use Rattle.state.specs.State.{stationIn, letterIn, stationPlace, letterPlace, isNoLetter, stationsHold, lettersHold, stateHolds, Fits, Sized}
+use Rattle.state.specs.State.{stationIn, letterIn, stationPlace, letterPlace, isNoLetter, stationsHold, lettersHold, stateHolds, Fits, Ends64, Sized}
 use Rattle.state.proofs.Places.{restAt}
 
 -- what holds below i, and at i, holds below i + 1
@@ -136,5 +136,5 @@ module _ (s : State) where
     unfolding stateHolds
     all-seen = rest-is ∙ sym (ap₂ (λ (a b : Bool). a && (b && lettersHold s)) (T-is frame n) stations-are)
 
-    pub seen-sized : length (s .stations) ≡ 32 → length (s .letters) ≡ 4096 → clean ≡ true → Sized s
-    seen-sized a b q = record { stations = a; letters = b; each = λ i h. f i h .1 }
+    pub seen-sized : Ends64 (s .net) → length (s .stations) ≡ 32 → length (s .letters) ≡ 4096 → clean ≡ true → Sized s
+    seen-sized n a b q = record { ends = n; stations = a; letters = b; each = λ i h. f i h .1 }

@@ -97,7 +97,12 @@ pub record Fits (st : Station) : Type 0 where
   pub asked : st .marks .asked < 2 ^ 64
   pub quiet : st .marks .quiet < 2 ^ 64
 
+pub record Ends64 (net : Net) : Type 0 where
+  pub low : length (net .low) ≡ 64
+  pub high : length (net .high) ≡ 64
+
 pub record Sized (s : State) : Type 0 where
+  pub ends : Ends64 (s .net)
   pub stations : length (s .stations) ≡ 32
   pub letters : length (s .letters) ≡ 4096
   pub each : (i : ℕ) → i < 32 → Fits (stationIn s i)

@@ -16,7 +16,7 @@ use borrow.Author.Tests.{not-true, not-false}
 use Rattle.lists.proofs.Tests.{is-T}
 use Rattle.state.proofs.Places.{restAt}
 use Rattle.state.proofs.Tested.{upto-more, upto-none, frame-net, frame-few, letter-seen, StationSeen, LetterSeen, refused, frame-bad, station-bad, letter-bad, rest-none, rest-more, all-seen, seen-sized}
-use Rattle.state.specs.State.{stationIn, letterIn, stationPlace, letterPlace, isNoLetter, Fits}
+use Rattle.state.specs.State.{stationIn, letterIn, stationPlace, letterPlace, isNoLetter, Fits, Ends64}
 
 abbrev Inv-loop : tie.InvT-loop
 Inv-loop s net flying i₀ i = (i ≤ 32) × ((t : ℕ) → t < i → (stationPlace net t (stationIn s t) ≡ true) × Fits (stationIn s t))
@@ -40,6 +40,9 @@ stations-long : (c : tie.Start Inv-loop μ-loop Inv-loop2 μ-loop2 Inv-loop3 μ-
 stations-long c =
     let e : length (map (StationType.the-field .into) (c .args .t1 .stations)) ≡ 32 = search needs in
     sym (length-map (c .args .t1 .stations) (StationType.the-field .into)) ∙ e
+
+ends-long : (c : tie.Start Inv-loop μ-loop Inv-loop2 μ-loop2 Inv-loop3 μ-loop3) → Ends64 (c .args .t1 .net)
+ends-long c = record { low = search needs; high = search needs }
 
 letters-long : (c : tie.Start Inv-loop μ-loop Inv-loop2 μ-loop2 Inv-loop3 μ-loop3) → length (c .args .t1 .letters) ≡ 4096
 letters-long c =
@@ -170,7 +173,7 @@ returns-4 c =
     let g : ((t : ℕ) → t < s .flying → LetterSeen s t) = λ t h. c .before .before .before .loop2 .inv .1 t (omega arith) in
     let j : c .before .loop3 .j ≡ 4096 = omega arith in
     let e = c .before .loop3 .inv .2 ∙ ap (λ (k : ℕ). every (restAt s (s .flying)) (below k)) j in
-    (all-seen s _ n f g e, seen-sized s _ n f g e (stations-long (c .before .before .before .before .before .before .before .before .before)) (letters-long (c .before .before .before .before .before .before .before .before .before)))
+    (all-seen s _ n f g e, seen-sized s _ n f g e (ends-long (c .before .before .before .before .before .before .before .before .before)) (stations-long (c .before .before .before .before .before .before .before .before .before)) (letters-long (c .before .before .before .before .before .before .before .before .before)))
 
 pub well-formed-spec : {M : Type 1} → statement M
 well-formed-spec =
