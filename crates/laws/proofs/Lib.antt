@@ -4,3 +4,4 @@ pub mod Cases
 pub mod Calls
 pub mod Tallies
 pub mod Demands
+pub mod Joined
