@@ -1,3 +1,4 @@
 pub mod Helpers
 pub mod Output
 pub mod Known
+pub mod Shown
