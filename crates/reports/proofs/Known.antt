@@ -2,7 +2,7 @@
 -- Assumes nothing.
 use Prim.Native.Nat.{ℕ, _<_}
 use mathlib.Core.Bool.{Bool, true, false, not}
-use mathlib.Core.Path.{_≡_, refl, sym, ap, ap₂, _∙_, subst}
+use mathlib.Core.Path.{_≡_, refl, sym, ap, ap₂, _∙_}
 use mathlib.Core.List.{List}
 use native.Mathlib.Decide.{decLt, ℕ-discrete}
 use native.Mathlib.Omega.{arith}
@@ -16,11 +16,10 @@ use Rattle.net.specs.Values.{networkOf}
 use Rattle.reach.specs.declared.Reached.{Reached}
 use Rattle.reach.specs.Reach.{worksIn, reach, countOf, lowestOf, report}
 use Rattle.reach.specs.Values.{tableOf, reachedOf}
-use Rattle.station.specs.declared.Condition.{Condition}
 use Rattle.station.specs.Holding.{Holding, isLive}
 use Rattle.station.specs.Values.{holdingOf}
 use Rattle.station.proofs.Laid.{table-of, condition-of}
-use Rattle.world.specs.World.{World, holdingAt, isStation, askRefusal, reportAt, reachAt}
+use Rattle.world.specs.World.{World, holdingAt, askRefusal, reportAt, reachAt}
 use Rattle.state.specs.declared.State.{State}
 use Rattle.state.specs.State.{stationIn, worldOf, stateHolds, Sized}
 use Rattle.state.proofs.Meaning as M

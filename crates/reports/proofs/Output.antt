@@ -1,18 +1,17 @@
 -- The report's bytes as the code writes them: the stations, then the links, over the front of the lent output. Assumes nothing.
 use Prim.Native.Nat.{ℕ, _+_, _-_, _≤_, _<_, min}
-use mathlib.Core.Bool.{Bool, true, false, _||_}
+use mathlib.Core.Bool.{Bool, _||_}
 use mathlib.Core.Path.{_≡_, refl, sym, ap, ap₂, _∙_}
 use mathlib.Core.List.{List, [], _++_, map, append-assoc, append-nil}
 use native.Mathlib.Omega.{arith}
-use lib.Dec.{eqb, ltb}
 use lib.ListN.{length, getD, take, drop, set, length-append, length-drop, drop-of-length-le}
 use lib.Seq.{take-at, drop-at, take-all, drop-drop}
 use borrow.Author.Tests.{eq-eqb, ne-eqb, lt-ltb, le-ltb}
-use Rattle.lists.specs.Lists.{if_then_else_, below, filled}
+use Rattle.lists.specs.Lists.{below, filled}
 use Rattle.lists.specs.Words.{bit, bitAt, inWord, wordOf}
 use Rattle.lists.proofs.Numbers.{length-map-below}
 use Rattle.lists.proofs.Words.{in-wordOf, wordOf-at}
-use Rattle.lists.proofs.Fill.{filled-more, length-filled, map-below-same}
+use Rattle.lists.proofs.Fill.{filled-more, map-below-same}
 use Rattle.net.specs.declared.Net.{Net}
 use Rattle.net.specs.Network.{Ends}
 use Rattle.net.specs.Values.{networkOf, linkCount}

@@ -136,11 +136,11 @@ pub fn report(s: State, a: u32, out: &mut [u8]) -> u8
 {
     let good = state::well_formed(s);
     let net = s.net;
-    let me = place_of(a);
-    let at = me as usize;
+    let who = place_of(a);
+    let at = who as usize;
     let st = s.stations[at];
     let condition = st.condition;
     let counters = st.counters;
     let number = number_of(good, net.stations, a, condition);
-    written(number, net, counters, me, out)
+    written(number, net, counters, who, out)
 }
