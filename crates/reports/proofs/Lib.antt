@@ -1,0 +1,6 @@
+pub mod Helpers
+pub mod Output
+pub mod Known
+pub mod Refusals
+pub mod Shown
+pub mod WordShown

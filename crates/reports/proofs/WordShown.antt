@@ -1,0 +1,122 @@
+-- The same of the reach: its word's bits say which stations a path leads to, and its two numbers are the word's. For every
+-- state and station; where the report is given too, its bytes are the word's bits. Assumes nothing.
+use Prim.Native.Nat.{ℕ, _<_}
+use mathlib.Core.Bool.{Bool, true, false}
+use mathlib.Core.Path.{_≡_, refl, sym, ap, ap₂, _∙_, subst, subst⁻¹}
+use mathlib.Core.Logic.{_⊎_, inl, inr, ⊎-elim, _↔_}
+use mathlib.Core.List.{List}
+use native.Mathlib.Decide.{ℕ-discrete}
+use native.Mathlib.Omega.{arith}
+use borrow.Author.Tests.{eq-eqb, ne-eqb}
+use lib.ListN.{getD}
+use Rattle.lists.specs.Lists.{if_then_else_}
+use Rattle.lists.specs.Words.{bitAt, inWord, wordOf}
+use Rattle.lists.proofs.Words.{in-is-one, out-is-zero}
+use Rattle.net.specs.Network.{Network}
+use Rattle.net.specs.Values.{networkOf}
+use Rattle.reach.specs.declared.Reached.{Reached}
+use Rattle.reach.specs.Reach.{worksIn, Reaches, reach, countOf, lowestOf}
+use Rattle.reach.specs.Values.{reachedOf, onesOf}
+use Rattle.reach.proofs.Word.{word-bit, ones-of-reach}
+use Rattle.world.specs.World.{holdingAt, reachAt}
+use Rattle.world.proofs.Reports as R
+use Rattle.state.specs.declared.State.{State}
+use Rattle.state.specs.State.{stationIn, worldOf}
+use Rattle.reports.specs.declared.Asked.{Asked}
+use Rattle.reports.specs.Answers.{numberOf, noReach, askedOf, answerOf, outputOf}
+use Rattle.reports.proofs.Refusals.{Asks, none, why-number, asks, net-is, stations-are, table-is, accepted-when}
+use Rattle.reports.proofs.Shown.{ownTable, PathTo, Shown, shown}
+
+-- the lowest station that no path leads to
+pub record Lowest (s : State) (a z : ℕ) : Type 0 where
+  pub station : z < s .net .stations
+  pub missed : PathTo s a z → ⊥
+  pub lower : (t : ℕ) → t < z → PathTo s a t
+
+pub record WordShown (s : State) (a : ℕ) (r : Reached) : Type 0 where
+  pub bits : (t : ℕ) → (bitAt (r .word) t ≡ 1) ↔ PathTo s a t
+  pub ones : r .ones ≡ onesOf (r .word)
+  pub lowest : ((r .lowest ≡ 255) × ((t : ℕ) → t < s .net .stations → PathTo s a t)) ⊎ Lowest s a (r .lowest)
+
+module _ (s : State) (a : ℕ) where
+  abbrev given : Asked
+  given = record { answer = 0; reached = reachAt (worldOf s) a }
+
+  abbrev refused : Asked
+  refused = record { answer = numberOf s a; reached = noReach }
+
+  pub asked-zero : numberOf s a ≡ 0 → askedOf s a ≡ given
+  unfolding askedOf
+  asked-zero p = ap (λ (b : Bool). if b then given else refused) (eq-eqb (numberOf s a) 0 p)
+
+  asked-refused : (numberOf s a ≡ 0 → ⊥) → askedOf s a ≡ refused
+  unfolding askedOf
+  asked-refused p = ap (λ (b : Bool). if b then given else refused) (ne-eqb (numberOf s a) 0 p)
+
+  -- the answer is the number that refuses, or 0
+  pub answer-number : askedOf s a .answer ≡ numberOf s a
+  answer-number = go (ℕ-discrete (numberOf s a) 0)
+    where
+      go : Dec (numberOf s a ≡ 0) → askedOf s a .answer ≡ numberOf s a
+      go (yes p) = ap (λ (x : Asked). x .answer) (asked-zero p) ∙ sym p
+      go (no p) = ap (λ (x : Asked). x .answer) (asked-refused p)
+
+  -- THE REACH IS GIVEN EXACTLY IF the state is well formed and the station is there and live
+  pub given-when : (askedOf s a .answer ≡ 0) ↔ Asks s a
+  given-when = ((λ q. asks s a (sym answer-number ∙ q)), (λ k. answer-number ∙ why-number s a (none k)))
+
+  module _ (q : askedOf s a .answer ≡ 0) where
+    k : Asks s a
+    k = given-when .0 q
+
+    table : holdingAt (worldOf s) a .table ≡ ownTable s a
+    table = table-is s a (omega (arith, stations-are s (k .good), k .station))
+
+    reach-is : askedOf s a .reached ≡ reachedOf (s .net) (stationIn s a .counters) a
+    unfolding reachAt
+    reach-is =
+        ap (λ (x : Asked). x .reached) (asked-zero (sym answer-number ∙ q))
+        ∙ ap₂ (λ (n : Network) (l : List ℕ). record { word = wordOf (reach n (worksIn l) a); ones = countOf (reach n (worksIn l) a); lowest = lowestOf (reach n (worksIn l) a) }) (net-is s) table
+
+    path : (t : ℕ) → R.ReachesIn (worldOf s) a t → PathTo s a t
+    path t r = subst (λ (l : List ℕ). Reaches (networkOf (s .net)) (worksIn l) a t) table (subst (λ (n : Network). Reaches n (worksIn (holdingAt (worldOf s) a .table)) a t) (net-is s) r)
+
+    path-back : (t : ℕ) → PathTo s a t → R.ReachesIn (worldOf s) a t
+    path-back t r = subst⁻¹ (λ (n : Network). Reaches n (worksIn (holdingAt (worldOf s) a .table)) a t) (net-is s) (subst⁻¹ (λ (l : List ℕ). Reaches (networkOf (s .net)) (worksIn l) a t) table r)
+
+    stations : worldOf s .net .stations ≡ s .net .stations
+    stations = ap (λ (n : Network). n .stations) (net-is s) ∙ stations-are s (k .good)
+
+    lowest-is : ((reachAt (worldOf s) a .lowest ≡ 255) × ((t : ℕ) → t < s .net .stations → PathTo s a t)) ⊎ Lowest s a (reachAt (worldOf s) a .lowest)
+    lowest-is =
+        ⊎-elim
+        (λ p. inl (p .0, λ t h. path t (p .1 t (omega (arith, stations)))))
+        (λ p. inr (record { station = omega (arith, p .station, stations); missed = λ r. p .missed (path-back _ r); lower = λ t h. path t (p .lower t h) }))
+        (R.lowest-is (worldOf s) a)
+
+    -- THE BITS OF THE REACH WORD SAY WHICH STATIONS A PATH LEADS TO
+    pub word-shown : WordShown s a (askedOf s a .reached)
+    word-shown = record {
+      bits = λ t. subst⁻¹ (λ (r : Reached). (bitAt (r .word) t ≡ 1) ↔ PathTo s a t) reach-is (word-bit (s .net) (stationIn s a .counters) a t);
+      ones = subst⁻¹ (λ (r : Reached). r .ones ≡ onesOf (r .word)) reach-is (sym (ones-of-reach (s .net) (stationIn s a .counters) a));
+      lowest =
+          subst⁻¹ (λ (r : Reached). ((r .lowest ≡ 255) × ((t : ℕ) → t < s .net .stations → PathTo s a t)) ⊎ Lowest s a (r .lowest))
+          (ap (λ (x : Asked). x .reached) (asked-zero (sym answer-number ∙ q))) lowest-is;
+    }
+
+  -- the report's bytes of the stations are the bits of the word
+  pub same-bits : (old : List ℕ) → answerOf s a old ≡ 0 → (t : ℕ) → t < s .net .stations → getD (outputOf s a old) t 0 ≡ bitAt (askedOf s a .reached .word) t
+  same-bits old q t h = go (inWord word t) refl
+    where
+      word : ℕ
+      word = askedOf s a .reached .word
+
+      bits : (bitAt word t ≡ 1) ↔ PathTo s a t
+      bits = word-shown (given-when .1 (accepted-when s a old .0 q .0)) .bits t
+
+      bytes : Shown s a old (outputOf s a old)
+      bytes = shown s a old q
+
+      go : (b : Bool) → inWord word t ≡ b → getD (outputOf s a old) t 0 ≡ bitAt word t
+      go true e = let o = in-is-one word t e in bytes .working t h .1 (bits .0 o) ∙ sym o
+      go false e = let z = out-is-zero word t e in bytes .unreachable t h .1 (λ r. omega (arith, bits .1 r, z)) ∙ sym z

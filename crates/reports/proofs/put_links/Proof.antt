@@ -1,0 +1,83 @@
+use Prim.Native.Nat.{_≤_, _-_}
+use mathlib.Core.Path.{_≡_, refl, ap, _∙_}
+use native.Mathlib.Omega.{arith}
+use lib.ListN.{length, length-set}
+use denote.Ref.{now}
+use borrow.Author.Needs.{needs}
+use Rattle.lists.specs.Lists.{filled}
+use Rattle.reports.proofs.Output.{fill-turn}
+use Rattle.reports.specs.Steps.{linkShown}
+use Rattle.reports.proofs.put_links.Statement.{statement}
+use Rattle.reports.proofs.put_links.Tie as tie
+
+abbrev Inv-loop : tie.InvT-loop
+Inv-loop out₀ word m net counters k₀ out k = (k ≤ m) × (length out ≡ length out₀) × (out ≡ filled (linkShown net counters word) out₀ k)
+
+abbrev μ-loop : tie.MeasureT-loop
+μ-loop out₀ word m net counters k₀ out k = m - k
+
+loop-holds : tie.Need-loop-holds Inv-loop μ-loop
+loop-holds c = (omega arith, refl, refl)
+
+cast-i : tie.Need-cast-i Inv-loop μ-loop
+cast-i c = omega arith
+
+element-copy-out-link-shown : tie.Need-element-copy-out-link-shown Inv-loop μ-loop
+element-copy-out-link-shown c = search needs
+
+element-copy-out-link-shown-2 : tie.Need-element-copy-out-link-shown-2 Inv-loop μ-loop
+element-copy-out-link-shown-2 c = search needs
+
+mul-link-shown : tie.Need-mul-link-shown Inv-loop μ-loop
+mul-link-shown c = search needs
+
+array-read-link-shown : tie.Need-array-read-link-shown Inv-loop μ-loop
+array-read-link-shown c = search needs
+
+link-shown-requires : tie.Need-link-shown-requires Inv-loop μ-loop
+link-shown-requires c κs = search needs
+
+slice-write-out : tie.Need-slice-write-out Inv-loop μ-loop
+slice-write-out c = search needs
+
+add-k : tie.Need-add-k Inv-loop μ-loop
+add-k c = search needs
+
+loop-less : tie.Need-loop-less Inv-loop μ-loop
+loop-less c = search needs
+
+loop-again : tie.Need-loop-again Inv-loop μ-loop
+loop-again c =
+    let a = c .before .before .before .before .before .before .args in
+    let l = c .before .before .before .before .loop in
+    (omega arith, length-set (l .out) (l .k) _ ∙ l .inv .1, fill-turn (linkShown (a .t2) (a .t3) (a .word)) (now (a .out)) (l .out) (l .k) _ (l .inv .2) (c .link-shown .ensures) (search needs))
+
+same-length : tie.Need-same-length Inv-loop μ-loop
+same-length c = search needs
+
+returns : tie.Need-returns Inv-loop μ-loop
+returns c =
+    let a = c .before .before .before .args in
+    let l = c .before .loop in
+    let e : l .k ≡ a .m = omega arith in
+    l .inv .2 ∙ ap (filled (linkShown (a .t2) (a .t3) (a .word)) (now (a .out))) e
+
+pub put-links-spec : {M : Type 1} → statement M
+put-links-spec =
+    tie.close
+    (tie.spec
+    Inv-loop
+    μ-loop
+    loop-holds
+    cast-i
+    element-copy-out-link-shown
+    element-copy-out-link-shown-2
+    mul-link-shown
+    array-read-link-shown
+    link-shown-requires
+    slice-write-out
+    add-k
+    loop-less
+    loop-again
+    same-length
+    returns)
