@@ -1,5 +1,6 @@
--- P6 to P13 of document 01 over the whole machine, and its own sample run, as one table with a single claim. Every world here is
--- the line 0-1-2 with link 0 between 0 and 1 and link 1 between 1 and 2. antt computes both sides. Assumes nothing.
+-- P1 to P13 of document 01, and its own sample run, as one table with a single claim: each row has its number, what was got and what
+-- was wanted. From P6 on every world is the line 0-1-2 with link 0 between 0 and 1 and link 1 between 1 and 2. antt computes both
+-- sides. Assumes nothing.
 use Prim.Native.Nat.{ℕ, _+_}
 use mathlib.Core.Bool.{Bool, true, false}
 use mathlib.Core.Path.{_≡_, refl}
@@ -9,6 +10,8 @@ use lib.ListN.{length, replicate}
 use Rattle.lists.specs.Words.{bit, wordOf}
 use Rattle.lists.specs.Places.{collect}
 use Rattle.lists.specs.Lists.{below}
+use Rattle.fields.specs.Fields.{firstField}
+use Rattle.sheet.specs.Sheet.{Sheet, refused, sheet, opened, judged, readLinks, readSheet}
 use Rattle.net.specs.declared.Body.{Body}
 use Rattle.net.specs.declared.Body.the-variants.{Request, Reply, Notice}
 use Rattle.net.specs.declared.Letter.{Letter}
@@ -24,6 +27,25 @@ use Rattle.station.proofs.Cases.{bodyNumbers, letterNumbers}
 use Rattle.world.specs.World.{World, Event, holdingAt, heard, exists, allowed, letterOver, over, change, fits, refusal, step, wellFormed, fresh, settled, askRefusal, reportAt, reachAt}
 use Rattle.world.specs.History.{ifTaken, next, run, total, everSettled}
 use Rattle.laws.specs.Flood.{onlyNotices, highest, distance, share, bound}
+
+-- ---- a sheet that is read: the answer, and for a good sheet the numbers of stations and links
+shown : Sheet → List ℕ
+shown (refused k) = k ∷ []
+shown (sheet net) = 0 ∷ net .stations ∷ length (net .links) ∷ []
+
+reads : List ℕ → List ℕ
+unfolding shown firstField opened judged readLinks readSheet
+reads bytes = shown (readSheet bytes)
+
+-- one field of stations, of a link, and the last
+stations : ℕ → List ℕ
+stations n = 1 ∷ 0 ∷ 1 ∷ n ∷ []
+
+link : ℕ → ℕ → List ℕ
+link a b = 2 ∷ 0 ∷ 2 ∷ a ∷ b ∷ []
+
+last : List ℕ
+last = 15 ∷ 0 ∷ 0 ∷ []
 
 line : Network
 line = record { stations = 3; links = record { low = 0; high = 1 } ∷ record { low = 1; high = 2 } ∷ [] }
@@ -105,7 +127,7 @@ sampleRun =
 
 -- ---- the table; 0 is the sample run
 pub table : List Case
-unfolding sampleRun timesOut gets reports reaches floods
+unfolding reads stations link last sampleRun timesOut gets reports reaches floods
 table =
     record {
       number = 0;
@@ -113,6 +135,17 @@ table =
       want = (0 ∷ 0 ∷ 0 ∷ []) ++ (0 ∷ 0 ∷ 0 ∷ []) ++ (0 ∷ 1 ∷ 0 ∷ []) ++ (0 ∷ 2 ∷ 0 ∷ []) ++ (0 ∷ 1 ∷ 0 ∷ []) ++ (0 ∷ 1 ∷ 0 ∷ []) ++ (0 ∷ 1 ∷ 0 ∷ [])
           ++ (0 ∷ 0 ∷ 1 ∷ []) ++ (6 ∷ 0 ∷ 1 ∷ []) ++ (0 ∷ 2 ∷ []) ++ (1 ∷ 2 ∷ []);
     }
+    -- P1 the sheet of 01 gives 2 stations, 1 link
+    ∷ record { number = 1; got = reads (stations 2 ++ link 0 1 ++ last); want = 0 ∷ 2 ∷ 1 ∷ [] }
+    -- P2 empty bytes: 1
+    ∷ record { number = 2; got = reads []; want = 1 ∷ [] }
+    -- P3 link 1,1: 3
+    ∷ record { number = 3; got = reads (stations 2 ++ link 1 1 ++ last); want = 3 ∷ [] }
+    -- P4 the same link twice: 4
+    ∷ record { number = 4; got = reads (stations 2 ++ link 0 1 ++ link 0 1 ++ last); want = 4 ∷ [] }
+    -- P5 32 stations taken, 33: 3
+    ∷ record { number = 5; got = reads (stations 32 ++ last); want = 0 ∷ 32 ∷ 0 ∷ [] }
+    ∷ record { number = 5; got = reads (stations 33 ++ last); want = 3 ∷ [] }
     -- P6 timeout at counter 2: 3, told on the other link; at 3: stays 3
     ∷ record { number = 6; got = timesOut 2 4; want = 1 ∷ 0 ∷ 3 ∷ 4 ∷ (1 ∷ 1 ∷ 35 ∷ 0 ∷ 3 ∷ []) }
     ∷ record { number = 6; got = timesOut 3 4; want = 1 ∷ 0 ∷ 3 ∷ 4 ∷ [] }

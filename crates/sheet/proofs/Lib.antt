@@ -6,4 +6,3 @@ pub mod Output
 pub mod Laws
 pub mod Refusals
 pub mod ValueLaws
-pub mod Cases
