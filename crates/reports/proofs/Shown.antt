@@ -1,5 +1,5 @@
--- What an accepted call shows, over the report's bytes and the bits of the reach word: a station is shown as working exactly if
--- a path of links with even counters leads to it in the asker's own table. For every state, station and lent output.
+-- What an accepted report shows, over its bytes: a station is shown as working exactly if a path of links with even counters
+-- leads to it in the asker's own table. For every state, station and lent output. The reach word: WordShown.antt.
 -- Assumes nothing.
 use Prim.Native.Nat.{ℕ, _+_, _≤_, _<_}
 use mathlib.Core.Bool.{Bool}
@@ -57,20 +57,20 @@ module _ (s : State) (a : ℕ) (old : List ℕ) where
   out = outputOf s a old
 
   module _ (q : answerOf s a old ≡ 0) where
-    k : Asks s a
-    k = accepted-when s a old .0 q .0
+    ask : Asks s a
+    ask = accepted-when s a old .0 q .0
 
     fits : size s ≤ length old
     fits = accepted-when s a old .0 q .1
 
     long : length new ≡ size s
-    long = report-size s (k .good) a
+    long = report-size s (ask .good) a
 
     stations : networkOf (s .net) .stations ≡ s .net .stations
-    stations = stations-are s (k .good)
+    stations = stations-are s (ask .good)
 
     table : holdingAt (worldOf s) a .table ≡ ownTable s a
-    table = table-is s a (omega (arith, stations, k .station))
+    table = table-is s a (omega (arith, stations, ask .station))
 
     out-is : out ≡ new ++ drop (size s) old
     unfolding outputOf
@@ -95,7 +95,7 @@ module _ (s : State) (a : ℕ) (old : List ℕ) where
     station-in t h = subst⁻¹ (λ (n : Network). t < n .stations) (net-is s) (omega (arith, stations))
 
     link-in : (j : ℕ) → j < s .net .links → j < length (worldOf s .net .links)
-    link-in j h = subst⁻¹ (λ (n : Network). j < length (n .links)) (net-is s) (omega (arith, links-are s (k .good)))
+    link-in j h = subst⁻¹ (λ (n : Network). j < length (n .links)) (net-is s) (omega (arith, links-are s (ask .good)))
 
     -- THE BYTES OF AN ACCEPTED REPORT SAY WHAT DOCUMENT 01 SAYS, station by station and link by link
     pub shown : Shown s a old out

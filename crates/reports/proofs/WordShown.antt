@@ -66,11 +66,11 @@ module _ (s : State) (a : ℕ) where
   given-when = ((λ q. asks s a (sym answer-number ∙ q)), (λ k. answer-number ∙ why-number s a (none k)))
 
   module _ (q : askedOf s a .answer ≡ 0) where
-    k : Asks s a
-    k = given-when .0 q
+    ask : Asks s a
+    ask = given-when .0 q
 
     table : holdingAt (worldOf s) a .table ≡ ownTable s a
-    table = table-is s a (omega (arith, stations-are s (k .good), k .station))
+    table = table-is s a (omega (arith, stations-are s (ask .good), ask .station))
 
     reach-is : askedOf s a .reached ≡ reachedOf (s .net) (stationIn s a .counters) a
     unfolding reachAt
@@ -85,7 +85,7 @@ module _ (s : State) (a : ℕ) where
     path-back t r = subst⁻¹ (λ (n : Network). Reaches n (worksIn (holdingAt (worldOf s) a .table)) a t) (net-is s) (subst⁻¹ (λ (l : List ℕ). Reaches (networkOf (s .net)) (worksIn l) a t) table r)
 
     stations : worldOf s .net .stations ≡ s .net .stations
-    stations = ap (λ (n : Network). n .stations) (net-is s) ∙ stations-are s (k .good)
+    stations = ap (λ (n : Network). n .stations) (net-is s) ∙ stations-are s (ask .good)
 
     lowest-is : ((reachAt (worldOf s) a .lowest ≡ 255) × ((t : ℕ) → t < s .net .stations → PathTo s a t)) ⊎ Lowest s a (reachAt (worldOf s) a .lowest)
     lowest-is =
