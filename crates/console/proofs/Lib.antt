@@ -1,0 +1,4 @@
+pub mod Small
+pub mod Puts
+pub mod Stations
+pub mod Parts

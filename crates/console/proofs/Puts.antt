@@ -1,0 +1,75 @@
+-- A text that was put in parts, and what a caller has of it. Assumes nothing.
+use Prim.Native.Nat.{ℕ, _+_, _≤_, _<_, _^_}
+use mathlib.Core.Path.{_≡_, refl, sym, ap, _∙_, subst}
+use mathlib.Core.List.{List, [], _∷_, _++_, append-assoc}
+use native.Mathlib.Omega.{arith}
+use lib.Dec.{leb}
+use lib.ListN.{length, length-append}
+use lib.Seq.{length-take-le}
+use borrow.Author.Tests.{le-leb, lt-leb}
+use Rattle.text.specs.Text.{digits, putAt, placeAfter}
+use Rattle.text.proofs.Digits.{digits-at-most}
+use Rattle.text.proofs.Puts.{place-fits, length-put}
+use Rattle.text.proofs.Chains.{Chain}
+use Rattle.console.specs.Events.{answerText, refusalText}
+use Rattle.console.specs.Outputs.{Counts, wroteBy, outputBy, Put}
+
+-- a chain that has room for its text
+pub put-done : (text : List ℕ) (most at : ℕ) (old : List ℕ) (r : ℕ) (new : List ℕ) → Chain text at old r new → length text ≤ most → at + most ≤ length old → Put text most at old r new
+put-done text most at old r new c few h =
+    let here : r ≡ at + length text = c .place ∙ place-fits text at old (omega arith) in
+    record { place = here; output = c .output (omega arith); few = few }
+
+-- the same for a text written otherwise
+pub put-same : (text other : List ℕ) (most at : ℕ) (old : List ℕ) (r : ℕ) (new : List ℕ) → text ≡ other → Put text most at old r new → Put other most at old r new
+put-same text other most at old r new e p = subst (λ (x : List ℕ). Put x most at old r new) e p
+
+-- ---- how long numbers are
+pub byte-digits : (n : ℕ) → n < 256 → length (digits n) ≤ 3
+byte-digits n h = digits-at-most 2 n (omega arith)
+
+pub counter-digits : (n : ℕ) → n < 65536 → length (digits n) ≤ 5
+counter-digits n h = digits-at-most 4 n (omega arith)
+
+pub count-digits : (n : ℕ) → n < 2 ^ 64 → length (digits n) ≤ 20
+count-digits n h = digits-at-most 19 n (omega arith)
+
+-- ---- a line's answer
+abbrev pub answerParts : ℕ → ℕ → ℕ → List ℕ
+answerParts answer flying settled = ((((([] ++ digits answer) ++ (32 ∷ [])) ++ digits flying) ++ (32 ∷ [])) ++ digits settled) ++ (10 ∷ [])
+
+pub answer-whole : (answer flying settled : ℕ) → answerParts answer flying settled ≡ answerText answer flying settled
+unfolding answerText
+answer-whole answer flying settled = simp append-assoc
+
+pub answer-few : (answer flying settled : ℕ) → answer < 256 → flying < 65536 → settled < 2 ^ 64 → length (answerParts answer flying settled) ≤ 32
+answer-few answer flying settled a b c =
+    simp length-append (omega (arith, byte-digits answer a, counter-digits flying b, count-digits settled c))
+
+-- ---- a whole answer: the text at the front, or 10
+module _ (most : ℕ) (text old : List ℕ) where
+  pub wrote-short : length old < most → (record { answer = 10; written = 0 } ≡ wroteBy (leb most (length old)) text) × ((old ≡ outputBy (leb most (length old)) text old) × Counts 0 old)
+  wrote-short h = simp (lt-leb most (length old) h) (refl, (refl, (omega arith, refl)))
+
+  pub wrote-all : (r : ℕ) (new : List ℕ) → most ≤ length old → Put text most 0 old r new
+      → (record { answer = 0; written = r } ≡ wroteBy (leb most (length old)) text) × ((new ≡ outputBy (leb most (length old)) text old) × Counts r new)
+  wrote-all r new h p =
+      let size : length new ≡ length old = ap length (p .output) ∙ length-put text 0 old in
+      let within : r ≤ length new = omega (arith, p .place, p .few) in
+      let here : r ≡ length text = omega (arith, p .place) in
+      simp (le-leb most (length old) h) ((λ i. record { answer = 0; written = here i }), (p .output, (within, sym (length-take-le r new within))))
+
+-- what a chain takes of a text that was put
+pub put-next : {text : List ℕ} {most at : ℕ} {old : List ℕ} {r : ℕ} {new : List ℕ} → at + most ≤ length old → Put text most at old r new → (r ≡ placeAfter text at old) × (new ≡ putAt text at old)
+put-next {text} {most} {at} {old} h p = (p .place ∙ sym (place-fits text at old (omega (arith, p .few))), p .output)
+
+pub chain-same : {text other : List ℕ} {from : ℕ} {old : List ℕ} {at : ℕ} {out : List ℕ} → text ≡ other → Chain text from old at out → Chain other from old at out
+chain-same {from = from} {old = old} {at = at} {out = out} e c = subst (λ (x : List ℕ). Chain x from old at out) e c
+
+-- ---- a refused sheet's number
+pub refusal-whole : (n : ℕ) → ([] ++ digits n) ++ (10 ∷ []) ≡ refusalText n
+unfolding refusalText
+refusal-whole n = refl
+
+pub refusal-few : (n : ℕ) → n < 256 → length (([] ++ digits n) ++ (10 ∷ [])) ≤ 4
+refusal-few n h = simp length-append (omega (arith, byte-digits n h))

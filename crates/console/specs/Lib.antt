@@ -1,0 +1,5 @@
+pub mod Sheets
+pub mod Events
+pub mod Outputs
+pub mod Runs
+pub mod Steps
