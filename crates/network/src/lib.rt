@@ -83,7 +83,7 @@ fn freed(leaves: bool, x: Letter) -> Letter
 }
 
 // One event. Refusals in their order: 11, 6, 7, 8, 9; each hands back the state it was given.
-pub fn step(s: State, kind: u32, a: u32, b: u32) -> Stepped
+pub fn step(mut s: State, kind: u32, a: u32, b: u32) -> Stepped
     ensures { λ r. ⌜ r ≡ steppedOf s kind a b ⌝ }
 {
     if !state::well_formed(s) {
@@ -117,34 +117,34 @@ pub fn step(s: State, kind: u32, a: u32, b: u32) -> Stepped
             state: s,
         };
     }
+    // from here on the step changes its own copy of the state, in place
     let after = plan.station;
-    let mut next = s;
-    next.stations[who] = after;
+    s.stations[who] = after;
     // the later letters close up
     let last = left as usize;
     let from = pick(leaves, place, last);
     for i in from..last {
         let j = i + 1;
-        let y = next.letters[j];
-        next.letters[i] = y;
+        let y = s.letters[j];
+        s.letters[i] = y;
     }
     let free = pick(leaves, last, place);
     let unused = freed(leaves, x);
-    next.letters[free] = unused;
+    s.letters[free] = unused;
     // new letters go to the end
     let mut post = posting::begun(send);
     for k in 0..count {
         let at = last + k as usize;
         let y = posting::first(post, me);
-        next.letters[at] = y;
+        s.letters[at] = y;
         post = posting::rest(post);
     }
-    next.flying = left + count;
+    s.flying = left + count;
     Stepped {
         answer: 0,
         settled: plan.settled,
         raised: plan.raised,
         dropped: plan.dropped,
-        state: next,
+        state: s,
     }
 }

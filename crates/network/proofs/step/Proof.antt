@@ -26,19 +26,19 @@ use Rattle.network.proofs.step.Statement.{statement}
 use Rattle.network.proofs.step.Tie as tie
 
 abbrev Inv-loop : tie.InvT-loop
-Inv-loop kind a b flying place x me who plan send count leaves left answer next₀ last from i₀ next i =
-    (from ≤ i) × (i ≤ last) × (from < last → last < 4096) × (length (next₀ .letters) ≡ 4096) × (next ≡ withLetters next₀ (closing from (next₀ .letters) i))
+Inv-loop kind a b s₀ flying place x me who plan send count leaves left answer last from i₀ s i =
+    (from ≤ i) × (i ≤ last) × (from < last → last < 4096) × (length (s₀ .letters) ≡ 4096) × (s ≡ withLetters s₀ (closing from (s₀ .letters) i))
 
 abbrev μ-loop : tie.MeasureT-loop
-μ-loop kind a b flying place x me who plan send count leaves left answer next₀ last from i₀ next i = last - i
+μ-loop kind a b s₀ flying place x me who plan send count leaves left answer last from i₀ s i = last - i
 
 abbrev Inv-loop2 : tie.InvT-loop2
-Inv-loop2 kind a b flying place me who plan count leaves left answer next₀ last from free post₀ k₀ next post k =
-    (k ≤ count) × (last + count ≤ 4096) × (count ≡ length (posted me post₀)) × Going post × (posted me post ≡ drop k (posted me post₀)) × (next ≡ withLetters next₀ (next .letters))
-    × ((ls : List Letter) → next₀ .letters ≡ roomed 4096 noLetter ls → length ls ≡ last → next .letters ≡ roomed 4096 noLetter (ls ++ take k (posted me post₀)))
+Inv-loop2 kind a b s₀ flying place me who plan count leaves left answer last from free post₀ k₀ s post k =
+    (k ≤ count) × (last + count ≤ 4096) × (count ≡ length (posted me post₀)) × Going post × (posted me post ≡ drop k (posted me post₀)) × (s ≡ withLetters s₀ (s .letters))
+    × ((ls : List Letter) → s₀ .letters ≡ roomed 4096 noLetter ls → length ls ≡ last → s .letters ≡ roomed 4096 noLetter (ls ++ take k (posted me post₀)))
 
 abbrev μ-loop2 : tie.MeasureT-loop2
-μ-loop2 kind a b flying place me who plan count leaves left answer next₀ last from free post₀ k₀ next post k = count - k
+μ-loop2 kind a b s₀ flying place me who plan count leaves left answer last from free post₀ k₀ s post k = count - k
 
 facts : (c : tie.After-number-of Inv-loop μ-loop Inv-loop2 μ-loop2) → Facts (c .before .before .before .before .before .before .before .before .before .before .before .before .before .args .t1) (c .before .before .before .before .before .before .before .before .before .before .before .before .before .args .kind) (c .before .before .before .before .before .before .before .before .before .before .before .before .before .args .a) (c .before .before .before .before .before .before .before .before .before .before .before .before .before .args .b)
     (c .before .before .before .before .before .before .before .before .before .place-of .result) (c .before .before .before .before .before .before .before .concerned .result) (c .before .before .before .before .before .plan-event .result) (c .before .before .before .count .result) (c .before .left-of .result) (c .number-of .result) (c .before .before .takes-letter .result)
@@ -70,7 +70,7 @@ closesFrom c =
     record { net = a .t1 .net; flying = a .t1 .flying; stations = set (a .t1 .stations) (c .before .before .before .before .before .before .before .before .before .before .concerned .result) (c .before .before .before .before .before .before .before .before .plan-event .result .station); letters = a .t1 .letters }
 
 abbrev putsFrom : tie.After-begun Inv-loop μ-loop Inv-loop2 μ-loop2 → State
-putsFrom c = withLetters (c .before .before .before .before .loop .next) (set (c .before .before .before .before .loop .next .letters) (c .before .before .pick2 .result) (c .before .freed .result))
+putsFrom c = withLetters (c .before .before .before .before .loop .s) (set (c .before .before .before .before .loop .s .letters) (c .before .before .pick2 .result) (c .before .freed .result))
 
 well-formed-requires : tie.Need-well-formed-requires Inv-loop μ-loop Inv-loop2 μ-loop2
 well-formed-requires c κs = search needs
@@ -160,7 +160,7 @@ loop-again : tie.Need-loop-again Inv-loop μ-loop Inv-loop2 μ-loop2
 loop-again c =
     let l = c .before .before .loop in
     let few = l .inv .2 (omega arith) in
-    (omega arith, omega arith, l .inv .2, l .inv .3, shifted (closesFrom (c .before .before .before)) (l .next) (c .before .before .before .pick .result) (l .i) (l .inv .0) (omega (arith, l .inv .3, few)) (l .inv .4))
+    (omega arith, omega arith, l .inv .2, l .inv .3, shifted (closesFrom (c .before .before .before)) (l .s) (c .before .before .before .pick .result) (l .i) (l .inv .0) (omega (arith, l .inv .3, few)) (l .inv .4))
 
 pick-requires-2 : tie.Need-pick-requires-2 Inv-loop μ-loop Inv-loop2 μ-loop2
 pick-requires-2 c κs = search needs
@@ -221,12 +221,12 @@ loop2-again c =
       l .inv .2,
       st .2,
       st .1,
-      other-letters (putsFrom (c .before .before .before .before)) (l .next) (set (l .next .letters) at (c .before .first .result)) (l .inv .5),
+      other-letters (putsFrom (c .before .before .before .before)) (l .s) (set (l .s .letters) at (c .before .first .result)) (l .inv .5),
       λ ls e n. ap (λ (x : List Letter). set x at (c .before .first .result)) (l .inv .6 ls e n) ∙ posted-more ls (posted me post) (l .k) at (c .before .first .result) (omega (arith, n, l .inv .1, l .inv .2)) k (ap (λ (m : ℕ). m + l .k) (sym n)) (st .0),
     )
 
-add-next : tie.Need-add-next Inv-loop μ-loop Inv-loop2 μ-loop2
-add-next c = omega arith
+add-s : tie.Need-add-s Inv-loop μ-loop Inv-loop2 μ-loop2
+add-s c = omega arith
 
 returns-3 : tie.Need-returns-3 Inv-loop μ-loop Inv-loop2 μ-loop2
 returns-3 c =
@@ -249,7 +249,7 @@ returns-3 c =
     let kept = leftLetters f q in
     let put = l .inv .6 kept closed (left-length f q)
     ∙ ap (λ (x : List Letter). roomed 4096 noLetter (kept ++ x)) (ap (λ (i : ℕ). take i (posted me post)) all ∙ take-length (posted me post) ∙ new) in
-    made f q (l .next .net) (l .next .stations) (l .next .letters) (c .before .before .before .before .before .before .before .before .before .before .before .left-of .result + c .before .before .before .before .before .before .before .before .before .before .before .before .before .count .result) (ap (λ (x : State). x .net) (l .inv .5) ∙ ap (λ (x : State). x .net) (m .inv .4))
+    made f q (l .s .net) (l .s .stations) (l .s .letters) (c .before .before .before .before .before .before .before .before .before .before .before .left-of .result + c .before .before .before .before .before .before .before .before .before .before .before .before .before .count .result) (ap (λ (x : State). x .net) (l .inv .5) ∙ ap (λ (x : State). x .net) (m .inv .4))
     (ap (λ (x : State). x .stations) (l .inv .5) ∙ ap (λ (x : State). x .stations) (m .inv .4)) put refl
 
 pub step-spec : {M : Type 1} → statement M
@@ -303,5 +303,5 @@ step-spec =
     add-k
     loop2-less
     loop2-again
-    add-next
+    add-s
     returns-3)
