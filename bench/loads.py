@@ -94,19 +94,34 @@ def floods():
 def full():
     load = Load(32, hospital(), 3)
     load.up()
-    letters = load.machine.letters
+    machine, dice = load.machine, load.dice
+
+    def fill():
+        """A link is cut and heals: its end tells all that is known, some hundreds of letters at once."""
+        link = dice.randrange(64)
+        for letter in ("cut", "heal"):
+            tester = load.test(link)
+            if link not in machine.stations[tester].testing:
+                return
+            requests = [p for p, x in enumerate(machine.letters) if x[1] == link and x[0] == "request"]
+            if not requests:
+                load.event(5, tester, link)
+                return
+            place = requests[-1]
+            if letter == "cut":
+                load.event(8, place)
+                load.event(5, tester, link)
+            else:
+                load.event(7, place)
+                replies = [p for p, x in enumerate(machine.letters) if x[1] == link and x[0] == "reply"]
+                if replies:
+                    load.event(7, replies[-1])
+
     while len(load.events) < EVENTS:
-        if len(letters) < 3700:
-            # a link that is cut and heals tells all that is known: some hundreds of letters at once
-            link = load.dice.randrange(64)
-            load.cut(link)
-            load.test(link)
-            load.event(7, len(letters) - 1)
-            for place in range(len(letters) - 1, -1, -1):
-                if letters[place][0] == "reply":
-                    load.event(7, place)
-                    break
-        load.event(8 if len(letters) > 3950 else 7, load.dice.randrange(max(1, len(letters))))
+        if len(machine.letters) < 3880:
+            fill()
+        else:
+            load.event(8 if len(machine.letters) > 4000 else 7, dice.randrange(len(machine.letters)))
     return load
 
 
