@@ -5,3 +5,4 @@ pub mod Calls
 pub mod Tallies
 pub mod Demands
 pub mod Joined
+pub mod Unique
