@@ -1,4 +1,4 @@
-pub mod Small
+pub mod Files
 pub mod Puts
-pub mod Stations
-pub mod Parts
+pub mod Reading
+pub mod Feeding

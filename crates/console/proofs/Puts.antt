@@ -1,7 +1,7 @@
 -- A text that was put in parts, and what a caller has of it. Assumes nothing.
 use Prim.Native.Nat.{ℕ, _+_, _≤_, _<_, _^_}
 use mathlib.Core.Path.{_≡_, refl, sym, ap, _∙_, subst}
-use mathlib.Core.List.{List, [], _∷_, _++_, append-assoc}
+use mathlib.Core.List.{List, [], _∷_, _++_}
 use native.Mathlib.Omega.{arith}
 use lib.Dec.{leb}
 use lib.ListN.{length, length-append}
@@ -10,8 +10,8 @@ use borrow.Author.Tests.{le-leb, lt-leb}
 use Rattle.text.specs.Text.{digits, putAt, placeAfter}
 use Rattle.text.proofs.Digits.{digits-at-most}
 use Rattle.text.proofs.Puts.{place-fits, length-put}
-use Rattle.text.proofs.Chains.{Chain}
-use Rattle.console.specs.Events.{answerText, refusalText}
+use Rattle.text.proofs.Chains.{Chain, chain-none, chain-next}
+use Rattle.console.specs.Sheets.{refusalText}
 use Rattle.console.specs.Outputs.{Counts, wroteBy, outputBy, Put}
 
 -- a chain that has room for its text
@@ -33,18 +33,6 @@ counter-digits n h = digits-at-most 4 n (omega arith)
 
 pub count-digits : (n : ℕ) → n < 2 ^ 64 → length (digits n) ≤ 20
 count-digits n h = digits-at-most 19 n (omega arith)
-
--- ---- a line's answer
-abbrev pub answerParts : ℕ → ℕ → ℕ → List ℕ
-answerParts answer flying settled = ((((([] ++ digits answer) ++ (32 ∷ [])) ++ digits flying) ++ (32 ∷ [])) ++ digits settled) ++ (10 ∷ [])
-
-pub answer-whole : (answer flying settled : ℕ) → answerParts answer flying settled ≡ answerText answer flying settled
-unfolding answerText
-answer-whole answer flying settled = simp append-assoc
-
-pub answer-few : (answer flying settled : ℕ) → answer < 256 → flying < 65536 → settled < 2 ^ 64 → length (answerParts answer flying settled) ≤ 32
-answer-few answer flying settled a b c =
-    simp length-append (omega (arith, byte-digits answer a, counter-digits flying b, count-digits settled c))
 
 -- ---- a whole answer: the text at the front, or 10
 module _ (most : ℕ) (text old : List ℕ) where
@@ -73,3 +61,28 @@ refusal-whole n = refl
 
 pub refusal-few : (n : ℕ) → n < 256 → length (([] ++ digits n) ++ (10 ∷ [])) ≤ 4
 refusal-few n h = simp length-append (omega (arith, byte-digits n h))
+
+-- ---- texts one after the other
+-- a text as the crate `text` puts it
+pub put-of : (text : List ℕ) (most at : ℕ) (old : List ℕ) (r : ℕ) (new : List ℕ) → length text ≤ most → at + most ≤ length old
+    → (r ≡ placeAfter text at old) × (new ≡ putAt text at old) → Put text most at old r new
+put-of text most at old r new few h p = record { place = p .0 ∙ place-fits text at old (omega arith); output = p .1; few = few }
+
+pub put-size : {text : List ℕ} {most at : ℕ} {old : List ℕ} {r : ℕ} {new : List ℕ} → Put text most at old r new → length new ≡ length old
+put-size {text} {most} {at} {old} p = ap length (p .output) ∙ length-put text at old
+
+pub put-wider : {text : List ℕ} {less at : ℕ} {old : List ℕ} {r : ℕ} {new : List ℕ} (most : ℕ) → less ≤ most → Put text less at old r new → Put text most at old r new
+put-wider most h p = record { place = p .place; output = p .output; few = omega (arith, p .few) }
+
+pub put-then : {xs ys : List ℕ} {m n at : ℕ} {old : List ℕ} {a : ℕ} {mid : List ℕ} {b : ℕ} {new : List ℕ} → at + (m + n) ≤ length old
+    → Put xs m at old a mid → Put ys n a mid b new → Put (xs ++ ys) (m + n) at old b new
+put-then {xs} {ys} {m} {n} {at} {old} {a} {mid} {b} {new} h p q =
+    put-done (xs ++ ys) (m + n) at old b new
+    (chain-next ys (chain-next xs (chain-none at old (omega arith)) (put-next (omega arith) p)) (put-next (omega (arith, p .place, p .few, put-size p)) q))
+    (omega (arith, length-append xs ys, p .few, q .few)) h
+
+-- nothing at all
+pub put-nothing : (most at : ℕ) (old : List ℕ) → at ≤ length old → Put [] most at old at old
+put-nothing most at old h =
+    let c = chain-none at old h in
+    record { place = omega arith; output = c .output h; few = omega arith }

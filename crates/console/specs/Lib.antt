@@ -1,5 +1,4 @@
 pub mod Sheets
-pub mod Events
 pub mod Outputs
-pub mod Runs
-pub mod Steps
+pub mod Begun
+pub mod Feeding

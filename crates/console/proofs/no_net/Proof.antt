@@ -1,4 +1,4 @@
-use Rattle.console.proofs.Small.{no-room}
+use Rattle.console.proofs.Files.{no-room}
 use Rattle.console.proofs.no_net.Statement.{statement}
 use Rattle.console.proofs.no_net.Tie as tie
 

@@ -1,4 +1,4 @@
-use Rattle.console.proofs.Small.{file-long, file-read}
+use Rattle.console.proofs.Files.{file-long, file-read}
 use denote.Ref.{now}
 use native.Mathlib.Omega.{arith}
 use borrow.Author.Needs.{needs}

@@ -1,5 +1,5 @@
 use Rattle.console.proofs.Puts.{put-done, put-same, wrote-short, wrote-all, refusal-whole, refusal-few}
-use Rattle.console.specs.Events.{refusalText}
+use Rattle.console.specs.Sheets.{refusalText}
 use Rattle.text.proofs.Chains.{chain-none, chain-next}
 use Rattle.text.specs.Text.{digits}
 use denote.Ref.{now}

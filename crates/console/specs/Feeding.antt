@@ -1,0 +1,45 @@
+-- A program that takes its input byte by byte and prints where a line ends. It holds a value of its own beside the reading of the line
+-- under way. proofs/Lines.antt: in all it prints for each line of the input, whatever the pieces that the input comes in. Assumes nothing.
+use Prim.Native.Nat.{ℕ, _+_}
+use mathlib.Core.Bool.{Bool, true, false}
+use mathlib.Core.List.{List, [], _∷_, _++_}
+use lib.Dec.{eqb}
+use Rattle.lists.specs.Lists.{if_then_else_}
+
+-- how far a line is read: the reading, the place behind it, and whether that is behind its newline
+pub record Stop (R : Type 0) : Type 0 where
+  pub reading : R
+  pub next : ℕ
+  pub ended : Bool
+
+module _ {R : Type 0} (on : R → ℕ → R) where
+  -- the line as far as its newline or the end of the bytes, which begin at the place `at`
+  abbrev pub stopOf : R → List ℕ → ℕ → Stop R
+  stopOf r [] at = record { reading = r; next = at; ended = false }
+  stopOf r (b ∷ bytes) at = if eqb b 10 then record { reading = r; next = at + 1; ended = true } else stopOf (on r b) bytes (at + 1)
+
+-- a reading where no byte of a line is read, what a byte does to it, what it says where the line ends; what a line does to the value held,
+-- and what is printed for it
+module _ {Y R A : Type 0} (fresh : R) (on : R → ℕ → R) (ends : R → A) (act : Y → A → Y) (say : Y → A → List ℕ) where
+  -- after some bytes: what is held, and the reading
+  unfoldable pub heldAfter : Y → R → List ℕ → Y
+  heldAfter y r [] = y
+  heldAfter y r (b ∷ bytes) = if eqb b 10 then heldAfter (act y (ends r)) fresh bytes else heldAfter y (on r b) bytes
+
+  unfoldable pub readAfter : Y → R → List ℕ → R
+  readAfter y r [] = r
+  readAfter y r (b ∷ bytes) = if eqb b 10 then readAfter (act y (ends r)) fresh bytes else readAfter y (on r b) bytes
+
+  -- what is printed for them
+  unfoldable pub textAfter : Y → R → List ℕ → List ℕ
+  textAfter y r [] = []
+  textAfter y r (b ∷ bytes) = if eqb b 10 then say y (ends r) ++ textAfter (act y (ends r)) fresh bytes else textAfter y (on r b) bytes
+
+  -- for whole lines, each given by what it says
+  unfoldable pub printed : Y → List A → List ℕ
+  printed y [] = []
+  printed y (said ∷ others) = say y said ++ printed (act y said) others
+
+  unfoldable pub heldAll : Y → List A → Y
+  heldAll y [] = y
+  heldAll y (said ∷ others) = heldAll (act y said) others

@@ -1,0 +1,115 @@
+use Rattle.wiring.proofs.Written.{Back, sheet-back, stations-said, links-said}
+use Rattle.wiring.specs.Wire.{goodWord, newline, fieldText, hexText, sheetText}
+use Rattle.console.proofs.Puts.{put-of, put-same, put-then, put-size, put-wider}
+use Rattle.console.specs.Outputs.{Put}
+use Rattle.sheet.specs.Sheet.{writeSheet}
+use Rattle.net.specs.Values.{networkOf}
+use denote.Ref.{now}
+use lib.Seq.{length-take-le}
+use lib.ListN.{length}
+use mathlib.Core.List.{List, [], _∷_, _++_}
+use mathlib.Core.Path.{sym, ap, ap₂, _∙_}
+use Prim.Native.Nat.{ℕ}
+use native.Mathlib.Omega.{arith}
+use borrow.Author.Needs.{needs}
+use Rattle.wiring.proofs.put_network.Statement.{statement}
+use Rattle.wiring.proofs.put_network.Tie as tie
+
+sheet-room-requires : tie.Need-sheet-room-requires
+sheet-room-requires c κs = search needs
+
+slice-aggregate-write : tie.Need-slice-aggregate-write
+slice-aggregate-write c = search needs
+
+write-requires : tie.Need-write-requires
+write-requires c κs = search needs
+
+sheet-size-requires : tie.Need-sheet-size-requires
+sheet-size-requires c κs = search needs
+
+slice-aggregate-put-word : tie.Need-slice-aggregate-put-word
+slice-aggregate-put-word c = search needs
+
+put-word-requires : tie.Need-put-word-requires
+put-word-requires c κs = search needs
+
+cast-put-field : tie.Need-cast-put-field
+cast-put-field c = search needs
+
+-- the sheet stands in the room
+written : (c : tie.After-sheet-size) → let a = c .before .before .before .before .before .before .args in Back (writeSheet (networkOf (a .net))) (c .before .before .before .before .sheet-room .result) (c .before .before .write .last .1 .0) (c .sheet-size .result)
+written c =
+    let a = c .before .before .before .before .before .before .args in
+    sheet-back (a .net) _ _ _ _ (c .before .before .before .before .before .before .pre .1) (c .before .before .before .before .sheet-room .ensures) (c .before .before .write .ensures .0) (c .before .before .write .ensures .1) (c .sheet-size .ensures)
+
+-- "sheet 0 ", and the numbers of stations and links
+first : (c : tie.After-put-word) → let a = c .before .before .before .before .before .before .before .before .before .args in Put goodWord 8 0 (now (a .out)) (c .put-word .result) (c .put-word .last .0)
+first c = let a = c .before .before .before .before .before .before .before .before .before .args in put-of goodWord 8 0 (now (a .out)) _ _ (omega arith) (omega arith) (c .put-word .ensures)
+
+second : (c : tie.After-put-field) → let a = c .before .before .before .before .before .before .before .before .before .before .before .before .before .before .args in Put (goodWord ++ fieldText (a .net .stations)) 14 0 (now (a .out)) (c .put-field .result) (c .put-field .last .0)
+second c = put-then (omega arith) (first (c .before .before .before .before .before)) (c .put-field .ensures)
+
+third : (c : tie.After-put-field2) → let a = c .before .before .before .before .before .before .before .before .before .before .before .before .before .before .before .before .before .before .before .args in Put (goodWord ++ fieldText (a .net .stations) ++ fieldText (a .net .links)) 20 0 (now (a .out)) (c .put-field2 .result) (c .put-field2 .last .0)
+third c = put-then (omega arith) (second (c .before .before .before .before .before)) (c .put-field2 .ensures)
+
+put-field-requires : tie.Need-put-field-requires
+put-field-requires c κs = let w = first (c .before .before .before .before) in omega (arith, w .place, w .few, put-size w)
+
+cast-put-field-2 : tie.Need-cast-put-field-2
+cast-put-field-2 c = search needs
+
+put-field-requires-2 : tie.Need-put-field-requires-2
+put-field-requires-2 c κs = let w = second (c .before .before .before .before) in omega (arith, w .place, w .few, put-size w)
+
+array-share-prefix-room : tie.Need-array-share-prefix-room
+array-share-prefix-room c = let b = written (c .before .before .before .before .before .before .before .before .before .before .before .before .before .before .before .before) in omega (arith, b .few, b .same, c .before .before .before .before .before .before .before .before .before .before .before .before .before .before .before .before .before .before .before .before .sheet-room .ensures)
+
+slice-aggregate-put-bytes : tie.Need-slice-aggregate-put-bytes
+slice-aggregate-put-bytes c = let b = written (c .before .before .before .before .before .before .before .before .before .before .before .before .before .before .before .before .before) in sym (length-take-le _ _ (omega (arith, b .few, b .same)))
+
+put-bytes-requires : tie.Need-put-bytes-requires
+put-bytes-requires c κs = let b = written (c .before .before .before .before .before .before .before .before .before .before .before .before .before .before .before .before .before) in let w = third (c .before .before .before .before) in omega (arith, w .place, w .few, put-size w, b .few, c .before .before .before .before .before .before .before .before .before .before .before .before .before .before .before .before .before .before .before .before .before .sheet-room .ensures, b .size, ap length (b .bytes))
+
+slice-aggregate-put-word-2 : tie.Need-slice-aggregate-put-word-2
+slice-aggregate-put-word-2 c = search needs
+
+put-word-requires-2 : tie.Need-put-word-requires-2
+put-word-requires-2 c κs = search needs
+
+same-length : tie.Need-same-length
+same-length c = search needs
+
+returns : tie.Need-returns
+unfolding sheetText
+returns c =
+    let a = c .before .before .before .before .before .before .before .before .before .before .before .before .before .before .before .before .before .before .before .before .before .before .before .before .before .before .before .before .before .before .before .args in
+    let r = c .before .before .before .before .before .before .before .before .before .before .before .before .before .before .before .before .before .before .before .before .before .before .before .before .before .before .before .before .before .before .before .pre .0 in
+    let t = c .before .before .before .before .before .before .before .before .before .before .before .before .before .before .before .before .before .before .before .before .before .before .before .before .before .before .before .before .before .before .before .pre .1 in
+    let b = written (c .before .before .before .before .before .before .before .before .before .before .before .before .before .before .before .before .before .before .before .before .before .before .before .before .before) in
+    let w = third (c .before .before .before .before .before .before .before .before .before .before .before .before) in
+    let h = put-wider 654 (omega (arith, b .few, c .before .before .before .before .before .before .before .before .before .before .before .before .before .before .before .before .before .before .before .before .before .before .before .before .before .before .before .before .before .sheet-room .ensures, b .size, ap length (b .bytes))) (c .before .before .before .before .before .before .before .put-bytes .ensures) in
+    let x = put-then (omega (arith, r)) w (put-same _ _ 654 _ _ _ _ (ap hexText (b .bytes)) h) in
+    let y = put-wider 700 (omega arith) (put-then (omega (arith, r)) x (put-of (10 ∷ []) 1 _ _ _ _ (omega arith) (omega (arith, r, x .place, x .few, put-size x)) (c .before .before .put-word2 .ensures))) in
+    put-same _ _ 700 0 (now (a .out)) _ _ (ap₂ (λ (n m : ℕ). goodWord ++ fieldText n ++ fieldText m ++ hexText (writeSheet (networkOf (a .net))) ++ newline) (stations-said (a .net) t) (links-said (a .net) t)) y
+
+pub put-network-spec : {M : Type 1} → statement M
+put-network-spec =
+    tie.close
+    (tie.spec
+    sheet-room-requires
+    slice-aggregate-write
+    write-requires
+    sheet-size-requires
+    slice-aggregate-put-word
+    put-word-requires
+    cast-put-field
+    put-field-requires
+    cast-put-field-2
+    put-field-requires-2
+    array-share-prefix-room
+    slice-aggregate-put-bytes
+    put-bytes-requires
+    slice-aggregate-put-word-2
+    put-word-requires-2
+    same-length
+    returns)
