@@ -2,3 +2,7 @@ pub mod Files
 pub mod Puts
 pub mod Reading
 pub mod Feeding
+pub mod Lines
+pub mod Faults
+pub mod Goods
+pub mod Begun

@@ -43,3 +43,28 @@ module _ {Y R A : Type 0} (fresh : R) (on : R → ℕ → R) (ends : R → A) (a
   unfoldable pub heldAll : Y → List A → Y
   heldAll y [] = y
   heldAll y (said ∷ others) = heldAll (act y said) others
+
+  -- ---- an input that comes in pieces
+  unfoldable pub piecesHeld : Y → R → List (List ℕ) → Y
+  piecesHeld y r [] = y
+  piecesHeld y r (piece ∷ others) = piecesHeld (heldAfter y r piece) (readAfter y r piece) others
+
+  unfoldable pub piecesRead : Y → R → List (List ℕ) → R
+  piecesRead y r [] = r
+  piecesRead y r (piece ∷ others) = piecesRead (heldAfter y r piece) (readAfter y r piece) others
+
+  unfoldable pub piecesText : Y → R → List (List ℕ) → List ℕ
+  piecesText y r [] = []
+  piecesText y r (piece ∷ others) = textAfter y r piece ++ piecesText (heldAfter y r piece) (readAfter y r piece) others
+
+  -- "the last newline may be missing": where a line is begun at the end of the input, one newline more is fed
+  module _ (begun : R → Bool) where
+    abbrev pub closing : R → List ℕ
+    closing r = if begun r then 10 ∷ [] else []
+
+    unfoldable pub wholeText : Y → List (List ℕ) → List ℕ
+    wholeText y pieces =
+        piecesText y fresh pieces ++ textAfter (piecesHeld y fresh pieces) (piecesRead y fresh pieces) (closing (piecesRead y fresh pieces))
+
+    unfoldable pub wholeHeld : Y → List (List ℕ) → Y
+    wholeHeld y pieces = heldAfter (piecesHeld y fresh pieces) (piecesRead y fresh pieces) (closing (piecesRead y fresh pieces))

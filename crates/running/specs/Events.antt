@@ -21,7 +21,7 @@ pub record Standing : Type 0 where
   pub tally : Tally
 
 -- the event that a line's numbers name (crate `lines`, eventLine); a malformed line names none: there is no kind 0, so that it is
--- answered by 6 and changes nothing (proofs/Lines.antt, malformed)
+-- answered by 6 and changes nothing (proofs/Sayings.antt, malformed)
 abbrev pub eventBy : List ℕ → Event
 eventBy said = record { kind = getD said 1 0; a = getD said 2 0; b = getD said 3 0 }
 

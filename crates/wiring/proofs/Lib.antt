@@ -1,3 +1,4 @@
 pub mod Texts
 pub mod Written
 pub mod Passing
+pub mod Program

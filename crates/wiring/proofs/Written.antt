@@ -1,31 +1,31 @@
 -- Sheets and letters written back into a room that is long enough for every one of them. Assumes nothing.
-use Prim.Native.Nat.{ℕ, _+_, _*_, _≤_, min}
+use Prim.Native.Nat.{ℕ, _≤_}
 use mathlib.Core.Bool.{Bool, true, false, not}
 use mathlib.Core.Path.{_≡_, refl, sym, ap, _∙_}
 use mathlib.Core.List.{List, [], _∷_, _++_}
 use native.Mathlib.Omega.{arith}
-use lib.Dec.{T, ltb}
+use lib.Dec.{T}
 use lib.ListN.{length, getD, take, drop, length-append}
 use lib.Seq.{take-at}
 use borrow.Author.Tests.{le-ltb}
 use Rattle.lists.specs.Lists.{if_then_else_}
 use Rattle.lists.proofs.Tests.{T-is, is-T}
-use Rattle.fields.specs.Fields.{writeField, onto}
-use Rattle.fields.specs.Output.{Writing, denied, fitting, writingNumbers, writingOutput}
+use Rattle.fields.specs.Fields.{onto}
+use Rattle.fields.specs.Output.{fitting, writingNumbers, writingOutput}
 use Rattle.fields.proofs.Seen.{length-field, length-onto}
 use Rattle.net.specs.declared.Body.{Body}
 use Rattle.net.specs.declared.Body.the-variants.{Request, Reply, Notice}
 use Rattle.net.specs.declared.Letter.{Letter}
 use Rattle.net.specs.declared.Net.{Net}
+use Rattle.net.specs.Network.{Network}
 use Rattle.net.specs.Values.{networkOf, netHolds}
 use Rattle.net.specs.Letters.{letterHolds}
 use Rattle.net.proofs.Good.{few-places, few-stations}
 use Rattle.net.proofs.ValueLaws.{stations-of, links-of}
-use Rattle.sheet.specs.Sheet.{Sheet, refused, sheet, readSheet, writeSheet, writeLinks}
+use Rattle.sheet.specs.Sheet.{Sheet, refused, sheet, writeSheet}
 use Rattle.sheet.specs.Values.{sheetNumber, sheetNet, zeroNet, valueOf}
 use Rattle.sheet.specs.Values as SheetValues
 use Rattle.sheet.proofs.Output.{links-length}
-use Rattle.sheet.proofs.Laws.{read-holds}
 use Rattle.sheet.proofs.ValueLaws.{value-means, value-holds, zero-bad}
 use Rattle.letters.specs.Letters.{Letters, letter, readLetter, bodyBytes, sideOf, writeLetter}
 use Rattle.letters.specs.Letters as L
@@ -35,6 +35,7 @@ use Rattle.letters.specs.Values as LetterValues
 use Rattle.text.specs.Text.{digits}
 use Rattle.console.specs.declared.Opened.{Opened}
 use Rattle.console.specs.Sheets.{fileSheet, openedBy}
+use Rattle.console.proofs.Goods.{file-holds}
 use Rattle.wiring.specs.Wire.{sheetWord, newline, sheetText}
 
 -- the bytes stand at the front of the room
@@ -80,13 +81,8 @@ pub links-said : (net : Net) → T (netHolds net) → net .links ≡ length (net
 links-said net t = omega (arith, links-of net, few-places net t)
 
 -- what the file gave
-file-holds : (file : List ℕ) (net : _) → fileSheet file ≡ sheet net → T (netHolds (valueOf net)) × (networkOf (valueOf net) ≡ net)
-unfolding fileSheet
-file-holds file net = go (ltb 4096 (length file))
-  where
-    go : (b : Bool) → (if b then refused 2 else readSheet file) ≡ sheet net → T (netHolds (valueOf net)) × (networkOf (valueOf net) ≡ net)
-    go true e = let z : _≡_ {A = ℕ} 0 1 = cc in absurd (omega arith)
-    go false e = let h = read-holds file net e in (value-holds net h, value-means net h)
+file-good : (file : List ℕ) (net : Network) → fileSheet file ≡ sheet net → T (netHolds (valueOf net)) × (networkOf (valueOf net) ≡ net)
+file-good file net e = let h = file-holds file net e in (value-holds net h, value-means net h)
 
 module _ (file : List ℕ) (o : Opened) (is : o ≡ openedBy (fileSheet file)) where
   pub sheet-bad : netHolds (o .net) ≡ false → sheetWord ++ digits (o .number) ++ newline ≡ sheetText (fileSheet file)
@@ -97,7 +93,7 @@ module _ (file : List ℕ) (o : Opened) (is : o ≡ openedBy (fileSheet file)) w
       go (refused k) e = ap (λ (n : ℕ). sheetWord ++ digits n ++ newline) (ap (λ (x : Opened). x .number) is ∙ ap sheetNumber e) ∙ sym (ap sheetText e)
       go (sheet net) e =
           let v : o .net ≡ valueOf net = ap (λ (x : Opened). x .net) is ∙ ap sheetNet e in
-          let b : _≡_ {A = Bool} true false = sym (T-is (netHolds (valueOf net)) (file-holds file net e .0)) ∙ ap netHolds (sym v) ∙ h in
+          let b : _≡_ {A = Bool} true false = sym (T-is (netHolds (valueOf net)) (file-good file net e .0)) ∙ ap netHolds (sym v) ∙ h in
           let z : _≡_ {A = ℕ} 0 1 = cc in
           absurd (omega arith)
 
@@ -112,10 +108,10 @@ module _ (file : List ℕ) (o : Opened) (is : o ≡ openedBy (fileSheet file)) w
           absurd (omega arith)
       go (sheet net) e =
           let v : o .net ≡ valueOf net = ap (λ (x : Opened). x .net) is ∙ ap sheetNet e in
-          ap sheetText (ap sheet (ap networkOf v ∙ file-holds file net e .1) ∙ sym e)
+          ap sheetText (ap sheet (ap networkOf v ∙ file-good file net e .1) ∙ sym e)
 
 -- ---- letters
-letter-length : (net : _) (x : Letter) → length (writeLetter net x) ≤ 8
+letter-length : (net : Network) (x : Letter) → length (writeLetter net x) ≤ 8
 unfolding writeLetter
 letter-length net x = go (x .body)
   where

@@ -1,2 +1,3 @@
 pub mod Wire
 pub mod Passing
+pub mod Calls
