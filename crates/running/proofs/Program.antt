@@ -1,11 +1,12 @@
 -- THE EVENT PROGRAM: whatever the pieces that standard input comes in, its calls print, in all, exactly what document 01 says of the file and
 -- of the whole input. Assumes nothing.
-use Prim.Native.Nat.{ℕ}
+use Prim.Native.Nat.{ℕ, _-_, _≤_}
 use mathlib.Core.Bool.{Bool, true}
 use mathlib.Core.Path.{_≡_, refl, sym, ap, ap₂, _∙_}
 use mathlib.Core.List.{List, [], _∷_, _++_, map}
 use native.Mathlib.Omega.{arith}
 use lib.Dec.{T, eqb}
+use lib.ListN.{length, replicate, length-append, length-replicate, length-map}
 use borrow.Author.Tests.{ne-eqb}
 use Rattle.lists.specs.Lists.{if_then_else_}
 use Rattle.lists.proofs.Tests.{T-is}
@@ -18,13 +19,14 @@ use Rattle.net.specs.declared.Net.{Net}
 use Rattle.net.specs.Network.{Network, sheetHolds}
 use Rattle.net.specs.Values.{networkOf, netHolds}
 use Rattle.sheet.specs.Sheet.{Sheet, refused, sheet}
-use Rattle.sheet.specs.Values.{valueOf}
+use Rattle.sheet.specs.Values.{roomOf, valueOf}
+use Rattle.sheet.proofs.Rising.{rules-of}
 use Rattle.sheet.proofs.ValueLaws.{value-means, value-holds}
 use Rattle.world.specs.World.{World, fresh}
 use Rattle.world.proofs.Keeps.{fresh-formed}
 use Rattle.state.specs.declared.State.{State}
 use Rattle.state.specs.declared.Begun.{Begun}
-use Rattle.state.specs.State.{stateOf, begunOf}
+use Rattle.state.specs.State.{stateOf, Ends64, begunOf}
 use Rattle.laws.proofs.Tallies.{Fits}
 use Rattle.console.specs.Begun.{isBegun}
 use Rattle.console.specs.Sheets.{fileSheet, openedBy, refusalText}
@@ -39,6 +41,20 @@ use Rattle.running.proofs.Worlds.{Carried, lines-print, Ends, lines-end
 
 no-fits : Fits noTally
 no-fits = record { settled = omega arith; raised = omega arith; dropped = omega arith }
+
+-- the value of a network has its room of 64 links
+room-long : (xs : List ℕ) → length xs ≤ 64 → length (roomOf xs) ≡ 64
+unfolding roomOf
+room-long xs h = length-append xs (replicate (64 - length xs) 0) ∙ omega (arith, length-replicate {A = ℕ} (64 - length xs) 0)
+
+value-ends : (net : Network) → T (sheetHolds net) → Ends64 (valueOf net)
+unfolding valueOf
+value-ends net t =
+    let n = rules-of net t .few in
+    record {
+      low = room-long (map (λ e. e .low) (net .links)) (omega (arith, n, length-map (net .links) (λ e. e .low)));
+      high = room-long (map (λ e. e .high) (net .links)) (omega (arith, n, length-map (net .links) (λ e. e .high)));
+    }
 
 -- a good sheet: the first state, and the run from it
 module _ (net : Network) (t : T (sheetHolds net)) where
@@ -61,7 +77,7 @@ module _ (net : Network) (t : T (sheetHolds net)) where
   fresh-net = refl
 
   first-carried : Carried v (fresh net)
-  first-carried = record { good = value-holds net t; net = value-means net t ∙ sym fresh-net; formed = fresh-formed net t }
+  first-carried = record { good = value-holds net t; ends = value-ends net t; net = value-means net t ∙ sym fresh-net; formed = fresh-formed net t }
 
   run-prints : (pieces : List (List ℕ)) → runText (stateOf v (fresh net)) pieces ≡ outputBy (sheet net) (map eventLine (linesOf (joined pieces)))
   unfolding runText

@@ -28,7 +28,7 @@ use Rattle.world.specs.History.{next, orElse}
 use Rattle.world.proofs.Keeps.{Formed, step-formed}
 use Rattle.world.proofs.Steps.{step-accepts, step-refuses, step-number, after-net}
 use Rattle.state.specs.declared.State.{State}
-use Rattle.state.specs.State.{stationIn, worldOf, stateOf, stateHolds}
+use Rattle.state.specs.State.{stationIn, worldOf, stateOf, stateHolds, Ends64}
 use Rattle.state.proofs.LaidOut.{laid-sized, laid-holds, laid-means}
 use Rattle.state.proofs.Meaning.{count-is, world-holding}
 use Rattle.network.specs.declared.Stepped.{Stepped}
@@ -42,6 +42,7 @@ use Rattle.running.specs.Runs.{Desk, deskOf, stepBy, acted, spoken, stat
 -- a world that a good network carries
 pub record Carried (v : Net) (w : World) : Type 0 where
   pub good : T (netHolds v)
+  pub ends : Ends64 v
   pub net : networkOf v ≡ w .net
   pub formed : Formed w
 
@@ -110,7 +111,7 @@ module _ (v : Net) (w : World) (c : Carried v w) (t : Tally) (f : Fits t) (said 
       let world : next w ev ≡ after w ev = ap (orElse w) o in
       let tally : tallyBy (step w ev) t (settled w ev) (raised w ev) (dropped w ev) ≡ tallied t (settled w ev) (raised w ev) (dropped w ev) = ap (λ (x : Outcome). tallyBy x t (settled w ev) (raised w ev) (dropped w ev)) o in
       record {
-        carried = subst⁻¹ (Carried v) world (record { good = c .good; net = c .net ∙ sym (after-net w ev); formed = step-formed w ev (after w ev) (c .formed) o });
+        carried = subst⁻¹ (Carried v) world (record { good = c .good; ends = c .ends; net = c .net ∙ sym (after-net w ev); formed = step-formed w ev (after w ev) (c .formed) o });
         fits = subst⁻¹ Fits tally (record { settled = counted-fits (t .settled) (settled w ev); raised = counted-fits (t .raised) (raised w ev); dropped = counted-fits (t .dropped) (dropped w ev) });
         acts = ap (λ (x : Stepped). deskOf (x .state) (tallied t (x .settled) (x .raised) (x .dropped))) d ∙ sym (ap₂ (λ (x : World) (u : Tally). deskOf (stateOf v x) u) world tally);
         says =
@@ -189,7 +190,7 @@ pub end-prints : (v : Net) (w : World) → Carried v w → stationsText (stateOf
 unfolding stationsText endText
 end-prints v w c =
     let s = stateOf v w in
-    let z = laid-sized v w (c .good) (c .net) (c .formed) in
+    let z = laid-sized v w (c .good) (c .net) (c .formed) (c .ends) in
     let t = laid-holds v w (c .good) (c .net) (c .formed) in
     let m = laid-means v w (c .good) (c .net) (c .formed) in
     let count : networkOf (s .net) .stations ≡ s .net .stations = count-is s z t in
