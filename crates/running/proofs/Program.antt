@@ -1,15 +1,14 @@
 -- THE EVENT PROGRAM: whatever the pieces that standard input comes in, its calls print, in all, exactly what document 01 says of the file and
 -- of the whole input. Assumes nothing.
 use Prim.Native.Nat.{ℕ}
-use mathlib.Core.Bool.{Bool, true}
+use mathlib.Core.Bool.{Bool}
 use mathlib.Core.Path.{_≡_, refl, sym, ap, ap₂, _∙_}
-use mathlib.Core.List.{List, [], _∷_, _++_, map}
+use mathlib.Core.List.{List, _++_, map}
 use native.Mathlib.Omega.{arith}
-use lib.Dec.{T, eqb}
+use lib.Dec.{T}
 use borrow.Author.Tests.{ne-eqb}
 use Rattle.lists.specs.Lists.{if_then_else_}
 use Rattle.lists.proofs.Tests.{T-is}
-use Rattle.tally.specs.Sums.{largest}
 use Rattle.lines.specs.Events.{eventLine}
 use Rattle.lines.specs.Split.{linesOf}
 use Rattle.lines.specs.Steps.{start, readOn, lineEnd}
@@ -20,7 +19,7 @@ use Rattle.net.specs.Values.{networkOf, netHolds}
 use Rattle.sheet.specs.Sheet.{Sheet, refused, sheet}
 use Rattle.sheet.specs.Values.{valueOf}
 use Rattle.sheet.proofs.ValueLaws.{value-means, value-holds}
-use Rattle.world.specs.World.{World, fresh}
+use Rattle.world.specs.World.{fresh}
 use Rattle.world.proofs.Keeps.{fresh-formed}
 use Rattle.state.specs.declared.State.{State}
 use Rattle.state.specs.declared.Begun.{Begun}
@@ -32,10 +31,10 @@ use Rattle.console.proofs.Lines.{joined, whole-text, whole-held}
 use Rattle.console.proofs.Faults.{refusal-counts}
 use Rattle.console.proofs.Goods.{file-holds}
 use Rattle.console.proofs.Begun.{not-first, byte-begins}
-use Rattle.running.specs.Events.{Standing, noTally, begins, printed, doneAll, endText, outputBy, eventProgram}
+use Rattle.running.specs.Events.{noTally, begins, doneAll, outputBy, eventProgram}
 use Rattle.running.specs.Runs.{Desk, deskOf, acted, spoken, stationsText}
 use Rattle.running.specs.Calls.{runText, openedText, callsText}
-use Rattle.running.proofs.Worlds.{Carried, lines-print, Ends, lines-end, end-prints}
+use Rattle.running.proofs.Worlds.{Carried, lines-print, lines-end, end-prints}
 
 no-fits : Fits noTally
 no-fits = record { settled = omega arith; raised = omega arith; dropped = omega arith }
