@@ -1,4 +1,4 @@
--- A line of events is begun once a byte of it is read, and not before. Assumes nothing.
+-- A line is begun once a byte of it is read, and not before. Assumes nothing.
 use Prim.Native.Nat.{ℕ, _+_, _-_}
 use mathlib.Core.Bool.{Bool, true, false, not, _||_}
 use mathlib.Core.Path.{_≡_, refl, ap, _∙_}
@@ -9,7 +9,10 @@ use Rattle.lists.proofs.Tests.{if-elim}
 use Rattle.lines.specs.declared.Reading.{Reading}
 use Rattle.lines.specs.Events.{isDigit}
 use Rattle.lines.specs.Steps.{start, withDigit, nextNumber, readOn}
-use Rattle.console.specs.Begun.{isBegun}
+use Rattle.lines.specs.declared.HexReading.{HexReading}
+use Rattle.lines.specs.Hex.{isHex, isEven, hexValue}
+use Rattle.lines.specs.HexSteps.{hexStart, withHex, readHex}
+use Rattle.console.specs.Begun.{isBegun, isHexBegun}
 
 pub not-first : isBegun start ≡ false
 not-first = refl
@@ -36,3 +39,21 @@ space-begins r = if-elim Begun (eqb (r .digits) 0) (λ t. refl) (λ t. if-elim B
 pub byte-begins : (r : Reading) (b : ℕ) → isBegun (readOn r b) ≡ true
 unfolding readOn
 byte-begins r b = if-elim Begun (eqb b 32) (λ t. space-begins r) (λ t. if-elim Begun (isDigit b) (λ u. digit-begins r (b - 48)) (λ u. refl))
+
+-- ---- the same of a line of hexadecimal digits
+pub hex-not-first : isHexBegun hexStart ≡ false
+unfolding hexStart
+hex-not-first = refl
+
+abbrev HexBegun : HexReading → Type 0
+HexBegun r = isHexBegun r ≡ true
+
+hex-digit-begins : (r : HexReading) (d : ℕ) → HexBegun (withHex r d)
+unfolding withHex
+hex-digit-begins r d =
+    let more : not (eqb (r .count + 1) 0) ≡ true = ap not (ne-eqb (r .count + 1) 0 (λ e. omega arith)) in
+    if-elim HexBegun (isEven (r .count)) (λ t. more) (λ t. more)
+
+pub hex-begins : (r : HexReading) (b : ℕ) → isHexBegun (readHex r b) ≡ true
+unfolding readHex
+hex-begins r b = if-elim HexBegun (isHex b) (λ t. if-elim HexBegun (ltb (r .count) 64) (λ u. hex-digit-begins r (hexValue b)) (λ u. refl)) (λ t. refl)

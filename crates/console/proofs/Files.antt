@@ -8,7 +8,6 @@ use Rattle.net.specs.declared.Net.{Net}
 use Rattle.sheet.specs.declared.Reading as Read
 use Rattle.sheet.specs.Sheet.{readSheet}
 use Rattle.sheet.specs.Values.{numberOf, zeroNet, roomOf, Says}
-use Rattle.console.specs.declared.Opened.{Opened}
 use Rattle.console.specs.Sheets.{fileSheet, openedBy}
 
 -- ---- the sheet's file

@@ -1,8 +1,12 @@
 -- "The last newline may be missing": where the input ends inside a line, that line ends too. Assumes nothing.
 use mathlib.Core.Bool.{Bool, _||_, not}
 use lib.Dec.{eqb}
+use Rattle.lines.specs.declared.HexReading.{HexReading}
 use Rattle.lines.specs.declared.Reading.{Reading}
 
 -- a byte of the line under way is read
 abbrev pub isBegun : Reading → Bool
 isBegun r = not (eqb (r .place) 0) || not (eqb (r .digits) 0)
+
+abbrev pub isHexBegun : HexReading → Bool
+isHexBegun r = not (eqb (r .count) 0)

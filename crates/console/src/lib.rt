@@ -5,7 +5,8 @@ ghost use lib.ListN.{length};
 ghost use Rattle.sheet.specs.Values.{numberOf, zeroNet};
 ghost use Rattle.console.specs.Sheets.{fileSheet, openedBy, refusalText};
 ghost use Rattle.console.specs.Outputs.{Counts, wroteBy, outputBy};
-ghost use Rattle.console.specs.Begun.{isBegun};
+ghost use Rattle.console.specs.Begun.{isBegun, isHexBegun};
+use lines::HexReading;
 use lines::Reading;
 use net::Net;
 
@@ -71,6 +72,13 @@ pub fn is_begun(r: Reading) -> bool
         return true;
     }
     r.digits != 0
+}
+
+// The same of a line of hexadecimal digits.
+pub fn is_hex_begun(r: HexReading) -> bool
+    ensures { λ b. ⌜ b ≡ isHexBegun r ⌝ }
+{
+    r.count != 0
 }
 
 // What is written to lent output: 0 and how many bytes, or 10 where the output is too short.

@@ -1,17 +1,20 @@
 -- What is printed for a line, in other words of document 01: a malformed line, and the notices settled so far. Assumes nothing.
-use Prim.Native.Nat.{ℕ}
+use Prim.Native.Nat.{ℕ, _/_, _≤_}
+use mathlib.Core.Bool.{true}
 use mathlib.Core.Path.{_≡_, refl, ap, ap₂, _∙_}
 use mathlib.Core.List.{List, [], _∷_, map}
 use native.Mathlib.Omega.{arith}
 use lib.ListN.{length}
+use borrow.Author.Tests.{le-leb}
 use Rattle.tally.specs.declared.Tally.{Tally}
-use Rattle.tally.specs.Sums.{counted, tallied}
-use Rattle.world.specs.World.{World, Event, Outcome, refused, numberOf, step, exists, refusal, settled, raised, dropped}
-use Rattle.world.specs.History.{run, next, orElse, everSettled}
+use Rattle.tally.specs.Sums.{counted}
+use Rattle.world.specs.World.{World, Outcome, refused, step, exists, refusal, settled, raised, dropped}
+use Rattle.world.specs.History.{run, orElse, everSettled}
 use Rattle.world.proofs.Steps.{step-refuses, step-number}
 use Rattle.laws.specs.Tallied.{tallyBy, tallyAfter}
 use Rattle.laws.proofs.Tallies.{Fits, tally-is-history}
 use Rattle.running.specs.Events.{Standing, eventBy, answerText, done, printedFor, doneAll}
+use Rattle.running.specs.Runs.{enough}
 
 -- ---- a malformed line names no event
 no-kind : (w : World) → refusal w (eventBy (6 ∷ [])) ≡ 6
@@ -51,3 +54,7 @@ tally-after (x ∷ said) st = tally-after said (done st (eventBy x))
 -- THE SETTLED NUMBER is the history's count of notices taken off by events 7 and 8, and stays at its largest value once there
 pub settled-so-far : (said : List (List ℕ)) (st : Standing) → Fits (st .tally) → doneAll st said .tally .settled ≡ counted (st .tally .settled) (everSettled (st .world) (map eventBy said))
 settled-so-far said st f = ap (λ (t : Tally). t .settled) (tally-after said st ∙ tally-is-history (st .tally) (st .world) (map eventBy said) f)
+
+-- the event program lends 32,768 bytes for a piece of at most 1,024: it is never refused with 10
+pub room-suffices : (bytes out : List ℕ) → length bytes ≤ 1024 → length out ≡ 32768 → enough bytes out ≡ true
+room-suffices bytes out h e = le-leb (length bytes) (length out / 32) (omega arith)

@@ -1,18 +1,16 @@
 -- The lines at the end: a station's counters one after the other, and the stations. Assumes nothing.
 use Prim.Native.Nat.{ℕ, zero, suc, _+_, _*_, _≤_, _<_, min}
-use mathlib.Core.Path.{_≡_, refl, sym, ap, ap₂, _∙_}
+use mathlib.Core.Path.{_≡_, refl, sym, ap, _∙_}
 use mathlib.Core.List.{List, [], _∷_, _++_, append-assoc, append-nil}
 use native.Mathlib.Numerals.{add-one}
 use native.Mathlib.Omega.{arith}
 use lib.ListN.{length, getD, take, length-append}
-use lib.Seq.{take-suc, length-take-le, getD-take}
+use lib.Seq.{take-suc, length-take-le}
 use Rattle.lists.specs.Lists.{below}
 use Rattle.lists.specs.Places.{collect}
 use Rattle.lists.proofs.Places.{collect-append}
 use Rattle.lists.proofs.Numbers.{below-snoc}
 use Rattle.text.specs.Text.{digits}
-use Rattle.net.specs.declared.Net.{Net}
-use Rattle.net.specs.Values.{networkOf}
 use Rattle.net.proofs.ValueLaws.{stations-of}
 use Rattle.text.proofs.Puts.{place-fits}
 use Rattle.text.proofs.Chains.{Chain, chain-fits}

@@ -1,14 +1,14 @@
 -- From states to worlds: in a run from a freshly read sheet each state is a world laid out, each line does and prints what document 01 says
 -- of that world, and the stations' lines are those of its tables. Assumes nothing.
 use Prim.Native.Nat.{ℕ, zero, suc, _+_, _≤_, _<_}
-use mathlib.Core.Bool.{Bool, true, false}
+use mathlib.Core.Bool.{Bool, true}
 use mathlib.Core.Path.{_≡_, refl, sym, ap, ap₂, _∙_, subst, subst⁻¹}
-use mathlib.Core.List.{List, [], _∷_, _++_, map}
+use mathlib.Core.List.{List, [], _∷_, _++_}
 use native.Mathlib.Decide.{ℕ-discrete}
 use native.Mathlib.Omega.{arith}
 use lib.Dec.{T, eqb}
 use lib.ListN.{length, getD}
-use borrow.Author.Tests.{eq-eqb, ne-eqb}
+use borrow.Author.Tests.{ne-eqb}
 use Rattle.lists.specs.Lists.{if_then_else_, below, from}
 use Rattle.lists.specs.Places.{collect}
 use Rattle.lists.proofs.Tests.{T-is}
@@ -23,7 +23,7 @@ use Rattle.reach.specs.Values.{tableOf}
 use Rattle.station.specs.declared.Station.{Station}
 use Rattle.station.specs.Holding.{Holding}
 use Rattle.station.specs.Values.{holdingOf}
-use Rattle.world.specs.World.{World, Event, Outcome, refused, accepted, numberOf, refusal, step, after, settled, raised, dropped, holdingAt, fresh}
+use Rattle.world.specs.World.{World, Event, Outcome, refused, accepted, numberOf, refusal, step, after, settled, raised, dropped, holdingAt}
 use Rattle.world.specs.History.{next, orElse}
 use Rattle.world.proofs.Keeps.{Formed, step-formed}
 use Rattle.world.proofs.Steps.{step-accepts, step-refuses, step-number, after-net}
@@ -37,7 +37,7 @@ use Rattle.laws.specs.Tallied.{tallyBy}
 use Rattle.laws.proofs.Tallies.{Fits}
 use Rattle.console.specs.Feeding as Feeding
 use Rattle.running.specs.Events.{Standing, eventBy, answerText, done, printedFor, printed, doneAll, stationText, endText}
-use Rattle.running.specs.Runs.{Desk, deskOf, stepBy, acted, spoken, stationLine, stationsText}
+use Rattle.running.specs.Runs.{Desk, deskOf, acted, spoken, stationLine, stationsText}
 
 -- a world that a good network carries
 pub record Carried (v : Net) (w : World) : Type 0 where

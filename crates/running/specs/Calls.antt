@@ -13,7 +13,7 @@ use Rattle.console.specs.Sheets.{fileSheet, openedBy, refusalText}
 use Rattle.console.specs.Begun.{isBegun}
 use Rattle.console.specs.Feeding.{wholeText, wholeHeld}
 use Rattle.running.specs.Events.{noTally}
-use Rattle.running.specs.Runs.{Desk, deskOf, acted, spoken, stationsText}
+use Rattle.running.specs.Runs.{deskOf, acted, spoken, stationsText}
 
 -- from a state on
 unfoldable pub runText : State → List (List ℕ) → List ℕ

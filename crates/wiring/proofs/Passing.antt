@@ -1,6 +1,6 @@
 -- The ways out of `run_letters`: crate `console`'s law of feeding, for lines of letters. Assumes nothing.
 use Prim.Native.Nat.{ℕ, _/_, _≤_, _<_}
-use mathlib.Core.Bool.{false}
+use mathlib.Core.Bool.{true, false}
 use mathlib.Core.Path.{_≡_, refl}
 use mathlib.Core.List.{List}
 use native.Mathlib.Omega.{arith}
@@ -25,3 +25,7 @@ module _ (net : Net) (r : HexReading) (bytes old : List ℕ) where
   passed-all p₀ out at p e h g z =
       let w = going-done hexStart readHex saidBy acted spoken 64 bytes old net p₀ out net at p r e g z in
       simp (le-leb (length bytes) (length old / 64) h) ((λ i. passedAs 0 (w .written i) (w .read i)), (w .output, w .counts))
+
+-- the wire program lends 65,536 bytes for a piece of at most 1,024: it is never refused with 10
+pub room-suffices : (bytes out : List ℕ) → length bytes ≤ 1024 → length out ≡ 65536 → enough bytes out ≡ true
+room-suffices bytes out h e = le-leb (length bytes) (length out / 64) (omega arith)

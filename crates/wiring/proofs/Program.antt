@@ -1,55 +1,37 @@
 -- THE WIRE PROGRAM: whatever the pieces that standard input comes in, its calls print, in all, exactly what specs/Wire.antt says of the file and
 -- of the whole input. Assumes nothing.
 use Prim.Native.Nat.{ℕ, _+_}
-use mathlib.Core.Bool.{Bool, true, false, not}
+use mathlib.Core.Bool.{Bool}
 use mathlib.Core.Path.{_≡_, refl, sym, ap, ap₂, _∙_}
 use mathlib.Core.List.{List, [], _∷_, _++_, map, append-nil}
-use native.Mathlib.Omega.{arith}
-use lib.Dec.{T, eqb, ltb}
+use lib.Dec.{T}
 use borrow.Author.Tests.{ne-eqb}
 use Rattle.lists.specs.Lists.{if_then_else_}
 use Rattle.lists.specs.Places.{collect}
-use Rattle.lists.proofs.Tests.{T-is, if-elim}
-use Rattle.lines.specs.declared.HexReading.{HexReading}
-use Rattle.lines.specs.Hex.{HexText, malformed, octets, isHex, isEven, hexValue, hexLine}
-use Rattle.lines.specs.HexSteps.{hexStart, withHex, readHex}
+use Rattle.lists.proofs.Tests.{T-is}
+use Rattle.lines.specs.Hex.{HexText, malformed, octets, hexLine}
+use Rattle.lines.specs.HexSteps.{hexStart, readHex}
 use Rattle.lines.specs.Split.{linesOf}
 use Rattle.lines.proofs.Split.{hex-lines}
 use Rattle.net.specs.declared.Net.{Net}
 use Rattle.net.specs.Network.{Network, sheetHolds}
-use Rattle.net.specs.Values.{networkOf, netHolds}
+use Rattle.net.specs.Values.{netHolds}
 use Rattle.sheet.specs.Sheet.{Sheet, refused, sheet}
 use Rattle.sheet.specs.Values.{valueOf}
 use Rattle.sheet.proofs.ValueLaws.{value-means, value-holds}
-use Rattle.letters.specs.Letters.{Letters, readLetter}
+use Rattle.letters.specs.Letters.{readLetter}
 use Rattle.letters.specs.Values.{reading}
+use Rattle.console.specs.Begun.{isHexBegun}
 use Rattle.console.specs.Sheets.{fileSheet, openedBy}
 use Rattle.console.specs.Feeding.{wholeText}
 use Rattle.console.specs.Feeding as Feeding
 use Rattle.console.proofs.Lines.{joined, whole-text}
 use Rattle.console.proofs.Faults.{refusal-counts}
 use Rattle.console.proofs.Goods.{file-holds}
+use Rattle.console.proofs.Begun.{hex-not-first, hex-begins}
 use Rattle.wiring.specs.Wire.{sheetText, readText, lineText, outputBy, wireProgram}
-use Rattle.wiring.specs.Passing.{saidBy, acted, spoken, isBegun}
+use Rattle.wiring.specs.Passing.{saidBy, acted, spoken}
 use Rattle.wiring.specs.Calls.{openedText, callsText}
-
--- ---- a line is begun once a byte of it is read, and not before
-not-first : isBegun hexStart ≡ false
-unfolding hexStart
-not-first = refl
-
-abbrev Begun : HexReading → Type 0
-Begun r = isBegun r ≡ true
-
-digit-begins : (r : HexReading) (d : ℕ) → Begun (withHex r d)
-unfolding withHex
-digit-begins r d =
-    let more : not (eqb (r .count + 1) 0) ≡ true = ap not (ne-eqb (r .count + 1) 0 (λ e. omega arith)) in
-    if-elim Begun (isEven (r .count)) (λ t. more) (λ t. more)
-
-byte-begins : (r : HexReading) (b : ℕ) → isBegun (readHex r b) ≡ true
-unfolding readHex
-byte-begins r b = if-elim Begun (isHex b) (λ t. if-elim Begun (ltb (r .count) 64) (λ u. digit-begins r (hexValue b)) (λ u. refl)) (λ t. refl)
 
 -- ---- lines against a good network
 module _ (net : Network) (t : T (sheetHolds net)) where
@@ -69,9 +51,9 @@ module _ (net : Network) (t : T (sheetHolds net)) where
   lines-same [] = refl
   lines-same (x ∷ said) = ap₂ (λ (a b : List ℕ). a ++ b) (line-same x) (lines-same said)
 
-  letters-print : (pieces : List (List ℕ)) → wholeText hexStart readHex saidBy acted spoken isBegun v pieces ≡ collect (lineText net) (map hexLine (linesOf (joined pieces)))
+  letters-print : (pieces : List (List ℕ)) → wholeText hexStart readHex saidBy acted spoken isHexBegun v pieces ≡ collect (lineText net) (map hexLine (linesOf (joined pieces)))
   letters-print pieces =
-      whole-text hexStart readHex saidBy acted spoken isBegun not-first byte-begins hexLine hex-lines v pieces ∙ lines-same (map hexLine (linesOf (joined pieces)))
+      whole-text hexStart readHex saidBy acted spoken isHexBegun hex-not-first hex-begins hexLine hex-lines v pieces ∙ lines-same (map hexLine (linesOf (joined pieces)))
 
 pub wire-program : (file : List ℕ) (pieces : List (List ℕ)) → callsText file pieces ≡ wireProgram file (joined pieces)
 unfolding callsText wireProgram
@@ -80,7 +62,7 @@ wire-program file pieces = go (fileSheet file) refl
     go : (s : Sheet) → fileSheet file ≡ s → sheetText (fileSheet file) ++ openedText (openedBy (fileSheet file)) pieces ≡ outputBy (fileSheet file) (map hexLine (linesOf (joined pieces)))
     go (refused k) e =
         ap (λ (x : Sheet). sheetText x ++ openedText (openedBy x) pieces) e
-        ∙ ap (λ (b : Bool). sheetText (refused k) ++ (if b then wholeText hexStart readHex saidBy acted spoken isBegun (openedBy (refused k) .net) pieces else [])) (ne-eqb k 0 (refusal-counts file k e))
+        ∙ ap (λ (b : Bool). sheetText (refused k) ++ (if b then wholeText hexStart readHex saidBy acted spoken isHexBegun (openedBy (refused k) .net) pieces else [])) (ne-eqb k 0 (refusal-counts file k e))
         ∙ append-nil (sheetText (refused k)) ∙ sym (ap (λ (x : Sheet). outputBy x (map hexLine (linesOf (joined pieces)))) e)
     go (sheet net) e =
         ap (λ (x : Sheet). sheetText x ++ openedText (openedBy x) pieces) e

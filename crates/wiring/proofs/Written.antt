@@ -27,7 +27,7 @@ use Rattle.sheet.specs.Values.{sheetNumber, sheetNet, zeroNet, valueOf}
 use Rattle.sheet.specs.Values as SheetValues
 use Rattle.sheet.proofs.Output.{links-length}
 use Rattle.sheet.proofs.ValueLaws.{value-means, value-holds, zero-bad}
-use Rattle.letters.specs.Letters.{Letters, letter, readLetter, bodyBytes, sideOf, writeLetter}
+use Rattle.letters.specs.Letters.{letter, readLetter, bodyBytes, sideOf, writeLetter}
 use Rattle.letters.specs.Letters as L
 use Rattle.letters.proofs.Laws as LetterLaws
 use Rattle.letters.specs.Values.{reading}

@@ -8,12 +8,13 @@ use Rattle.lists.specs.Lists.{if_then_else_}
 use Rattle.lines.specs.HexSteps.{hexStart, readHex}
 use Rattle.console.specs.declared.Opened.{Opened}
 use Rattle.console.specs.Sheets.{fileSheet, openedBy}
+use Rattle.console.specs.Begun.{isHexBegun}
 use Rattle.console.specs.Feeding.{wholeText}
 use Rattle.wiring.specs.Wire.{sheetText}
-use Rattle.wiring.specs.Passing.{saidBy, acted, spoken, isBegun}
+use Rattle.wiring.specs.Passing.{saidBy, acted, spoken}
 
 abbrev pub openedText : Opened → List (List ℕ) → List ℕ
-openedText o pieces = if eqb (o .number) 0 then wholeText hexStart readHex saidBy acted spoken isBegun (o .net) pieces else []
+openedText o pieces = if eqb (o .number) 0 then wholeText hexStart readHex saidBy acted spoken isHexBegun (o .net) pieces else []
 
 unfoldable pub callsText : List ℕ → List (List ℕ) → List ℕ
 callsText file pieces = sheetText (fileSheet file) ++ openedText (openedBy (fileSheet file)) pieces

@@ -1,10 +1,10 @@
 -- What the code answers for a piece of the input, and for every network value. proofs/Program.antt: the pieces of an input give what
 -- specs/Wire.antt says of the whole of it. Assumes nothing.
 use Prim.Native.Nat.{ℕ, _/_}
-use mathlib.Core.Bool.{Bool, not}
+use mathlib.Core.Bool.{Bool}
 use mathlib.Core.List.{List}
-use lib.Dec.{eqb, leb}
-use lib.ListN.{length, take}
+use lib.Dec.{leb}
+use lib.ListN.{length}
 use Rattle.lists.specs.Lists.{if_then_else_}
 use Rattle.lines.specs.declared.HexReading.{HexReading}
 use Rattle.lines.specs.Hex.{HexText, malformed, octets}
@@ -35,10 +35,6 @@ lineAfter = readAfter hexStart readHex saidBy acted spoken
 
 abbrev pub texts : Net → HexReading → List ℕ → List ℕ
 texts = textAfter hexStart readHex saidBy acted spoken
-
--- a byte of the line under way is read
-abbrev pub isBegun : HexReading → Bool
-isBegun r = not (eqb (r .count) 0)
 
 -- a part of a line, as crate `console` has it
 abbrev pub stopIn : Part → Stop HexReading

@@ -15,7 +15,7 @@ ghost use Rattle.console.specs.Sheets.{fileSheet, refusalText};
 ghost use Rattle.console.specs.Outputs.{Counts, wroteBy, outputBy, Put};
 ghost use Rattle.console.specs.Feeding.{stopOf};
 ghost use Rattle.wiring.specs.Wire.{kindWord, bodyText, fieldText, hexText, sheetText, letterText, readText};
-ghost use Rattle.wiring.specs.Passing.{saidBy, spoken, texts, isBegun, stopIn, enough, passedBy};
+ghost use Rattle.wiring.specs.Passing.{saidBy, spoken, texts, stopIn, enough, passedBy};
 use console::Wrote;
 use lines::HexLine;
 use lines::HexReading;
@@ -233,13 +233,6 @@ fn read_part(r: HexReading, bytes: &[u8], from: usize) -> Part
         next: bytes.len(),
         ended: false,
     }
-}
-
-// Whether a byte of the line under way is read: the last newline may be missing.
-pub fn is_begun(r: HexReading) -> bool
-    ensures { λ b. ⌜ b ≡ isBegun r ⌝ }
-{
-    r.count != 0
 }
 
 // After a piece of the input: 0 or the number that says no, how many bytes of output there are, and the reading that goes on from there.

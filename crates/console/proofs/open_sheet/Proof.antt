@@ -1,6 +1,5 @@
 use Rattle.console.proofs.Files.{file-long, file-read}
 use denote.Ref.{now}
-use native.Mathlib.Omega.{arith}
 use borrow.Author.Needs.{needs}
 use Rattle.console.proofs.open_sheet.Statement.{statement}
 use Rattle.console.proofs.open_sheet.Tie as tie

@@ -1,16 +1,11 @@
-use Rattle.running.proofs.Stations.{stations-more, stations-whole, stations-few, same-table}
+use Rattle.running.proofs.Stations.{stations-whole, stations-few, same-table}
 use Rattle.console.proofs.Puts.{put-done, put-next, chain-same, wrote-short, wrote-all}
 use Rattle.running.specs.Runs.{stationLine, stationsText}
-use Rattle.console.specs.Outputs.{Put}
-use Rattle.running.specs.Events.{stationText}
 use Rattle.text.proofs.Chains.{Chain, chain-none, chain-next}
 use Rattle.lists.specs.Places.{collect}
 use Rattle.lists.specs.Lists.{below}
 use denote.Ref.{now}
-use lib.ListN.{length, getD, take}
-use mathlib.Core.List.{List, [], _∷_, _++_}
-use mathlib.Core.Path.{_≡_, refl, sym, ap, _∙_, subst}
-use Prim.Native.Nat.{ℕ, _<_, _≤_, _-_, _*_}
+use Prim.Native.Nat.{_≤_, _-_, _*_}
 use native.Mathlib.Omega.{arith}
 use borrow.Author.Needs.{needs}
 use Rattle.running.proofs.put_stations.Statement.{statement}

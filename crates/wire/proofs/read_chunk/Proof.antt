@@ -26,8 +26,8 @@ same-length c = search needs
 returns : tie.Need-returns
 returns c = search needs
 
-is-begun-requires : tie.Need-is-begun-requires
-is-begun-requires c κs = search needs
+is-hex-begun-requires : tie.Need-is-hex-begun-requires
+is-hex-begun-requires c κs = search needs
 
 slice-write-room : tie.Need-slice-write-room
 slice-write-room c = search needs
@@ -52,7 +52,7 @@ read-chunk-spec =
     count-requires
     same-length
     returns
-    is-begun-requires
+    is-hex-begun-requires
     slice-write-room
     same-length-2
     returns-2

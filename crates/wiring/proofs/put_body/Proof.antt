@@ -1,5 +1,5 @@
 use Rattle.wiring.specs.Wire.{bodyText}
-use Rattle.console.proofs.Puts.{put-of, put-same, put-then, put-size, put-wider, put-nothing}
+use Rattle.console.proofs.Puts.{put-same, put-then, put-wider, put-nothing}
 use denote.Ref.{now}
 use mathlib.Core.Path.{sym, ap}
 use native.Mathlib.Omega.{arith}

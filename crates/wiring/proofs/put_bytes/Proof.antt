@@ -6,7 +6,7 @@ use Rattle.text.specs.Text.{hexPair}
 use Rattle.lists.specs.Places.{collect}
 use denote.Ref.{now}
 use lib.ListN.{length, getD, take}
-use mathlib.Core.Path.{_≡_, refl}
+use mathlib.Core.Path.{_≡_}
 use Prim.Native.Nat.{_≤_, _-_, _*_}
 use native.Mathlib.Omega.{arith}
 use borrow.Author.Needs.{needs}

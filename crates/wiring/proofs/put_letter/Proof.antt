@@ -9,7 +9,6 @@ use lib.Seq.{length-take-le}
 use lib.ListN.{length}
 use mathlib.Core.List.{[], _∷_, _++_}
 use mathlib.Core.Path.{sym, ap}
-use Prim.Native.Nat.{ℕ}
 use native.Mathlib.Omega.{arith}
 use borrow.Author.Needs.{needs}
 use Rattle.wiring.proofs.put_letter.Statement.{statement}

@@ -7,8 +7,8 @@ use Rattle.net.specs.Values.{networkOf}
 use denote.Ref.{now}
 use lib.Seq.{length-take-le}
 use lib.ListN.{length}
-use mathlib.Core.List.{List, [], _∷_, _++_}
-use mathlib.Core.Path.{sym, ap, ap₂, _∙_}
+use mathlib.Core.List.{[], _∷_, _++_}
+use mathlib.Core.Path.{sym, ap, ap₂}
 use Prim.Native.Nat.{ℕ}
 use native.Mathlib.Omega.{arith}
 use borrow.Author.Needs.{needs}
