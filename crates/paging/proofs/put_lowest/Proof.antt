@@ -23,7 +23,7 @@ same-length : tie.Need-same-length
 same-length c = search needs
 
 returns : tie.Need-returns
-returns c = 
+returns c =
     let a = c .before .before .before .before .before .before .before .args in
     let f = few (c .before .before .before .before .before .before .before) in
     let n1 = chain-next (10 ∷ []) (chain-none (a .at) (now (a .out)) (omega arith)) (c .before .before .put-word .ensures) in
@@ -48,7 +48,7 @@ same-length-2 : tie.Need-same-length-2
 same-length-2 c = search needs
 
 returns-2 : tie.Need-returns-2
-returns-2 c = 
+returns-2 c =
     let a = c .before .before .before .before .before .before .before .before .before .before .before .before .before .before .before .before .args in
     let f = few (c .before .before .before .before .before .before .before .before .before .before .before .before .before .before .before .before) in
     let n1 = chain-next lowestWord (chain-none (a .at) (now (a .out)) (omega arith)) (c .before .before .before .before .before .before .before .before .before .before .before .put-word2 .ensures) in
