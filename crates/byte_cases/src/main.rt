@@ -136,7 +136,7 @@ fn print_sheet_wrote(wrote: sheet::Wrote) {
 
 fn write_sheet(net: Net, out: &mut [u8]) {
     io::write_all(1, b"write");
-    print_sheet_wrote(sheet::write(net, out));
+    print_sheet_wrote(sheet_writing::write(net, out));
     print_bytes(out);
     io::write_all(1, b"\n");
 }

@@ -2,7 +2,6 @@ pub mod Rising
 pub mod Judged
 pub mod Steps
 pub mod Loop
-pub mod Output
 pub mod Laws
 pub mod Refusals
 pub mod ValueLaws

@@ -25,7 +25,7 @@ use Rattle.net.proofs.ValueLaws.{stations-of, links-of}
 use Rattle.sheet.specs.Sheet.{Sheet, refused, sheet, writeSheet}
 use Rattle.sheet.specs.Values.{sheetNumber, sheetNet, zeroNet, valueOf}
 use Rattle.sheet.specs.Values as SheetValues
-use Rattle.sheet.proofs.Output.{links-length}
+use Rattle.sheet_writing.proofs.Output.{links-length}
 use Rattle.sheet.proofs.ValueLaws.{value-means, value-holds, zero-bad}
 use Rattle.letters.specs.Letters.{letter, readLetter, bodyBytes, sideOf, writeLetter}
 use Rattle.letters.specs.Letters as L

@@ -70,7 +70,7 @@ fn put_network(out: &mut [u8], net: Net) -> usize
     ensures { λ r. ⌜ Put (sheetText (sheet (networkOf net))) 700 0 (now (out .entry)) r (now (out .exit)) ⌝ }
 {
     let mut room = sheet_room();
-    let n = sheet_size(sheet::write(net, &mut room));
+    let n = sheet_size(sheet_writing::write(net, &mut room));
     let a = text::put_word(out, 0, b"sheet 0 ");
     let b = put_field(out, a, net.stations as u16);
     let c = put_field(out, b, net.links as u16);

@@ -1,15 +1,15 @@
 use mathlib.Core.Path.{refl}
 use denote.Ref.{now}
-use Rattle.sheet.proofs.Output.{few-links, write-bad, write-short, links-room, write-all}
+use Rattle.sheet_writing.proofs.Output.{few-links, write-bad, write-short, links-room, write-all}
 use borrow.Author.Needs.{needs}
-use Rattle.sheet.proofs.write.Statement.{statement}
-use Rattle.sheet.proofs.write.Tie as tie
-use Rattle.sheet.proofs.write.Reads as reads
-use Rattle.sheet.proofs.write.Lts as lts
+use Rattle.sheet_writing.proofs.write.Statement.{statement}
+use Rattle.sheet_writing.proofs.write.Tie as tie
+use Rattle.sheet_writing.proofs.write.Reads as reads
+use Rattle.sheet_writing.proofs.write.Lts as lts
 use Rattle.net.proofs.keeps_sheet_rules.Reads as keeps-sheet-rules-reads
-use Rattle.sheet.proofs.put_last.Reads as put-last-reads
-use Rattle.sheet.proofs.put_links.Reads as put-links-reads
-use Rattle.sheet.proofs.put_stations.Reads as put-stations-reads
+use Rattle.sheet_writing.proofs.put_last.Reads as put-last-reads
+use Rattle.sheet_writing.proofs.put_links.Reads as put-links-reads
+use Rattle.sheet_writing.proofs.put_stations.Reads as put-stations-reads
 
 -- src/lib.rt:238:9
 keeps-sheet-rules-requires : tie.Need-keeps-sheet-rules-requires

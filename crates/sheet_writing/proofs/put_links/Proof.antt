@@ -1,18 +1,18 @@
 use Prim.Native.Nat.{ℕ, _+_, _≤_, _-_}
 use denote.Ref.{now}
-use Rattle.sheet.proofs.Output.{none-written, link-written, links-fit}
+use Rattle.sheet_writing.proofs.Output.{none-written, link-written, links-fit}
 use mathlib.Core.Path.{_≡_, refl, ap, _∙_}
 use lib.ListN.{length}
 use native.Mathlib.Omega.{arith}
 use borrow.Author.Needs.{needs}
 use Rattle.fields.specs.Fields.{onto}
 use Rattle.sheet.specs.Sheet.{writeLinks}
 use Rattle.sheet.specs.Steps.{firstEnds}
-use Rattle.sheet.proofs.put_links.Statement.{statement}
-use Rattle.sheet.proofs.put_links.Tie as tie
-use Rattle.sheet.proofs.put_links.Reads as reads
-use Rattle.sheet.proofs.put_links.Lts as lts
-use Rattle.sheet.proofs.put_link.Reads as put-link-reads
+use Rattle.sheet_writing.proofs.put_links.Statement.{statement}
+use Rattle.sheet_writing.proofs.put_links.Tie as tie
+use Rattle.sheet_writing.proofs.put_links.Reads as reads
+use Rattle.sheet_writing.proofs.put_links.Lts as lts
+use Rattle.sheet_writing.proofs.put_link.Reads as put-link-reads
 
 abbrev Inv-loop : tie.InvT-loop
 Inv-loop out₀ m low high i₀ out i = (i ≤ m) × (length out ≡ length out₀) × (out ≡ onto (writeLinks (firstEnds low high i)) out₀)

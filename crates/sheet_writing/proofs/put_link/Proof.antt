@@ -2,10 +2,10 @@ use mathlib.Core.Path.{_∙_}
 use native.Mathlib.Omega.{arith}
 use Rattle.fields.proofs.Seen.{put-written}
 use borrow.Author.Needs.{needs}
-use Rattle.sheet.proofs.put_link.Statement.{statement}
-use Rattle.sheet.proofs.put_link.Tie as tie
-use Rattle.sheet.proofs.put_link.Reads as reads
-use Rattle.sheet.proofs.put_link.Lts as lts
+use Rattle.sheet_writing.proofs.put_link.Statement.{statement}
+use Rattle.sheet_writing.proofs.put_link.Tie as tie
+use Rattle.sheet_writing.proofs.put_link.Reads as reads
+use Rattle.sheet_writing.proofs.put_link.Lts as lts
 use Rattle.fields.proofs.put.Reads as put-reads
 
 -- src/lib.rt:213:25
