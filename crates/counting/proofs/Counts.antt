@@ -8,8 +8,8 @@ use Rattle.lists.specs.Lists.{if_then_else_}
 use Rattle.tally.specs.declared.Tally.{Tally}
 use Rattle.tally.specs.Sums.{counted, tallied}
 use Rattle.state.specs.declared.State.{State}
-use Rattle.network.specs.declared.Stepped.{Stepped}
-use Rattle.network.specs.Step.{event, refusing, accepting, numberOf, steppedOf}
+use Rattle.stepping.specs.declared.Stepped.{Stepped}
+use Rattle.stepping.specs.Step.{event, refusing, accepting, numberOf, steppedOf}
 use Rattle.counting.specs.Counting.{talliedBy}
 
 -- three counts of 64 bits

@@ -5,8 +5,8 @@ use Rattle.lists.specs.Lists.{if_then_else_}
 use Rattle.tally.specs.declared.Tally.{Tally}
 use Rattle.tally.specs.Sums.{tallied}
 use Rattle.state.specs.declared.State.{State}
-use Rattle.network.specs.declared.Stepped.{Stepped}
-use Rattle.network.specs.Step.{steppedOf}
+use Rattle.stepping.specs.declared.Stepped.{Stepped}
+use Rattle.stepping.specs.Step.{steppedOf}
 use Rattle.counting.specs.declared.Counted.{Counted}
 
 -- accepted (0): the three numbers of the event are added, each count staying at its largest value. Refused: the tally as it was

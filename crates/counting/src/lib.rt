@@ -1,9 +1,9 @@
 // The network's step for a caller that keeps the tally: the tally is lent to the call and added to.
 ghost use mathlib.Core.Path.{_≡_};
-ghost use Rattle.network.specs.Step.{steppedOf};
+ghost use Rattle.stepping.specs.Step.{steppedOf};
 ghost use Rattle.counting.specs.Counting.{talliedBy, countedOf};
-use network::Stepped;
 use state::State;
+use stepping::Stepped;
 use tally::Tally;
 
 // One event, and a tally that is lent to be added to. A refusal touches no tally: a step that says no has three zeros, and

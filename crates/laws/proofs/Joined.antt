@@ -15,10 +15,10 @@ use Rattle.state.specs.declared.State.{State}
 use Rattle.state.specs.State.{worldOf, stateOf, stateHolds, Ends64, Sized, begunOf}
 use Rattle.state.proofs.Meaning.{holds-net, net-is, world-well}
 use Rattle.state.proofs.LaidOut.{first-sized, first-holds, first-means}
-use Rattle.network.specs.declared.Stepped.{Stepped}
-use Rattle.network.specs.Step.{steppedOf}
-use Rattle.network.proofs.Bridge as B
-use Rattle.network.proofs.Bridge.{Good, is-step, meaning-determines}
+use Rattle.stepping.specs.declared.Stepped.{Stepped}
+use Rattle.stepping.specs.Step.{steppedOf}
+use Rattle.stepping.proofs.Bridge as B
+use Rattle.stepping.proofs.Bridge.{Good, is-step, meaning-determines}
 use Rattle.laws.specs.Flood.{onlyNotices}
 use Rattle.laws.proofs.Calls as C
 

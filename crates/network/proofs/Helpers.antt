@@ -12,7 +12,7 @@ use Rattle.station.specs.Acts.{kindOf}
 use Rattle.world.specs.World.{Sort, act, delivery, loss, sortOf, noLetter}
 use Rattle.planning.specs.Plan.{takesAs}
 use Rattle.planning.specs.Planned.{inRoom}
-use Rattle.network.specs.Step.{placeBy, leftBy, numberBy}
+use Rattle.network.specs.Parts.{placeBy, leftBy, numberBy}
 
 module _ (kind : ℕ) where
   pub leaves-seven : kind ≡ 7 → true ≡ takesAs (sortOf kind)

@@ -29,7 +29,8 @@ use Rattle.planning.specs.declared.Plan.{Plan}
 use Rattle.planning.specs.Plan.{concernedAs, doneIn, raisedIn, droppedIn, refusalIn, roomAs, leftAs, takesAs}
 use Rattle.planning.specs.Planned.{inRoom, Plans}
 use Rattle.planning.proofs.Worlds as W
-use Rattle.network.specs.Step.{event, placeBy, leftBy, numberBy}
+use Rattle.stepping.specs.Step.{event}
+use Rattle.network.specs.Parts.{placeBy, leftBy, numberBy}
 
 -- ---- how many letters are left
 left-length : (x : Sort) (a : ℕ) (xs : List Letter) → (takesAs x ≡ true → a < length xs) → length (leftAs x a xs) ≡ leftBy (takesAs x) (length xs)

@@ -2,4 +2,3 @@ pub mod Helpers
 pub mod Known
 pub mod Made
 pub mod Loops
-pub mod Bridge

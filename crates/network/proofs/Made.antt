@@ -31,8 +31,9 @@ use Rattle.planning.specs.declared.Plan.{Plan}
 use Rattle.planning.specs.Plan.{concernedAs, roomAs, leftAs, takesAs}
 use Rattle.planning.specs.Planned.{inRoom, Plans}
 use Rattle.planning.proofs.Worlds as W
-use Rattle.network.specs.declared.Stepped.{Stepped}
-use Rattle.network.specs.Step.{event, refusing, accepting, numberOf, steppedOf, placeBy, leftBy, numberBy}
+use Rattle.stepping.specs.declared.Stepped.{Stepped}
+use Rattle.stepping.specs.Step.{event, refusing, accepting, numberOf, steppedOf}
+use Rattle.network.specs.Parts.{placeBy, leftBy, numberBy}
 use Rattle.network.proofs.Known as K
 
 -- ---- the answer by its number

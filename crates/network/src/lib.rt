@@ -7,19 +7,12 @@ ghost use lib.Dec.{ltb, eqb};
 ghost use Rattle.lists.specs.Lists.{if_then_else_};
 ghost use Rattle.world.specs.World.{sortOf, noLetter};
 ghost use Rattle.planning.specs.Plan.{takesAs};
-ghost use Rattle.network.specs.Step.{placeBy, leftBy, numberBy, steppedOf};
+ghost use Rattle.stepping.specs.Step.{steppedOf};
+ghost use Rattle.network.specs.Parts.{placeBy, leftBy, numberBy};
 use net::Body;
 use net::Letter;
 use state::State;
-
-// What a step answers: a number, the tally's three numbers of the event, and the state.
-pub struct Stepped {
-    pub answer: u8,
-    pub settled: u64,
-    pub raised: u64,
-    pub dropped: u64,
-    pub state: State,
-}
+use stepping::Stepped;
 
 // Whether an event of this kind takes a letter off the list.
 fn takes_letter(kind: u32) -> bool

@@ -12,7 +12,7 @@ use Rattle.tally.specs.Sums.{tallied}
 use Rattle.lines.specs.declared.Reading.{Reading}
 use Rattle.lines.specs.Steps.{start, readOn, lineEnd}
 use Rattle.state.specs.declared.State.{State}
-use Rattle.network.specs.declared.Stepped.{Stepped}
+use Rattle.stepping.specs.declared.Stepped.{Stepped}
 use Rattle.console.specs.Feeding.{Stop, stopOf}
 use Rattle.console.specs.Outputs.{Counts, outputBy, Put}
 use Rattle.console.proofs.Feeding as Feeding

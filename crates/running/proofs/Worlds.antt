@@ -31,8 +31,8 @@ use Rattle.state.specs.declared.State.{State}
 use Rattle.state.specs.State.{stationIn, worldOf, stateOf, stateHolds, Ends64}
 use Rattle.state.proofs.LaidOut.{laid-sized, laid-holds, laid-means}
 use Rattle.state.proofs.Meaning.{count-is, world-holding}
-use Rattle.network.specs.declared.Stepped.{Stepped}
-use Rattle.network.specs.Step as Step
+use Rattle.stepping.specs.declared.Stepped.{Stepped}
+use Rattle.stepping.specs.Step as Step
 use Rattle.laws.specs.Tallied.{tallyBy}
 use Rattle.laws.proofs.Tallies.{Fits}
 use Rattle.console.specs.Feeding as Feeding

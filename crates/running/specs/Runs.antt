@@ -15,8 +15,8 @@ use Rattle.net.specs.Values.{networkOf}
 use Rattle.reach.specs.Values.{tableOf}
 use Rattle.state.specs.declared.State.{State}
 use Rattle.state.specs.State.{stationIn}
-use Rattle.network.specs.declared.Stepped.{Stepped}
-use Rattle.network.specs.Step.{steppedOf}
+use Rattle.stepping.specs.declared.Stepped.{Stepped}
+use Rattle.stepping.specs.Step.{steppedOf}
 use Rattle.console.specs.Feeding.{heldAfter, readAfter, textAfter}
 use Rattle.running.specs.declared.Ran.{Ran}
 use Rattle.running.specs.Events.{answerText, stationText}

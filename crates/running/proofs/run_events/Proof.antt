@@ -4,7 +4,7 @@ use Rattle.lines.specs.Steps.{start, readOn, lineEnd}
 use Rattle.running.specs.Steps.{stopIn}
 use Rattle.running.specs.Runs.{deskOf, stepBy, acted, spoken}
 use Rattle.running.specs.declared.Asked.{Asked}
-use Rattle.network.specs.Step.{steppedOf}
+use Rattle.stepping.specs.Step.{steppedOf}
 use Rattle.lists.specs.Words.{bit}
 use denote.Ref.{now}
 use lib.ListN.{length}

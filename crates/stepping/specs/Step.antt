@@ -1,12 +1,11 @@
 -- What a step of the network answers: the world's step of what the state means, laid out in zero room. Assumes nothing.
-use Prim.Native.Nat.{ℕ, _+_, _-_}
-use mathlib.Core.Bool.{Bool}
-use lib.Dec.{eqb, ltb}
+use Prim.Native.Nat.{ℕ}
+use lib.Dec.{eqb}
 use Rattle.lists.specs.Lists.{if_then_else_}
 use Rattle.world.specs.World.{Event, fresh, refusal, after, settled, raised, dropped}
 use Rattle.state.specs.declared.State.{State}
 use Rattle.state.specs.State.{worldOf, stateOf, stateHolds}
-use Rattle.network.specs.declared.Stepped.{Stepped}
+use Rattle.stepping.specs.declared.Stepped.{Stepped}
 
 abbrev pub event : ℕ → ℕ → ℕ → Event
 event kind a b = record { kind = kind; a = a; b = b }
@@ -25,13 +24,3 @@ numberOf s e = if stateHolds s then refusal (worldOf s) e else 11
 
 unfoldable pub steppedOf : State → ℕ → ℕ → ℕ → Stepped
 steppedOf s kind a b = if eqb (numberOf s (event kind a b)) 0 then accepting s (event kind a b) else refusing (numberOf s (event kind a b)) s
-
--- ---- what the private steps of the code answer
-abbrev pub placeBy : ℕ → ℕ
-placeBy a = if ltb a 4096 then a else 0
-
-abbrev pub leftBy : Bool → ℕ → ℕ
-leftBy leaves flying = if leaves then flying - 1 else flying
-
-abbrev pub numberBy : ℕ → ℕ → ℕ → ℕ
-numberBy planned left count = if eqb planned 0 then (if ltb 4096 (left + count) then 9 else 0) else planned

@@ -18,8 +18,8 @@ use Rattle.state.specs.declared.State.{State}
 use Rattle.state.specs.State.{worldOf, stateOf, stateHolds, Sized}
 use Rattle.state.proofs.Meaning.{determined, holds-net, net-is, world-formed}
 use Rattle.state.proofs.LaidOut.{laid-sized, laid-holds, laid-means}
-use Rattle.network.specs.declared.Stepped.{Stepped}
-use Rattle.network.specs.Step.{event, refusing, accepting, numberOf, steppedOf}
+use Rattle.stepping.specs.declared.Stepped.{Stepped}
+use Rattle.stepping.specs.Step.{event, refusing, accepting, numberOf, steppedOf}
 
 -- a state value that is well formed, with what its type says
 pub record Good (s : State) : Type 0 where
