@@ -9,7 +9,6 @@ use lib.Seq.{take-suc, length-take-le}
 use Rattle.lists.specs.Lists.{below}
 use Rattle.lists.specs.Places.{collect}
 use Rattle.lists.proofs.Places.{collect-append}
-use Rattle.lists.proofs.Numbers.{below-snoc}
 use Rattle.text.specs.Text.{digits}
 use Rattle.net.proofs.ValueLaws.{stations-of}
 use Rattle.text.proofs.Puts.{place-fits}
@@ -18,7 +17,7 @@ use Rattle.state.specs.declared.State.{State}
 use Rattle.state.specs.State.{stationIn}
 use Rattle.running.specs.Events.{stationText}
 use Rattle.running.specs.Runs.{stationLine, stationsText}
-use Rattle.console.proofs.Puts.{byte-digits, counter-digits}
+use Rattle.console.proofs.Puts.{byte-digits, counter-digits, texts-more}
 
 -- a counter, with the space before it
 abbrev pub counterText : ℕ → List ℕ
@@ -59,10 +58,6 @@ station-few s n cs h l e f =
     simp length-append (omega (arith, byte-digits s h))
 
 -- ---- one station more
-pub stations-more : (f : ℕ → List ℕ) (i : ℕ) → collect f (below i) ++ f i ≡ collect f (below (i + 1))
-stations-more f i =
-    sym (ap (collect f) (below-snoc i) ∙ collect-append f (below i) (i ∷ []) ∙ ap (λ (l : List ℕ). collect f (below i) ++ l) (append-nil (f i)))
-
 pub stations-whole : (s : State) (n i : ℕ) → n ≡ min (s .net .stations) 32 → i ≡ n → collect (stationLine s) (below i) ≡ stationsText s
 unfolding stationsText
 stations-whole s n i e h = ap (λ (k : ℕ). collect (stationLine s) (below k)) (h ∙ e ∙ sym (stations-of (s .net)))
@@ -70,7 +65,7 @@ stations-whole s n i e h = ap (λ (k : ℕ). collect (stationLine s) (below k)) 
 -- the code's table of one station
 pub same-table : (s : State) (i m : ℕ) → m ≡ min (s .net .links) 64
     → collect (stationLine s) (below i) ++ stationText i (take m (stationIn s i .counters)) ≡ collect (stationLine s) (below (i + 1))
-same-table s i m e = ap (λ (k : ℕ). collect (stationLine s) (below i) ++ stationText i (take k (stationIn s i .counters))) e ∙ stations-more (stationLine s) i
+same-table s i m e = ap (λ (k : ℕ). collect (stationLine s) (below i) ++ stationText i (take k (stationIn s i .counters))) e ∙ texts-more (stationLine s) i
 
 -- what fits is no longer than the place behind it
 pub stations-few : (text : List ℕ) (most : ℕ) (old : List ℕ) (r : ℕ) (new : List ℕ) → Chain text 0 old r new → r ≤ most → most ≤ length old → length text ≤ most
