@@ -15,9 +15,8 @@ use Rattle.text.proofs.Puts.{place-fits}
 use Rattle.text.proofs.Chains.{Chain, chain-fits}
 use Rattle.state.specs.declared.State.{State}
 use Rattle.state.specs.State.{stationIn}
-use Rattle.running.specs.Events.{stationText}
-use Rattle.running.specs.Runs.{stationLine, stationsText}
 use Rattle.console.proofs.Puts.{byte-digits, counter-digits, texts-more}
+use Rattle.standing.specs.Stations.{stationText, stationLine, stationsText}
 
 -- a counter, with the space before it
 abbrev pub counterText : ℕ → List ℕ

@@ -1,6 +1,6 @@
-use Rattle.running.proofs.Stations.{stations-whole, stations-few, same-table}
+use Rattle.standing.proofs.Stations.{stations-whole, stations-few, same-table}
 use Rattle.console.proofs.Puts.{put-done, put-next, chain-same, wrote-short, wrote-all}
-use Rattle.running.specs.Runs.{stationLine, stationsText}
+use Rattle.standing.specs.Stations.{stationLine, stationsText}
 use Rattle.text.proofs.Chains.{Chain, chain-none, chain-next}
 use Rattle.lists.specs.Places.{collect}
 use Rattle.lists.specs.Lists.{below}
@@ -8,8 +8,8 @@ use denote.Ref.{now}
 use Prim.Native.Nat.{_≤_, _-_, _*_}
 use native.Mathlib.Omega.{arith}
 use borrow.Author.Needs.{needs}
-use Rattle.running.proofs.put_stations.Statement.{statement}
-use Rattle.running.proofs.put_stations.Tie as tie
+use Rattle.standing.proofs.put_stations.Statement.{statement}
+use Rattle.standing.proofs.put_stations.Tie as tie
 
 abbrev Inv-loop : tie.InvT-loop
 Inv-loop out₀ s n m at₀ i₀ out at i = (i ≤ n) × (at ≤ 400 * i) × (n ≤ 32) × Chain (collect (stationLine s) (below i)) 0 out₀ at out

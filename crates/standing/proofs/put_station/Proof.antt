@@ -1,8 +1,8 @@
 use mir.Syntax.{w16}
 use mir.Val.{Fits}
-use Rattle.running.proofs.Stations.{counterText, counters-more, station-done, station-few}
+use Rattle.standing.proofs.Stations.{counterText, counters-more, station-done, station-few}
 use Rattle.console.proofs.Puts.{put-done, chain-same}
-use Rattle.running.specs.Events.{stationText}
+use Rattle.standing.specs.Stations.{stationText}
 use Rattle.text.proofs.Chains.{Chain, chain-none, chain-next}
 use Rattle.text.specs.Text.{digits}
 use Rattle.lists.specs.Places.{collect}
@@ -13,8 +13,8 @@ use mathlib.Core.Path.{_≡_, sym}
 use Prim.Native.Nat.{ℕ, _<_, _≤_, _-_}
 use native.Mathlib.Omega.{arith}
 use borrow.Author.Needs.{needs}
-use Rattle.running.proofs.put_station.Statement.{statement}
-use Rattle.running.proofs.put_station.Tie as tie
+use Rattle.standing.proofs.put_station.Statement.{statement}
+use Rattle.standing.proofs.put_station.Tie as tie
 
 abbrev Inv-loop : tie.InvT-loop
 Inv-loop out₀ at i links counters to₀ k₀ t11 t12 out to k = (k ≤ links) × ((xs old : List ℕ) → Chain xs at old to₀ out₀ → Chain (xs ++ collect counterText (take k counters)) at old to out)
