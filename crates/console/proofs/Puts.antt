@@ -1,12 +1,16 @@
 -- A text that was put in parts, and what a caller has of it. Assumes nothing.
 use Prim.Native.Nat.{ℕ, _+_, _≤_, _<_, _^_}
 use mathlib.Core.Path.{_≡_, refl, sym, ap, _∙_, subst}
-use mathlib.Core.List.{List, [], _∷_, _++_}
+use mathlib.Core.List.{List, [], _∷_, _++_, append-nil}
 use native.Mathlib.Omega.{arith}
 use lib.Dec.{leb}
 use lib.ListN.{length, length-append}
 use lib.Seq.{length-take-le}
 use borrow.Author.Tests.{le-leb, lt-leb}
+use Rattle.lists.specs.Lists.{below}
+use Rattle.lists.specs.Places.{collect}
+use Rattle.lists.proofs.Places.{collect-append}
+use Rattle.lists.proofs.Numbers.{below-snoc}
 use Rattle.text.specs.Text.{digits, putAt, placeAfter}
 use Rattle.text.proofs.Digits.{digits-at-most}
 use Rattle.text.proofs.Puts.{place-fits, length-put}
@@ -86,3 +90,8 @@ pub put-nothing : (most at : ℕ) (old : List ℕ) → at ≤ length old → Put
 put-nothing most at old h =
     let c = chain-none at old h in
     record { place = omega arith; output = c .output h; few = omega arith }
+
+-- a text for each number below i, and one more
+pub texts-more : (f : ℕ → List ℕ) (i : ℕ) → collect f (below i) ++ f i ≡ collect f (below (i + 1))
+texts-more f i =
+    sym (ap (collect f) (below-snoc i) ∙ collect-append f (below i) (i ∷ []) ∙ ap (λ (l : List ℕ). collect f (below i) ++ l) (append-nil (f i)))

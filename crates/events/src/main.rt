@@ -100,7 +100,7 @@ fn take_turn(state: State, tally: Tally, reading: Reading) -> Turn {
 
 fn finish(state: State) {
     let mut out = output_room();
-    let wrote = running::put_stations(state, &mut out);
+    let wrote = standing::put_stations(state, &mut out);
     let written = wrote.written;
     io::write_all(1, &out[..written]);
 }

@@ -3,9 +3,9 @@ ghost use Prim.Native.Nat.{_≤_};
 ghost use mathlib.Core.Path.{_≡_};
 ghost use lib.ListN.{length};
 ghost use Rattle.io.specs.Counts.{Counts};
+use answers::Answers;
 use lines::Reading;
 use net::Net;
-use paging::Answers;
 use state::State;
 use tally::Tally;
 
@@ -95,7 +95,7 @@ fn take_turn(state: State, tally: Tally, reading: Reading, before: Answers) -> T
     let size = chunk.size;
     let ran = running::run_events(state, tally, reading, &room[..size], &mut out);
     let written = ran.written;
-    let answers = paging::count_answers(&out[..written], before);
+    let answers = answers::count_answers(&out[..written], before);
     let after = ran.state;
     let read = ran.reading;
     let counts = ran.tally;
@@ -110,7 +110,7 @@ fn take_turn(state: State, tally: Tally, reading: Reading, before: Answers) -> T
 
 fn print_counts(answers: Answers) {
     let mut out = page_room();
-    let wrote = paging::put_counts(answers, &mut out);
+    let wrote = answers::put_counts(answers, &mut out);
     let written = wrote.written;
     io::write_all(1, &out[..written]);
 }

@@ -1,3 +1,1 @@
-pub mod Counting
-pub mod Texts
-pub mod Parts
+pub mod Given

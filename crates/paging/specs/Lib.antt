@@ -1,3 +1,1 @@
-pub mod Words
 pub mod Page
-pub mod Parts

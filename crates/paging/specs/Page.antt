@@ -1,73 +1,18 @@
--- What the page program prints: how many events were taken and refused, and each station's part. Assumes nothing.
-use Prim.Native.Nat.{ℕ, _+_}
-use mathlib.Core.Bool.{Bool, true, false}
-use mathlib.Core.List.{List, [], _∷_, _++_}
-use lib.Dec.{eqb}
-use lib.ListN.{getD}
-use Rattle.lists.specs.Lists.{if_then_else_, below}
-use Rattle.lists.specs.Places.{collect}
-use Rattle.tally.specs.Sums.{counted}
-use Rattle.text.specs.Text.{digits}
-use Rattle.net.specs.Network.{Network, ends, linkNumbers}
-use Rattle.paging.specs.Words.{eventsTaken, refusedWord, stationWord, downWord, waitingWord, liveWord, ofWord, lowestWord}
-use Rattle.paging.specs.Words.{underStation, workingWord, unreachableWord, underLink, openWord, dashWord, perceivedWord, linkWorking, unresponsiveWord}
-use Rattle.paging.specs.declared.Answers.{Answers}
+-- A station's part of the page, for every state. Assumes nothing.
+use Prim.Native.Nat.{ℕ}
+use mathlib.Core.List.{List}
+use lib.ListN.{replicate}
+use Rattle.station.specs.Holding.{isWaiting}
+use Rattle.state.specs.declared.State.{State}
+use Rattle.state.specs.State.{stationIn}
+use Rattle.reports.specs.Answers.{askedOf, outputOf}
+use Rattle.parts.specs.Parts.{partText}
 
--- ---- the events taken and refused, by the lines that were printed for them
-abbrev pub tookOne : Answers → Answers
-tookOne a = record { taken = counted (a .taken) 1; refused = a .refused }
+-- "made from the public report and reach calls": the numbers are the reach's, and the report is what that call leaves in room of 96 bytes
+abbrev pub reportRoom : List ℕ
+reportRoom = replicate 96 0
 
-abbrev pub refusedOne : Answers → Answers
-refusedOne a = record { taken = a .taken; refused = counted (a .refused) 1 }
-
--- a line is counted at its first byte: only the answer 0 begins with the digit 0
-abbrev pub byteCounted : Bool → ℕ → Answers → Answers
-byteCounted true b a = if eqb b 48 then tookOne a else refusedOne a
-byteCounted false b a = a
-
--- bytes of which the first begins a line or does not
-unfoldable pub counting : Bool → List ℕ → Answers → Answers
-counting begins [] a = a
-counting begins (b ∷ bytes) a = counting (eqb b 10) bytes (byteCounted begins b a)
-
--- "`T events taken, R refused`"
-unfoldable pub countsText : ℕ → ℕ → List ℕ
-countsText taken refused = digits taken ++ eventsTaken ++ digits refused ++ refusedWord
-
--- ---- a station's part
--- "`station S down`, `station S waiting`"
-unfoldable pub stillText : ℕ → Bool → List ℕ
-stillText s waiting = stationWord ++ digits s ++ (if waiting then waitingWord else downWord)
-
--- "`station S live, reaches N of M`"
-unfoldable pub reachText : ℕ → ℕ → ℕ → List ℕ
-reachText s ones stations = stationWord ++ digits s ++ liveWord ++ digits ones ++ ofWord ++ digits stations
-
--- "followed by `, lowest not reached L` unless all are reached", and the line's end; 255 says that all are
-unfoldable pub lowestText : ℕ → List ℕ
-lowestText lowest = if eqb lowest 255 then 10 ∷ [] else lowestWord ++ digits lowest ++ 10 ∷ []
-
--- "indented by two spaces, a line `station T working` or `station T unreachable`", by the report's byte for it
-abbrev pub stationShown : ℕ → List ℕ
-stationShown shown = if eqb shown 1 then workingWord else unreachableWord
-
-unfoldable pub seenText : ℕ → ℕ → List ℕ
-seenText t shown = underStation ++ digits t ++ stationShown shown
-
--- "`link K (A-B) working`, `link K (A-B) unresponsive` or `link K (A-B) perceived unreachable`"
-abbrev pub linkShown : ℕ → List ℕ
-linkShown shown = if eqb shown 0 then perceivedWord else (if eqb shown 1 then linkWorking else unresponsiveWord)
-
-unfoldable pub linkText : ℕ → ℕ → ℕ → ℕ → List ℕ
-linkText k low high shown = underLink ++ digits k ++ openWord ++ digits low ++ dashWord ++ digits high ++ linkShown shown
-
--- the lines for each station and each link, by a report: one byte for each station, then one for each link
-unfoldable pub stationsSeen : ℕ → List ℕ → List ℕ
-stationsSeen stations report = collect (λ t. seenText t (getD report t 0)) (below stations)
-
-unfoldable pub linksSeen : Network → List ℕ → List ℕ
-linksSeen net report = collect (λ k. linkText k (ends net k .low) (ends net k .high) (getD report (net .stations + k) 0)) (linkNumbers net)
-
-unfoldable pub liveText : Network → ℕ → ℕ → ℕ → List ℕ → List ℕ
-liveText net s ones lowest report =
-    reachText s ones (net .stations) ++ lowestText lowest ++ stationsSeen (net .stations) report ++ linksSeen net report
+unfoldable pub stationPart : State → ℕ → List ℕ
+stationPart s i =
+    partText (askedOf s i .answer) (s .net) i (askedOf s i .reached .ones) (askedOf s i .reached .lowest)
+    (isWaiting (stationIn s i .condition)) (outputOf s i reportRoom)

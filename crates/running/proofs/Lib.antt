@@ -1,5 +1,4 @@
 pub mod Answers
-pub mod Stations
 pub mod Parts
 pub mod Worlds
 pub mod Program

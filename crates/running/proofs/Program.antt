@@ -34,8 +34,9 @@ use Rattle.console.proofs.Lines.{joined, whole-text, whole-held}
 use Rattle.console.proofs.Faults.{refusal-counts}
 use Rattle.console.proofs.Goods.{file-holds}
 use Rattle.console.proofs.Begun.{not-first, byte-begins}
+use Rattle.standing.specs.Stations.{stationsText}
 use Rattle.running.specs.Events.{Standing, noTally, begins, printed, doneAll, endText, outputBy, eventProgram}
-use Rattle.running.specs.Runs.{Desk, deskOf, acted, spoken, stationsText}
+use Rattle.running.specs.Runs.{Desk, deskOf, acted, spoken}
 use Rattle.running.specs.Calls.{runText, openedText, callsText}
 use Rattle.running.proofs.Worlds.{Carried, lines-print, Ends, lines-end, end-prints}
 

@@ -36,8 +36,9 @@ use Rattle.stepping.specs.Step as Step
 use Rattle.laws.specs.Tallied.{tallyBy}
 use Rattle.laws.proofs.Tallies.{Fits}
 use Rattle.console.specs.Feeding as Feeding
-use Rattle.running.specs.Events.{Standing, eventBy, answerText, done, printedFor, printed, doneAll, stationText, endText}
-use Rattle.running.specs.Runs.{Desk, deskOf, acted, spoken, stationLine, stationsText}
+use Rattle.standing.specs.Stations.{stationText, stationLine, stationsText}
+use Rattle.running.specs.Events.{Standing, eventBy, answerText, done, printedFor, printed, doneAll, endText}
+use Rattle.running.specs.Runs.{Desk, deskOf, acted, spoken}
 
 -- a world that a good network carries
 pub record Carried (v : Net) (w : World) : Type 0 where

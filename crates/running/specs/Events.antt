@@ -14,6 +14,7 @@ use Rattle.world.specs.World.{World, Event, numberOf, step, holdingAt, fresh, s
 use Rattle.world.specs.History.{next}
 use Rattle.laws.specs.Tallied.{tallyBy}
 use Rattle.console.specs.Sheets.{fileSheet, refusalText}
+use Rattle.standing.specs.Stations.{stationText}
 
 -- what stands between two lines
 pub record Standing : Type 0 where
@@ -49,10 +50,7 @@ unfoldable pub doneAll : Standing → List (List ℕ) → Standing
 doneAll st [] = st
 doneAll st (said ∷ others) = doneAll (done st (eventBy said)) others
 
--- "one line per station, its number and its counters by link"
-unfoldable pub stationText : ℕ → List ℕ → List ℕ
-stationText s table = digits s ++ collect (λ c. 32 ∷ digits c) table ++ 10 ∷ []
-
+-- at the end, a line for each station (crate `standing`, stationText)
 unfoldable pub endText : World → List ℕ
 endText w = collect (λ s. stationText s (holdingAt w s .table)) (below (w .net .stations))
 

@@ -5,21 +5,17 @@ use mathlib.Core.Bool.{Bool}
 use mathlib.Core.List.{List}
 use lib.Dec.{leb}
 use lib.ListN.{length, getD}
-use Rattle.lists.specs.Lists.{if_then_else_, below}
-use Rattle.lists.specs.Places.{collect}
+use Rattle.lists.specs.Lists.{if_then_else_}
 use Rattle.tally.specs.declared.Tally.{Tally}
 use Rattle.tally.specs.Sums.{tallied}
 use Rattle.lines.specs.declared.Reading.{Reading}
 use Rattle.lines.specs.Steps.{start, readOn, lineEnd}
-use Rattle.net.specs.Values.{networkOf}
-use Rattle.reach.specs.Values.{tableOf}
 use Rattle.state.specs.declared.State.{State}
-use Rattle.state.specs.State.{stationIn}
 use Rattle.stepping.specs.declared.Stepped.{Stepped}
 use Rattle.stepping.specs.Step.{steppedOf}
 use Rattle.console.specs.Feeding.{heldAfter, readAfter, textAfter}
 use Rattle.running.specs.declared.Ran.{Ran}
-use Rattle.running.specs.Events.{answerText, stationText}
+use Rattle.running.specs.Events.{answerText}
 
 -- what is held between two lines
 pub record Desk : Type 0 where
@@ -61,10 +57,3 @@ ranAs answer written r d = record { answer = answer; written = written; reading 
 
 abbrev pub ranBy : Bool → Desk → Reading → List ℕ → Ran
 ranBy enough d r bytes = if enough then ranAs 0 (length (texts d r bytes)) (lineAfter d r bytes) (deskAfter d r bytes) else ranAs 10 0 r d
-
--- ---- the stations' lines
-abbrev pub stationLine : State → ℕ → List ℕ
-stationLine s i = stationText i (tableOf (s .net) (stationIn s i .counters))
-
-unfoldable pub stationsText : State → List ℕ
-stationsText s = collect (stationLine s) (below (networkOf (s .net) .stations))

@@ -1,5 +1,5 @@
 use Rattle.reports.proofs.Helpers.{place-few}
-use Rattle.paging.proofs.Parts.{station-given}
+use Rattle.paging.proofs.Given.{station-given}
 use denote.Ref.{now}
 use mathlib.Core.Path.{_∙_}
 use native.Mathlib.Omega.{arith}

@@ -1,0 +1,81 @@
+// How many events were taken and refused, counted in the lines that the event program prints for them: the page's first line.
+ghost use mathlib.Core.Path.{_≡_};
+ghost use mathlib.Core.Bool.{true};
+ghost use lib.Dec.{leb};
+ghost use lib.ListN.{length};
+ghost use Rattle.tally.specs.Sums.{counted};
+ghost use Rattle.console.specs.Outputs.{Counts, wroteBy, outputBy};
+ghost use Rattle.answers.specs.Counting.{byteCounted, counting, countsText};
+use console::Wrote;
+
+// Each count has 64 bits and stays at its largest value once there.
+pub struct Answers {
+    pub taken: u64,
+    pub refused: u64,
+}
+
+fn one_more(count: u64) -> u64
+    ensures { λ r. ⌜ r ≡ counted count 1 ⌝ }
+{
+    if count == 18446744073709551615 {
+        count
+    } else {
+        count + 1
+    }
+}
+
+// A line is counted at its first byte: only the answer 0 begins with the digit 0.
+fn count_byte(begins: bool, byte: u8, a: Answers) -> Answers
+    ensures { λ r. ⌜ r ≡ byteCounted begins byte a ⌝ }
+{
+    if !begins {
+        return a;
+    }
+    if byte == 48 {
+        return Answers {
+            taken: one_more(a.taken),
+            refused: a.refused,
+        };
+    }
+    Answers {
+        taken: a.taken,
+        refused: one_more(a.refused),
+    }
+}
+
+// The answers on these lines, which the event program prints for events, added to those before.
+pub fn count_answers(bytes: &[u8], before: Answers) -> Answers
+    ensures { λ r. ⌜ r ≡ counting true (now (bytes .entry)) before ⌝ }
+{
+    let mut a = before;
+    let mut begins = true;
+    for i in 0..bytes.len() {
+        let byte = bytes[i];
+        a = count_byte(begins, byte, a);
+        begins = byte == 10;
+    }
+    a
+}
+
+// The page's first line.
+pub fn put_counts(a: Answers, out: &mut [u8]) -> Wrote
+    ensures answer { λ r. ⌜ r ≡ wroteBy (leb 64 (length (now (out .entry)))) (countsText (a .taken) (a .refused)) ⌝ }
+    ensures output { λ r. ⌜ now (out .exit) ≡ outputBy (leb 64 (length (now (out .entry)))) (countsText (a .taken) (a .refused)) (now (out .entry)) ⌝ }
+    ensures room { λ r. ⌜ Counts (r .written) (now (out .exit)) ⌝ }
+{
+    // two numbers of at most 20 digits, and 24 bytes of words
+    if out.len() < 64 {
+        return Wrote {
+            answer: 10,
+            written: 0,
+        };
+    }
+    let b = text::put_number(out, 0, a.taken);
+    let c = text::put_word(out, b, b" events taken, ");
+    let d = text::put_number(out, c, a.refused);
+    let end = text::put_word(out, d, b" refused\n");
+    Wrote {
+        answer: 0,
+        written: end,
+    }
+}
