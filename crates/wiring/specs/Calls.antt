@@ -5,7 +5,7 @@ use Prim.Native.Nat.{ℕ}
 use mathlib.Core.List.{List, [], _++_}
 use lib.Dec.{eqb}
 use Rattle.lists.specs.Lists.{if_then_else_}
-use Rattle.lines.specs.HexSteps.{hexStart, readHex}
+use Rattle.hex_lines.specs.HexSteps.{hexStart, readHex}
 use Rattle.console.specs.declared.Opened.{Opened}
 use Rattle.console.specs.Sheets.{fileSheet, openedBy}
 use Rattle.console.specs.Begun.{isHexBegun}

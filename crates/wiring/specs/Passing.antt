@@ -6,9 +6,9 @@ use mathlib.Core.List.{List}
 use lib.Dec.{leb}
 use lib.ListN.{length}
 use Rattle.lists.specs.Lists.{if_then_else_}
-use Rattle.lines.specs.declared.HexReading.{HexReading}
-use Rattle.lines.specs.Hex.{HexText, malformed, octets}
-use Rattle.lines.specs.HexSteps.{hexStart, readHex, hexEnd, hexSays}
+use Rattle.hex_lines.specs.declared.HexReading.{HexReading}
+use Rattle.hex_lines.specs.Hex.{HexText, malformed, octets}
+use Rattle.hex_lines.specs.HexSteps.{hexStart, readHex, hexEnd, hexSays}
 use Rattle.net.specs.declared.Net.{Net}
 use Rattle.net.specs.Values.{networkOf}
 use Rattle.letters.specs.Values.{reading}

@@ -4,7 +4,7 @@ use mathlib.Core.List.{List, [], _∷_, _++_, map}
 use lib.ListN.{length}
 use Rattle.lists.specs.Places.{collect}
 use Rattle.text.specs.Text.{digits, hexPair}
-use Rattle.lines.specs.Hex.{HexText, malformed, octets, hexLine}
+use Rattle.hex_lines.specs.Hex.{HexText, malformed, octets, hexLine}
 use Rattle.lines.specs.Split.{linesOf}
 use Rattle.net.specs.declared.Body.{Body}
 use Rattle.net.specs.declared.Body.the-variants.{Request, Reply, Notice}

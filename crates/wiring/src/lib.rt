@@ -4,7 +4,7 @@ ghost use mathlib.Core.Path.{_≡_};
 ghost use Prim.Native.Nat.{_+_, _*_, _≤_};
 ghost use lib.Dec.{T, leb};
 ghost use lib.ListN.{length, getD, drop};
-ghost use Rattle.lines.specs.HexSteps.{readHex};
+ghost use Rattle.hex_lines.specs.HexSteps.{readHex};
 ghost use Rattle.net.specs.Values.{networkOf, netHolds};
 ghost use Rattle.net.specs.Letters.{letterHolds};
 ghost use Rattle.sheet.specs.Sheet.{sheet};
@@ -17,8 +17,8 @@ ghost use Rattle.console.specs.Feeding.{stopOf};
 ghost use Rattle.wiring.specs.Wire.{kindWord, bodyText, fieldText, hexText, sheetText, letterText, readText};
 ghost use Rattle.wiring.specs.Passing.{saidBy, spoken, texts, stopIn, enough, passedBy};
 use console::Wrote;
-use lines::HexLine;
-use lines::HexReading;
+use hex_lines::HexLine;
+use hex_lines::HexReading;
 use net::Body;
 use net::Letter;
 use net::Net;
@@ -199,7 +199,7 @@ fn put_line(out: &mut [u8], at: usize, net: Net, r: HexReading) -> usize
     ensures { λ n. ⌜ Put (spoken net (saidBy r)) 64 at (now (out .entry)) n (now (out .exit)) ⌝ }
 {
     let bytes = r.bytes;
-    match lines::hex_end(r) {
+    match hex_lines::hex_end(r) {
         HexLine::NotHex => text::put_word(out, at, b"malformed\n"),
         HexLine::Bytes(n) => put_read(out, at, net, &bytes[..n]),
     }
@@ -226,7 +226,7 @@ fn read_part(r: HexReading, bytes: &[u8], from: usize) -> Part
                 ended: true,
             };
         }
-        reading = lines::read_hex(reading, byte);
+        reading = hex_lines::read_hex(reading, byte);
     }
     Part {
         reading,
@@ -261,7 +261,7 @@ pub fn run_letters(net: Net, r: HexReading, bytes: &[u8], out: &mut [u8]) -> Pas
     while part.ended {
         let line = part.reading;
         at = put_line(out, at, net, line);
-        part = read_part(lines::begin_hex(), bytes, part.next);
+        part = read_part(hex_lines::begin_hex(), bytes, part.next);
     }
     let reading = part.reading;
     Passed {

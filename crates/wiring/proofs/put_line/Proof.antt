@@ -1,9 +1,9 @@
 use Rattle.wiring.specs.Passing.{spoken}
 use Rattle.wiring.specs.Wire.{malformedLine}
 use Rattle.console.proofs.Puts.{put-of, put-same, put-wider}
-use Rattle.lines.proofs.Hex.{hex-size}
-use Rattle.lines.specs.HexSteps.{hexSays}
-use Rattle.lines.specs.declared.HexLine.{HexLine}
+use Rattle.hex_lines.proofs.Hex.{hex-size}
+use Rattle.hex_lines.specs.HexSteps.{hexSays}
+use Rattle.hex_lines.specs.declared.HexLine.{HexLine}
 use denote.Ref.{now}
 use Prim.Native.Nat.{_≤_}
 use lib.Seq.{length-take-le}

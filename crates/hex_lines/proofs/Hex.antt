@@ -12,10 +12,10 @@ use lib.Seq.{take-suc-set}
 use borrow.Author.Tests.{lt-ltb, le-ltb, le-leb, lt-leb, eq-eqb, ne-eqb, leb-true}
 use Rattle.lists.specs.Lists.{if_then_else_, every}
 use Rattle.lists.proofs.Tests.{and-no, if-elim}
-use Rattle.lines.specs.declared.HexReading.{HexReading}
-use Rattle.lines.specs.declared.HexLine.the-variants.{NotHex, Bytes}
-use Rattle.lines.specs.Hex.{HexText, malformed, octets, hexValue, isHex, pairs, isEven, hexLine}
-use Rattle.lines.specs.HexSteps.{hexStart, withHex, readHex, hexEnd, hexSays, fedHex}
+use Rattle.hex_lines.specs.declared.HexReading.{HexReading}
+use Rattle.hex_lines.specs.declared.HexLine.the-variants.{NotHex, Bytes}
+use Rattle.hex_lines.specs.Hex.{HexText, malformed, octets, hexValue, isHex, pairs, isEven, hexLine}
+use Rattle.hex_lines.specs.HexSteps.{hexStart, withHex, readHex, hexEnd, hexSays, fedHex}
 
 -- what the line that was read so far says, if it ends here
 abbrev says : HexReading → HexText

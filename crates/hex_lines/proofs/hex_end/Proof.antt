@@ -1,7 +1,7 @@
 use borrow.Author.Tests.{eq-eqb, ne-eqb, le-leb, lt-leb}
-use Rattle.lines.specs.HexSteps.{hexEnd}
-use Rattle.lines.proofs.hex_end.Statement.{statement}
-use Rattle.lines.proofs.hex_end.Tie as tie
+use Rattle.hex_lines.specs.HexSteps.{hexEnd}
+use Rattle.hex_lines.proofs.hex_end.Statement.{statement}
+use Rattle.hex_lines.proofs.hex_end.Tie as tie
 
 returns : tie.Need-returns
 unfolding hexEnd

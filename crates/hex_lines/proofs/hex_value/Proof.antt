@@ -1,8 +1,8 @@
 use native.Mathlib.Omega.{arith}
-use Rattle.lines.proofs.HexReads.{value-low, value-decimal, value-between, value-upper, value-after, value-lower, value-beyond}
+use Rattle.hex_lines.proofs.HexReads.{value-low, value-decimal, value-between, value-upper, value-after, value-lower, value-beyond}
 use borrow.Author.Needs.{needs}
-use Rattle.lines.proofs.hex_value.Statement.{statement}
-use Rattle.lines.proofs.hex_value.Tie as tie
+use Rattle.hex_lines.proofs.hex_value.Statement.{statement}
+use Rattle.hex_lines.proofs.hex_value.Tie as tie
 
 returns : tie.Need-returns
 returns c = value-low _ (omega arith)

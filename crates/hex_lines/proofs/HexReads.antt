@@ -4,9 +4,9 @@ use mathlib.Core.Path.{_≡_, ap, _∙_}
 use native.Mathlib.Omega.{arith}
 use borrow.Author.Tests.{lt-ltb, le-ltb, le-leb, lt-leb}
 use Rattle.lists.proofs.Tests.{and-no}
-use Rattle.lines.specs.declared.HexReading.{HexReading}
-use Rattle.lines.specs.Hex.{hexValue}
-use Rattle.lines.specs.HexSteps.{notHex, withHex, readHex}
+use Rattle.hex_lines.specs.declared.HexReading.{HexReading}
+use Rattle.hex_lines.specs.Hex.{hexValue}
+use Rattle.hex_lines.specs.HexSteps.{notHex, withHex, readHex}
 
 -- ---- a digit's value
 module _ (b : ℕ) where

@@ -1,7 +1,7 @@
 use mathlib.Core.Path.{refl}
-use Rattle.lines.specs.HexSteps.{hexStart}
-use Rattle.lines.proofs.begin_hex.Statement.{statement}
-use Rattle.lines.proofs.begin_hex.Tie as tie
+use Rattle.hex_lines.specs.HexSteps.{hexStart}
+use Rattle.hex_lines.proofs.begin_hex.Statement.{statement}
+use Rattle.hex_lines.proofs.begin_hex.Tie as tie
 
 returns : tie.Need-returns
 unfolding hexStart

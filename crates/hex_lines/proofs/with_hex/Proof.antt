@@ -1,8 +1,8 @@
 use borrow.Author.Tests.{eq-eqb, ne-eqb}
-use Rattle.lines.specs.HexSteps.{withHex}
+use Rattle.hex_lines.specs.HexSteps.{withHex}
 use borrow.Author.Needs.{needs}
-use Rattle.lines.proofs.with_hex.Statement.{statement}
-use Rattle.lines.proofs.with_hex.Tie as tie
+use Rattle.hex_lines.proofs.with_hex.Statement.{statement}
+use Rattle.hex_lines.proofs.with_hex.Tie as tie
 
 add-t7 : tie.Need-add-t7
 add-t7 c = search needs

@@ -5,10 +5,10 @@ use mathlib.Core.List.{List, [], _∷_}
 use lib.Dec.{leb, ltb}
 use lib.ListN.{take, set, replicate}
 use Rattle.lists.specs.Lists.{if_then_else_}
-use Rattle.lines.specs.declared.HexReading.{HexReading}
-use Rattle.lines.specs.declared.HexLine.{HexLine}
-use Rattle.lines.specs.declared.HexLine.the-variants.{NotHex, Bytes}
-use Rattle.lines.specs.Hex.{HexText, malformed, octets, hexValue, isHex, isEven}
+use Rattle.hex_lines.specs.declared.HexReading.{HexReading}
+use Rattle.hex_lines.specs.declared.HexLine.{HexLine}
+use Rattle.hex_lines.specs.declared.HexLine.the-variants.{NotHex, Bytes}
+use Rattle.hex_lines.specs.Hex.{HexText, malformed, octets, hexValue, isHex, isEven}
 
 -- no byte read
 unfoldable pub hexStart : HexReading

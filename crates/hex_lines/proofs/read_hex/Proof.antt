@@ -1,8 +1,8 @@
 use native.Mathlib.Omega.{arith}
-use Rattle.lines.proofs.HexReads.{hex-no, hex-long, hex-takes}
+use Rattle.hex_lines.proofs.HexReads.{hex-no, hex-long, hex-takes}
 use borrow.Author.Needs.{needs}
-use Rattle.lines.proofs.read_hex.Statement.{statement}
-use Rattle.lines.proofs.read_hex.Tie as tie
+use Rattle.hex_lines.proofs.read_hex.Statement.{statement}
+use Rattle.hex_lines.proofs.read_hex.Tie as tie
 
 hex-value-requires : tie.Need-hex-value-requires
 hex-value-requires c κs = search needs
