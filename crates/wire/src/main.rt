@@ -107,7 +107,7 @@ fn run(net: Net) {
 
 fn show_sheet(file: &[u8]) {
     let mut out = output_room();
-    let wrote = wiring::put_sheet(file, &mut out);
+    let wrote = sheet_line::put_sheet(file, &mut out);
     let written = wrote.written;
     io::write_all(1, &out[..written]);
 }

@@ -29,7 +29,9 @@ use Rattle.console.proofs.Lines.{joined, whole-text}
 use Rattle.console.proofs.Faults.{refusal-counts}
 use Rattle.console.proofs.Goods.{file-holds}
 use Rattle.console.proofs.Begun.{hex-not-first, hex-begins}
-use Rattle.wiring.specs.Wire.{sheetText, readText, lineText, outputBy, wireProgram}
+use Rattle.sheet_line.specs.Line.{sheetText}
+use Rattle.letter_line.specs.Line.{readText}
+use Rattle.wiring.specs.Wire.{lineText, outputBy, wireProgram}
 use Rattle.wiring.specs.Passing.{saidBy, acted, spoken}
 use Rattle.wiring.specs.Calls.{openedText, callsText}
 

@@ -10,7 +10,7 @@ use Rattle.console.specs.declared.Opened.{Opened}
 use Rattle.console.specs.Sheets.{fileSheet, openedBy}
 use Rattle.console.specs.Begun.{isHexBegun}
 use Rattle.console.specs.Feeding.{wholeText}
-use Rattle.wiring.specs.Wire.{sheetText}
+use Rattle.sheet_line.specs.Line.{sheetText}
 use Rattle.wiring.specs.Passing.{saidBy, acted, spoken}
 
 abbrev pub openedText : Opened → List (List ℕ) → List ℕ
