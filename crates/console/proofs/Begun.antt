@@ -9,9 +9,9 @@ use Rattle.lists.proofs.Tests.{if-elim}
 use Rattle.lines.specs.declared.Reading.{Reading}
 use Rattle.lines.specs.Events.{isDigit}
 use Rattle.lines.specs.Steps.{start, withDigit, nextNumber, readOn}
-use Rattle.lines.specs.declared.HexReading.{HexReading}
-use Rattle.lines.specs.Hex.{isHex, isEven, hexValue}
-use Rattle.lines.specs.HexSteps.{hexStart, withHex, readHex}
+use Rattle.hex_lines.specs.declared.HexReading.{HexReading}
+use Rattle.hex_lines.specs.Hex.{isHex, isEven, hexValue}
+use Rattle.hex_lines.specs.HexSteps.{hexStart, withHex, readHex}
 use Rattle.console.specs.Begun.{isBegun, isHexBegun}
 
 pub not-first : isBegun start ≡ false

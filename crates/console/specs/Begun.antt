@@ -1,7 +1,7 @@
 -- "The last newline may be missing": where the input ends inside a line, that line ends too. Assumes nothing.
 use mathlib.Core.Bool.{Bool, _||_, not}
 use lib.Dec.{eqb}
-use Rattle.lines.specs.declared.HexReading.{HexReading}
+use Rattle.hex_lines.specs.declared.HexReading.{HexReading}
 use Rattle.lines.specs.declared.Reading.{Reading}
 
 -- a byte of the line under way is read

@@ -6,7 +6,7 @@ ghost use Rattle.sheet.specs.Values.{numberOf, zeroNet};
 ghost use Rattle.console.specs.Sheets.{fileSheet, openedBy, refusalText};
 ghost use Rattle.console.specs.Outputs.{Counts, wroteBy, outputBy};
 ghost use Rattle.console.specs.Begun.{isBegun, isHexBegun};
-use lines::HexReading;
+use hex_lines::HexReading;
 use lines::Reading;
 use net::Net;
 

@@ -1,10 +1,8 @@
 -- Lines on both sides of each edge, computed from the definitions. Assumes nothing.
 use mathlib.Core.Path.{_≡_, refl}
 use mathlib.Core.List.{[], _∷_, map}
-use lib.ListN.{replicate}
 use Rattle.lines.specs.Events.{pieces, isEvent, eventLine}
 use Rattle.lines.specs.Split.{linesOf}
-use Rattle.lines.specs.Hex.{malformed, octets, hexValue, hexLine}
 
 -- "7 0 0"; "007 1 999999999"; then malformed: no bytes; two numbers; four; two spaces; a space before; a space behind; ten digits; a letter
 pub event-cases : map eventLine (
@@ -22,12 +20,6 @@ pub event-cases : map eventLine (
     ≡ (0 ∷ 7 ∷ 0 ∷ 0 ∷ []) ∷ (0 ∷ 7 ∷ 1 ∷ 999999999 ∷ []) ∷ (6 ∷ []) ∷ (6 ∷ []) ∷ (6 ∷ []) ∷ (6 ∷ []) ∷ (6 ∷ []) ∷ (6 ∷ []) ∷ (6 ∷ []) ∷ (6 ∷ []) ∷ []
 unfolding pieces isEvent eventLine
 event-cases = refl
-
--- no bytes; "0aF1"; 64 digits; then malformed: one digit; "0g"; 66 digits
-pub hex-cases : map hexLine ([] ∷ (48 ∷ 97 ∷ 70 ∷ 49 ∷ []) ∷ replicate 64 102 ∷ (48 ∷ []) ∷ (48 ∷ 103 ∷ []) ∷ replicate 66 102 ∷ [])
-    ≡ octets [] ∷ octets (10 ∷ 241 ∷ []) ∷ octets (replicate 32 255) ∷ malformed ∷ malformed ∷ malformed ∷ []
-unfolding hexValue hexLine
-hex-cases = refl
 
 -- no bytes; a lone newline; "a"; "a", newline; newline, "a"; "a", two newlines, "b"
 pub line-cases : map linesOf ([] ∷ (10 ∷ []) ∷ (97 ∷ []) ∷ (97 ∷ 10 ∷ []) ∷ (10 ∷ 97 ∷ []) ∷ (97 ∷ 10 ∷ 10 ∷ 98 ∷ []) ∷ [])

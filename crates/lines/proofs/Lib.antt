@@ -1,5 +1,3 @@
 pub mod Events
-pub mod Hex
 pub mod Split
-mod HexReads
 pub mod Cases

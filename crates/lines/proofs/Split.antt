@@ -1,19 +1,15 @@
 -- A reader that takes the bytes of a text one by one answers for each of its lines, in order: the law of specs/Split.antt, for any
--- reader and for those of this crate. Assumes nothing.
+-- reader and for that of this crate. Assumes nothing.
 use Prim.Native.Nat.{ℕ}
 use mathlib.Core.Bool.{Bool, true, false}
 use mathlib.Core.Path.{_≡_, refl, sym, ap, ap₂, _∙_}
 use mathlib.Core.List.{List, [], _∷_, _++_, map, append-assoc, append-nil}
 use native.Mathlib.Decide.{ℕ-discrete}
 use borrow.Author.Tests.{eq-eqb, ne-eqb}
-use Rattle.lines.specs.declared.HexReading.{HexReading}
 use Rattle.lines.specs.Events.{eventLine}
 use Rattle.lines.specs.Steps.{start, readOn, lineEnd, fed}
-use Rattle.lines.specs.Hex.{HexText, hexLine}
-use Rattle.lines.specs.HexSteps.{hexStart, readHex, hexEnd, hexSays, fedHex}
 use Rattle.lines.specs.Split.{onLine, linesOf, answers}
 use Rattle.lines.proofs.Events.{read-line, fed-append}
-use Rattle.lines.proofs.Hex.{read-hex-line, fed-hex-append}
 
 -- the lines of the bytes to come, where the first of them goes on after xs
 abbrev after : List ℕ → List (List ℕ) → List (List ℕ)
@@ -70,10 +66,3 @@ module _ {R A : Type 0} (fresh : R) (on : R → ℕ → R) (ends : R → A) (rea
 
 pub event-lines : (bytes : List ℕ) → answers start readOn lineEnd start false bytes ≡ map eventLine (linesOf bytes)
 event-lines = each-line start readOn lineEnd fed eventLine (λ r xs b. fed-append xs (b ∷ []) r) refl read-line
-
--- what a hexadecimal line says that ends here
-abbrev pub hexAnswer : HexReading → HexText
-hexAnswer r = hexSays (hexEnd r) (r .bytes)
-
-pub hex-lines : (bytes : List ℕ) → answers hexStart readHex hexAnswer hexStart false bytes ≡ map hexLine (linesOf bytes)
-hex-lines = each-line hexStart readHex hexAnswer fedHex hexLine (λ r xs b. fed-hex-append xs (b ∷ []) r) refl read-hex-line

@@ -3,7 +3,7 @@ ghost use Prim.Native.Nat.{_≤_};
 ghost use mathlib.Core.Path.{_≡_};
 ghost use lib.ListN.{length};
 ghost use Rattle.io.specs.Counts.{Counts};
-use lines::HexReading;
+use hex_lines::HexReading;
 use net::Net;
 
 fn file_room() -> [u8; 4097]
@@ -92,7 +92,7 @@ fn take_turn(net: Net, reading: HexReading) -> Turn {
 
 // A proved loop has to end, and nothing says that an input does: it counts its turns down, from a number that no run uses up.
 fn run(net: Net) {
-    let mut reading = lines::begin_hex();
+    let mut reading = hex_lines::begin_hex();
     let mut turns = u64::MAX;
     while turns > 0 {
         let done = take_turn(net, reading);
@@ -107,7 +107,7 @@ fn run(net: Net) {
 
 fn show_sheet(file: &[u8]) {
     let mut out = output_room();
-    let wrote = wiring::put_sheet(file, &mut out);
+    let wrote = sheet_line::put_sheet(file, &mut out);
     let written = wrote.written;
     io::write_all(1, &out[..written]);
 }

@@ -1,4 +1,2 @@
-pub mod Texts
-pub mod Written
 pub mod Passing
 pub mod Program

@@ -6,8 +6,8 @@ use mathlib.Core.List.{List}
 use native.Mathlib.Omega.{arith}
 use lib.ListN.{length, drop}
 use borrow.Author.Tests.{le-leb, lt-leb}
-use Rattle.lines.specs.declared.HexReading.{HexReading}
-use Rattle.lines.specs.HexSteps.{hexStart, readHex}
+use Rattle.hex_lines.specs.declared.HexReading.{HexReading}
+use Rattle.hex_lines.specs.HexSteps.{hexStart, readHex}
 use Rattle.net.specs.declared.Net.{Net}
 use Rattle.console.specs.Feeding.{Stop, stopOf}
 use Rattle.console.specs.Outputs.{Counts, outputBy}

@@ -9,10 +9,10 @@ use borrow.Author.Tests.{ne-eqb}
 use Rattle.lists.specs.Lists.{if_then_else_}
 use Rattle.lists.specs.Places.{collect}
 use Rattle.lists.proofs.Tests.{T-is}
-use Rattle.lines.specs.Hex.{HexText, malformed, octets, hexLine}
-use Rattle.lines.specs.HexSteps.{hexStart, readHex}
+use Rattle.hex_lines.specs.Hex.{HexText, malformed, octets, hexLine}
+use Rattle.hex_lines.specs.HexSteps.{hexStart, readHex}
 use Rattle.lines.specs.Split.{linesOf}
-use Rattle.lines.proofs.Split.{hex-lines}
+use Rattle.hex_lines.proofs.Split.{hex-lines}
 use Rattle.net.specs.declared.Net.{Net}
 use Rattle.net.specs.Network.{Network, sheetHolds}
 use Rattle.net.specs.Values.{netHolds}
@@ -29,7 +29,9 @@ use Rattle.console.proofs.Lines.{joined, whole-text}
 use Rattle.console.proofs.Faults.{refusal-counts}
 use Rattle.console.proofs.Goods.{file-holds}
 use Rattle.console.proofs.Begun.{hex-not-first, hex-begins}
-use Rattle.wiring.specs.Wire.{sheetText, readText, lineText, outputBy, wireProgram}
+use Rattle.sheet_line.specs.Line.{sheetText}
+use Rattle.letter_line.specs.Line.{readText}
+use Rattle.wiring.specs.Wire.{lineText, outputBy, wireProgram}
 use Rattle.wiring.specs.Passing.{saidBy, acted, spoken}
 use Rattle.wiring.specs.Calls.{openedText, callsText}
 

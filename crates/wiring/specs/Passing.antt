@@ -6,25 +6,24 @@ use mathlib.Core.List.{List}
 use lib.Dec.{leb}
 use lib.ListN.{length}
 use Rattle.lists.specs.Lists.{if_then_else_}
-use Rattle.lines.specs.declared.HexReading.{HexReading}
-use Rattle.lines.specs.Hex.{HexText, malformed, octets}
-use Rattle.lines.specs.HexSteps.{hexStart, readHex, hexEnd, hexSays}
+use Rattle.hex_lines.specs.declared.HexReading.{HexReading}
+use Rattle.hex_lines.specs.Hex.{HexText, malformed, octets}
+use Rattle.hex_lines.specs.HexSteps.{hexStart, readHex, hexEnd, hexSays}
 use Rattle.net.specs.declared.Net.{Net}
-use Rattle.net.specs.Values.{networkOf}
-use Rattle.letters.specs.Values.{reading}
 use Rattle.console.specs.Feeding.{Stop, readAfter, textAfter}
+use Rattle.letter_line.specs.Line.{readLine}
 use Rattle.wiring.specs.declared.Part.{Part}
 use Rattle.wiring.specs.declared.Passed.{Passed}
-use Rattle.wiring.specs.Wire.{malformedLine, readText}
+use Rattle.wiring.specs.Wire.{malformedLine}
 
 -- what a line says that ends here
 abbrev pub saidBy : HexReading → HexText
 saidBy r = hexSays (hexEnd r) (r .bytes)
 
--- a line against a network value: every letter is refused as 11 where the value is no good network
+-- a line against a network value
 abbrev pub spoken : Net → HexText → List ℕ
 spoken net malformed = malformedLine
-spoken net (octets bytes) = readText (networkOf net) (reading net bytes)
+spoken net (octets bytes) = readLine net bytes
 
 -- no line changes the network
 abbrev pub acted : Net → HexText → Net

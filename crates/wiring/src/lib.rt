@@ -1,197 +1,14 @@
-// The wire program's lines, on bytes and values alone: the sheet written back, and letters read and written back. Nothing here reads
-// or writes.
+// The wire program's lines, on bytes and values alone: letters read and written back, line by line. Nothing here reads or writes.
 ghost use mathlib.Core.Path.{_≡_};
-ghost use Prim.Native.Nat.{_+_, _*_, _≤_};
-ghost use lib.Dec.{T, leb};
-ghost use lib.ListN.{length, getD, drop};
-ghost use Rattle.lines.specs.HexSteps.{readHex};
-ghost use Rattle.net.specs.Values.{networkOf, netHolds};
-ghost use Rattle.net.specs.Letters.{letterHolds};
-ghost use Rattle.sheet.specs.Sheet.{sheet};
-ghost use Rattle.sheet.specs.Values as Sheet;
-ghost use Rattle.letters.specs.Values.{reading};
-ghost use Rattle.letters.specs.Values as Letters;
-ghost use Rattle.console.specs.Sheets.{fileSheet, refusalText};
-ghost use Rattle.console.specs.Outputs.{Counts, wroteBy, outputBy, Put};
+ghost use Prim.Native.Nat.{_+_, _≤_};
+ghost use lib.ListN.{length, drop};
+ghost use Rattle.hex_lines.specs.HexSteps.{readHex};
+ghost use Rattle.console.specs.Outputs.{Counts, outputBy, Put};
 ghost use Rattle.console.specs.Feeding.{stopOf};
-ghost use Rattle.wiring.specs.Wire.{kindWord, bodyText, fieldText, hexText, sheetText, letterText, readText};
 ghost use Rattle.wiring.specs.Passing.{saidBy, spoken, texts, stopIn, enough, passedBy};
-use console::Wrote;
-use lines::HexLine;
-use lines::HexReading;
-use net::Body;
-use net::Letter;
+use hex_lines::HexLine;
+use hex_lines::HexReading;
 use net::Net;
-
-// ---- bytes as text
-
-// A byte is two digits, upper case.
-fn put_bytes(out: &mut [u8], at: usize, bytes: &[u8]) -> usize
-    requires { ⌜ at + 2 * length (now bytes) ≤ length (now out) ⌝ }
-    ensures { λ r. ⌜ Put (hexText (now (bytes .entry))) (2 * length (now (bytes .entry))) at (now (out .entry)) r (now (out .exit)) ⌝ }
-{
-    let mut to = at;
-    for i in 0..bytes.len() {
-        to = text::put_hex(out, to, bytes[i]);
-    }
-    to
-}
-
-// A number and a space.
-fn put_field(out: &mut [u8], at: usize, n: u16) -> usize
-    requires { ⌜ at + 6 ≤ length (now out) ⌝ }
-    ensures { λ r. ⌜ Put (fieldText n) 6 at (now (out .entry)) r (now (out .exit)) ⌝ }
-{
-    let to = text::put_number(out, at, n as u64);
-    text::put_word(out, to, b" ")
-}
-
-// ---- the sheet
-
-// No sheet is longer: the first field, 64 links, the last field.
-fn sheet_room() -> [u8; 327]
-    ensures { λ r. ⌜ 327 ≡ length r ⌝ }
-{
-    [0u8; 327]
-}
-
-fn sheet_size(wrote: sheet::Wrote) -> usize
-    ensures { λ r. ⌜ r ≡ getD (Sheet.wroteNumbers wrote) 1 0 ⌝ }
-{
-    match wrote {
-        sheet::Wrote::Bytes(n) => n,
-        sheet::Wrote::OutputShort => 0,
-        sheet::Wrote::BadNetwork => 0,
-    }
-}
-
-fn put_network(out: &mut [u8], net: Net) -> usize
-    requires { ⌜ (700 ≤ length (now out)) × T (netHolds net) ⌝ }
-    ensures { λ r. ⌜ Put (sheetText (sheet (networkOf net))) 700 0 (now (out .entry)) r (now (out .exit)) ⌝ }
-{
-    let mut room = sheet_room();
-    let n = sheet_size(sheet_writing::write(net, &mut room));
-    let a = text::put_word(out, 0, b"sheet 0 ");
-    let b = put_field(out, a, net.stations as u16);
-    let c = put_field(out, b, net.links as u16);
-    let d = put_bytes(out, c, &room[..n]);
-    text::put_word(out, d, b"\n")
-}
-
-// `sheet 0 STATIONS LINKS HEX`, or `sheet N` for a refused one.
-pub fn put_sheet(file: &[u8], out: &mut [u8]) -> Wrote
-    ensures answer { λ r. ⌜ r ≡ wroteBy (leb 700 (length (now (out .entry)))) (sheetText (fileSheet (now (file .entry)))) ⌝ }
-    ensures output { λ r. ⌜ now (out .exit) ≡ outputBy (leb 700 (length (now (out .entry)))) (sheetText (fileSheet (now (file .entry)))) (now (out .entry)) ⌝ }
-    ensures room { λ r. ⌜ Counts (r .written) (now (out .exit)) ⌝ }
-{
-    if out.len() < 700 {
-        return Wrote {
-            answer: 10,
-            written: 0,
-        };
-    }
-    let opened = console::open_sheet(file);
-    let net = opened.net;
-    // a refused sheet gives no network
-    if !net::keeps_sheet_rules(net) {
-        let a = text::put_word(out, 0, b"sheet ");
-        let b = text::put_number(out, a, opened.number as u64);
-        let end = text::put_word(out, b, b"\n");
-        return Wrote {
-            answer: 0,
-            written: end,
-        };
-    }
-    let end = put_network(out, net);
-    Wrote {
-        answer: 0,
-        written: end,
-    }
-}
-
-// ---- letters
-
-fn put_kind(out: &mut [u8], at: usize, body: Body) -> usize
-    requires { ⌜ at + 10 ≤ length (now out) ⌝ }
-    ensures { λ r. ⌜ Put (kindWord body) 10 at (now (out .entry)) r (now (out .exit)) ⌝ }
-{
-    match body {
-        Body::Request => text::put_word(out, at, b"0 request "),
-        Body::Reply(c) => text::put_word(out, at, b"0 reply "),
-        Body::Notice(j, c) => text::put_word(out, at, b"0 notice "),
-    }
-}
-
-fn put_body(out: &mut [u8], at: usize, body: Body) -> usize
-    requires { ⌜ at + 12 ≤ length (now out) ⌝ }
-    ensures { λ r. ⌜ Put (bodyText body) 12 at (now (out .entry)) r (now (out .exit)) ⌝ }
-{
-    match body {
-        Body::Request => at,
-        Body::Reply(c) => put_field(out, at, c),
-        Body::Notice(j, c) => {
-            let to = put_field(out, at, j as u16);
-            put_field(out, to, c)
-        }
-    }
-}
-
-// The longest letter's field.
-fn letter_room() -> [u8; 8]
-    ensures { λ r. ⌜ 8 ≡ length r ⌝ }
-{
-    [0u8; 8]
-}
-
-fn letter_size(wrote: letters::Wrote) -> usize
-    ensures { λ r. ⌜ r ≡ getD (Letters.wroteNumbers wrote) 1 0 ⌝ }
-{
-    match wrote {
-        letters::Wrote::Bytes(n) => n,
-        letters::Wrote::OutOfRange => 0,
-        letters::Wrote::OutputShort => 0,
-        letters::Wrote::BadNetwork => 0,
-    }
-}
-
-fn put_letter(out: &mut [u8], at: usize, net: Net, letter: Letter) -> usize
-    requires { ⌜ (at + 64 ≤ length (now out)) × (T (netHolds net) × T (letterHolds (networkOf net) letter)) ⌝ }
-    ensures { λ r. ⌜ Put (letterText (networkOf net) letter) 64 at (now (out .entry)) r (now (out .exit)) ⌝ }
-{
-    let mut room = letter_room();
-    let n = letter_size(letters::write(net, letter, &mut room));
-    let body = letter.body;
-    let a = put_kind(out, at, body);
-    let b = put_field(out, a, letter.link);
-    let c = put_field(out, b, letter.sender);
-    let d = put_body(out, c, body);
-    let e = put_bytes(out, d, &room[..n]);
-    text::put_word(out, e, b"\n")
-}
-
-fn put_number_line(out: &mut [u8], at: usize, n: u8) -> usize
-    requires { ⌜ at + 64 ≤ length (now out) ⌝ }
-    ensures { λ r. ⌜ Put (refusalText n) 64 at (now (out .entry)) r (now (out .exit)) ⌝ }
-{
-    let to = text::put_number(out, at, n as u64);
-    text::put_word(out, to, b"\n")
-}
-
-// A line's bytes taken as a letter.
-fn put_read(out: &mut [u8], at: usize, net: Net, bytes: &[u8]) -> usize
-    requires { ⌜ at + 64 ≤ length (now out) ⌝ }
-    ensures { λ r. ⌜ Put (readText (networkOf net) (reading net (now (bytes .entry)))) 64 at (now (out .entry)) r (now (out .exit)) ⌝ }
-{
-    match letters::read(net, bytes) {
-        letters::Answer::Good(letter) => put_letter(out, at, net, letter),
-        letters::Answer::Short => put_number_line(out, at, 1),
-        letters::Answer::Malformed => put_number_line(out, at, 2),
-        letters::Answer::OutOfRange => put_number_line(out, at, 3),
-        letters::Answer::BadNetwork => put_number_line(out, at, 11),
-    }
-}
-
-// ---- lines
 
 // What is printed for a line that ends here.
 fn put_line(out: &mut [u8], at: usize, net: Net, r: HexReading) -> usize
@@ -199,9 +16,9 @@ fn put_line(out: &mut [u8], at: usize, net: Net, r: HexReading) -> usize
     ensures { λ n. ⌜ Put (spoken net (saidBy r)) 64 at (now (out .entry)) n (now (out .exit)) ⌝ }
 {
     let bytes = r.bytes;
-    match lines::hex_end(r) {
+    match hex_lines::hex_end(r) {
         HexLine::NotHex => text::put_word(out, at, b"malformed\n"),
-        HexLine::Bytes(n) => put_read(out, at, net, &bytes[..n]),
+        HexLine::Bytes(n) => letter_line::put_read(out, at, net, &bytes[..n]),
     }
 }
 
@@ -226,7 +43,7 @@ fn read_part(r: HexReading, bytes: &[u8], from: usize) -> Part
                 ended: true,
             };
         }
-        reading = lines::read_hex(reading, byte);
+        reading = hex_lines::read_hex(reading, byte);
     }
     Part {
         reading,
@@ -261,7 +78,7 @@ pub fn run_letters(net: Net, r: HexReading, bytes: &[u8], out: &mut [u8]) -> Pas
     while part.ended {
         let line = part.reading;
         at = put_line(out, at, net, line);
-        part = read_part(lines::begin_hex(), bytes, part.next);
+        part = read_part(hex_lines::begin_hex(), bytes, part.next);
     }
     let reading = part.reading;
     Passed {

@@ -1,9 +1,10 @@
 use Rattle.wiring.specs.Passing.{spoken}
 use Rattle.wiring.specs.Wire.{malformedLine}
+use Rattle.letter_line.proofs.Lined.{put-lined}
 use Rattle.console.proofs.Puts.{put-of, put-same, put-wider}
-use Rattle.lines.proofs.Hex.{hex-size}
-use Rattle.lines.specs.HexSteps.{hexSays}
-use Rattle.lines.specs.declared.HexLine.{HexLine}
+use Rattle.hex_lines.proofs.Hex.{hex-size}
+use Rattle.hex_lines.specs.HexSteps.{hexSays}
+use Rattle.hex_lines.specs.declared.HexLine.{HexLine}
 use denote.Ref.{now}
 use Prim.Native.Nat.{_≤_}
 use lib.Seq.{length-take-le}
@@ -55,7 +56,7 @@ same-length-2 : tie.Need-same-length-2
 same-length-2 c = search needs
 
 returns-2 : tie.Need-returns-2
-returns-2 c = let a = c .before .before .before .before .before .before .before .before .before .before .before .args in put-same _ _ 64 (a .at) (now (a .out)) _ _ (ap (λ (l : HexLine). spoken (a .net) (hexSays l (a .r .bytes))) (sym (c .before .before .before .before .before .before .n .given .1) ∙ c .before .before .before .before .before .before .before .before .hex-end .ensures)) (c .before .before .put-read .ensures)
+returns-2 c = let a = c .before .before .before .before .before .before .before .before .before .before .before .args in put-same _ _ 64 (a .at) (now (a .out)) _ _ (ap (λ (l : HexLine). spoken (a .net) (hexSays l (a .r .bytes))) (sym (c .before .before .before .before .before .before .n .given .1) ∙ c .before .before .before .before .before .before .before .before .hex-end .ensures)) (put-lined _ (a .at) (now (a .out)) _ _ (omega arith) (c .before .before .put-read .ensures))
 
 pub put-line-spec : {M : Type 1} → statement M
 put-line-spec =

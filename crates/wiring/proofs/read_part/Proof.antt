@@ -1,6 +1,6 @@
 use Rattle.console.proofs.Reading.{stop-ends, stop-more, stop-none}
 use Rattle.console.specs.Feeding.{stopOf}
-use Rattle.lines.specs.HexSteps.{readHex}
+use Rattle.hex_lines.specs.HexSteps.{readHex}
 use denote.Ref.{now}
 use lib.ListN.{length, drop}
 use mathlib.Core.Path.{_≡_, refl, sym, _∙_}

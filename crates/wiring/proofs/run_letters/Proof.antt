@@ -2,8 +2,8 @@ use Rattle.wiring.proofs.Passing.{passed-short, passed-all}
 use Rattle.wiring.specs.Passing.{saidBy, acted, spoken, stopIn}
 use Rattle.console.proofs.Feeding.{Going, going-begins, going-room, going-more, going-less}
 use Rattle.console.specs.Feeding.{stopOf}
-use Rattle.lines.specs.HexSteps.{hexStart, readHex}
-use Rattle.lines.specs.declared.HexReading.{HexReading}
+use Rattle.hex_lines.specs.HexSteps.{hexStart, readHex}
+use Rattle.hex_lines.specs.declared.HexReading.{HexReading}
 use Rattle.lists.specs.Words.{bit}
 use denote.Ref.{now}
 use lib.ListN.{length, drop}

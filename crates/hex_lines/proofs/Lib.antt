@@ -1,0 +1,4 @@
+pub mod Hex
+pub mod Split
+mod HexReads
+pub mod Cases

@@ -1,0 +1,17 @@
+-- The parts of the wire program's lines. Their laws: proofs/Texts.antt. Assumes nothing.
+use Prim.Native.Nat.{ℕ}
+use mathlib.Core.List.{List, [], _∷_, _++_}
+use Rattle.lists.specs.Places.{collect}
+use Rattle.text.specs.Text.{digits, hexPair}
+
+-- a number and a space
+unfoldable pub fieldText : ℕ → List ℕ
+fieldText n = digits n ++ (32 ∷ [])
+
+-- bytes in upper-case hexadecimal
+unfoldable pub hexText : List ℕ → List ℕ
+hexText bytes = collect hexPair bytes
+
+-- the end of a line
+abbrev pub newline : List ℕ
+newline = 10 ∷ []
