@@ -319,7 +319,7 @@ fn plan_letter(net: Net, me: u8, letter: Letter, st: Station) -> Plan
     // not refused: 1 where the letter is dropped, else 0
     let dropped = fate as u64;
     accepted(
-        hearing::receive(net, me, letter, st),
+        receiving::receive(net, me, letter, st),
         settled,
         raised,
         dropped,

@@ -1,9 +1,9 @@
 use mathlib.Core.Path.{_≡_, refl}
 use lib.ListN.{length}
-use Rattle.hearing.proofs.Replies.{levels-does}
+use Rattle.receiving.proofs.Replies.{levels-does}
 use borrow.Author.Needs.{needs}
-use Rattle.hearing.proofs.hear_levels.Statement.{statement}
-use Rattle.hearing.proofs.hear_levels.Tie as tie
+use Rattle.receiving.proofs.hear_levels.Statement.{statement}
+use Rattle.receiving.proofs.hear_levels.Tie as tie
 
 size : (c : tie.Start) → length (c .args .st .counters) ≡ 64
 size c = search needs

@@ -1,10 +1,10 @@
 use mathlib.Core.Path.{_≡_, refl}
 use lib.ListN.{length}
 use Rattle.station.proofs.Laid.{Fit}
-use Rattle.hearing.proofs.Replies.{taken-does}
+use Rattle.receiving.proofs.Replies.{taken-does}
 use borrow.Author.Needs.{needs}
-use Rattle.hearing.proofs.hear_notice.Statement.{statement}
-use Rattle.hearing.proofs.hear_notice.Tie as tie
+use Rattle.receiving.proofs.hear_notice.Statement.{statement}
+use Rattle.receiving.proofs.hear_notice.Tie as tie
 
 size : (c : tie.Start) → length (c .args .st .counters) ≡ 64
 size c = search needs

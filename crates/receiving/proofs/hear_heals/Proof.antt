@@ -1,9 +1,9 @@
 use mathlib.Core.Path.{_≡_, refl}
 use lib.ListN.{length}
-use Rattle.hearing.proofs.Replies.{heals-does}
+use Rattle.receiving.proofs.Replies.{heals-does}
 use borrow.Author.Needs.{needs}
-use Rattle.hearing.proofs.hear_heals.Statement.{statement}
-use Rattle.hearing.proofs.hear_heals.Tie as tie
+use Rattle.receiving.proofs.hear_heals.Statement.{statement}
+use Rattle.receiving.proofs.hear_heals.Tie as tie
 
 size : (c : tie.Start) → length (c .args .st .counters) ≡ 64
 size c = search needs

@@ -1,8 +1,8 @@
 use mathlib.Core.Path.{refl}
-use Rattle.hearing.proofs.Replies.{equal-does}
+use Rattle.receiving.proofs.Replies.{equal-does}
 use borrow.Author.Needs.{needs}
-use Rattle.hearing.proofs.hear_equal.Statement.{statement}
-use Rattle.hearing.proofs.hear_equal.Tie as tie
+use Rattle.receiving.proofs.hear_equal.Statement.{statement}
+use Rattle.receiving.proofs.hear_equal.Tie as tie
 
 replied-words-requires : tie.Need-replied-words-requires
 replied-words-requires c κs = search needs

@@ -28,7 +28,7 @@ use Rattle.station.specs.declared.Station.{Station}
 use Rattle.station.specs.Holding.{Holding, noMarks, mark, counter, marked, counted, setAsked}
 use Rattle.station.specs.Acts.{Done, letter, onEach, tell, openLinks, openBut, known, knownBut, unchanged, repliedMarks, requestedMarks, defers, onRequest}
 use Rattle.sending.specs.Sent.{silent, openAt}
-use Rattle.hearing.specs.Heard.{replied, heals, levels, taken}
+use Rattle.receiving.specs.Effects.{replied, heals, levels, taken}
 use Rattle.station.specs.Values.{holdingOf, lettersOf, membersOf, Acts}
 use Rattle.station.proofs.Laid.{Fit, mark-of, marks-of, table-of, table-set, counters-set, laid-is, same-laid}
 use Rattle.station.proofs.Sent.{members-one, members-none, tell-same, tell-one, sent-nothing, sent-notices, sent-reply}

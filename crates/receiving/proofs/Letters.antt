@@ -16,13 +16,14 @@ use Rattle.net.specs.declared.Letter.{Letter}
 use Rattle.net.specs.Network.{Network}
 use Rattle.counters.specs.Counters.{even, odd, healed}
 use Rattle.counters.proofs.CounterLaws.{healed-even, even-is}
 use Rattle.hearing.specs.declared.Effect.{Effect}
 use Rattle.hearing.specs.declared.Effect.the-variants.{Asks, Heals, Levels, Equal, Takes}
 use Rattle.hearing.specs.declared.Heard.{Heard}
 use Rattle.hearing.specs.declared.Heard.the-variants.{Gone, Nothing, TooHigh, Does}
 use Rattle.station.specs.Holding.{Holding, mark, counter, marked, counted}
 use Rattle.station.specs.Acts.{Done, unchanged, repliedMarks, hears, bodyOver, onBody, bodyAnswer, answer, received, onRequest, onReply, onNotice, overflows, takes, replyAnswer, onEach, openBut}
-use Rattle.hearing.specs.Heard.{heals, levels, taken, effectNumbers, heardNumbers}
+use Rattle.receiving.specs.Effects.{heals, levels, taken}
+use Rattle.hearing.specs.Heard.{effectNumbers, heardNumbers}
 
 -- a contradiction between two lists of numbers
 clash : {A : Type 0} → _≡_ {A = ℕ} 0 1 → A

@@ -3,8 +3,8 @@ use Rattle.marks.specs.declared.Marks.{Marks}
 use Rattle.marks.specs.Marks.{wordsWith}
 use Rattle.station.specs.Acts.{repliedMarks}
 use borrow.Author.Needs.{needs}
-use Rattle.hearing.proofs.replied_words.Statement.{statement}
-use Rattle.hearing.proofs.replied_words.Tie as tie
+use Rattle.receiving.proofs.replied_words.Statement.{statement}
+use Rattle.receiving.proofs.replied_words.Tie as tie
 
 marks-at-requires : tie.Need-marks-at-requires
 marks-at-requires c κs = search needs

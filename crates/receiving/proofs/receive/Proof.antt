@@ -7,22 +7,22 @@ use Rattle.net.specs.Values.{networkOf}
 use Rattle.net.proofs.ValueLaws.{links-of}
 use Rattle.marks.specs.declared.Marks.{Marks}
 use Rattle.station.specs.declared.Acted.{Acted}
 use Rattle.hearing.specs.declared.Effect.{Effect}
 use Rattle.hearing.specs.declared.Effect.the-variants.{Asks, Heals, Levels, Equal, Takes}
 use Rattle.hearing.specs.declared.Heard.{Heard}
 use Rattle.hearing.specs.declared.Heard.the-variants.{Does}
 use Rattle.sending.specs.declared.Sending.{Sending}
 use Rattle.station.specs.declared.Station.{Station}
 use Rattle.station.specs.Holding.{marked}
 use Rattle.station.specs.Acts.{Done, unchanged, repliedMarks, answer, received}
 use Rattle.station.specs.Values.{holdingOf, Acts}
 use Rattle.hearing.specs.Heard.{heardNumbers}
 use Rattle.station.proofs.Laid.{Fit, mark-of}
-use Rattle.hearing.proofs.Letters.{does, done, received-does, taken-there}
-use Rattle.hearing.proofs.Heed.{drops, dropped, received-past}
+use Rattle.receiving.proofs.Letters.{does, done, received-does, taken-there}
+use Rattle.receiving.proofs.Drops.{drops, dropped, received-past}
 use borrow.Author.Needs.{needs}
-use Rattle.hearing.proofs.receive.Statement.{statement}
-use Rattle.hearing.proofs.receive.Tie as tie
+use Rattle.receiving.proofs.receive.Statement.{statement}
+use Rattle.receiving.proofs.receive.Tie as tie
 
 fit : (c : tie.Start) → Fit (c .args .st .marks)
 fit c = record { token = search needs; turn = search needs; testing = search needs; asked = search needs; quiet = search needs }

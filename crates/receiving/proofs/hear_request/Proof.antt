@@ -1,9 +1,9 @@
 use mathlib.Core.Path.{_≡_, refl, sym, _∙_}
 use lib.ListN.{length}
-use Rattle.hearing.proofs.Replies.{request-defers, request-does}
+use Rattle.receiving.proofs.Replies.{request-defers, request-does}
 use borrow.Author.Needs.{needs}
-use Rattle.hearing.proofs.hear_request.Statement.{statement}
-use Rattle.hearing.proofs.hear_request.Tie as tie
+use Rattle.receiving.proofs.hear_request.Statement.{statement}
+use Rattle.receiving.proofs.hear_request.Tie as tie
 
 size : (c : tie.Start) → length (c .args .st .counters) ≡ 64
 size c = search needs
