@@ -191,13 +191,13 @@ fn turned(net: Net, kind: u8, me: u8, b: u8, st: Station) -> Station
     ensures { λ r. ⌜ r ≡ turnedOf net kind me b st ⌝ }
 {
     if kind == 1 {
-        return station::start(net, me, st);
+        return changing::start(net, me, st);
     }
     if kind == 2 {
-        return station::stop(net);
+        return changing::stop(net);
     }
     if kind == 6 {
-        return station::end_quiet(net, b, st);
+        return changing::end_quiet(net, b, st);
     }
     st
 }
@@ -207,7 +207,7 @@ fn acted(net: Net, kind: u8, me: u8, b: u8, st: Station) -> Acted
     ensures { λ r. ⌜ Acts net me (roomAs (act (kindOf kind)) st) (done (kindOf kind) (networkOf net) me b (holdingOf net st)) r ⌝ }
 {
     if kind == 3 {
-        return station::recover(net, me, st);
+        return changing::recover(net, me, st);
     }
     if kind == 4 {
         return testing::end_interval(net, me, b, st);
@@ -239,7 +239,7 @@ fn plan_act(net: Net, kind: u8, me: u8, b: u8, st: Station) -> Plan
     ensures { λ r. ⌜ ActPlans net (kindOf kind) me b st r ⌝ }
 {
     let condition = st.condition;
-    if !station::allows(net.links, kind, b, condition, st.marks) {
+    if !allowing::allows(net.links, kind, b, condition, st.marks) {
         return stays(7, 0, 0, st);
     }
     let counters = st.counters;

@@ -1,8 +1,8 @@
 use native.Mathlib.Omega.{arith}
-use Rattle.station.proofs.Acting.{spoken-past, spoken-there}
+use Rattle.changing.proofs.Spoken.{spoken-past, spoken-there}
 use borrow.Author.Needs.{needs}
-use Rattle.station.proofs.end_quiet.Statement.{statement}
-use Rattle.station.proofs.end_quiet.Tie as tie
+use Rattle.changing.proofs.end_quiet.Statement.{statement}
+use Rattle.changing.proofs.end_quiet.Tie as tie
 
 at-most-64-requires : tie.Need-at-most-64-requires
 at-most-64-requires c κs = search needs

@@ -19,14 +19,14 @@ use Rattle.marks.specs.declared.Marks.{Marks}
 use Rattle.marks.specs.declared.Words.{Words}
 use Rattle.marks.specs.Marks.{wordBy, marksAt, ownAt, upTo}
 use Rattle.marks.proofs.WordLaws.{by-ext, by-same, by-none, in-by}
 use Rattle.station.specs.declared.Condition.the-variants.{Down, Live}
 use Rattle.station.specs.declared.Station.{Station}
 use Rattle.station.specs.Holding.{noMarks, mark}
 use Rattle.station.specs.Acts.{intervalMarks, intervalTests, recovered, stopped}
-use Rattle.station.specs.Steps.{recoveredWords}
+use Rattle.changing.specs.Steps.{recoveredWords}
 use Rattle.station.specs.Values.{holdingOf, laid, laidWords, membersOf, blank, noWords, Acts}
 use Rattle.station.proofs.Laid.{Fit, wordsBy, words-laid, laid-is, counters-same, mark-of, table-of}
 use Rattle.station.proofs.Sent.{members-by, sent-requests}
 
 -- ---- one link, by its bits
 -- the marks of link t after event 4, if the link is an own one

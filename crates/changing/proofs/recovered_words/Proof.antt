@@ -1,7 +1,7 @@
-use Rattle.station.proofs.Recovery.{words-are}
+use Rattle.changing.proofs.Recovery.{words-are}
 use borrow.Author.Needs.{needs}
-use Rattle.station.proofs.recovered_words.Statement.{statement}
-use Rattle.station.proofs.recovered_words.Tie as tie
+use Rattle.changing.proofs.recovered_words.Statement.{statement}
+use Rattle.changing.proofs.recovered_words.Tie as tie
 
 without-requires : tie.Need-without-requires
 without-requires c κs = search needs

@@ -1,11 +1,11 @@
 use mathlib.Core.Bool.{Bool, not, _&&_}
 use mathlib.Core.Path.{ap, ap₂, _∙_}
 use Rattle.marks.specs.declared.Marks.{Marks}
-use Rattle.station.specs.Steps.{marksThere}
-use Rattle.station.proofs.Allowed.{allowed-at, allowed-else}
+use Rattle.allowing.specs.Steps.{marksThere}
+use Rattle.allowing.proofs.Allowed.{allowed-at, allowed-else}
 use borrow.Author.Needs.{needs}
-use Rattle.station.proofs.allows.Statement.{statement}
-use Rattle.station.proofs.allows.Tie as tie
+use Rattle.allowing.proofs.allows.Statement.{statement}
+use Rattle.allowing.proofs.allows.Tie as tie
 
 marks-there-requires : tie.Need-marks-there-requires
 marks-there-requires c κs = search needs

@@ -1,8 +1,8 @@
 use Rattle.station.proofs.Laid.{Fit}
-use Rattle.station.proofs.Recovery.{recover-does}
+use Rattle.changing.proofs.Recovery.{recover-does}
 use borrow.Author.Needs.{needs}
-use Rattle.station.proofs.recover.Statement.{statement}
-use Rattle.station.proofs.recover.Tie as tie
+use Rattle.changing.proofs.recover.Statement.{statement}
+use Rattle.changing.proofs.recover.Tie as tie
 
 fit : (c : tie.Start) → Fit (c .args .st .marks)
 fit c = record { token = search needs; turn = search needs; testing = search needs; asked = search needs; quiet = search needs }

@@ -10,13 +10,13 @@ use Rattle.net.specs.declared.Net.{Net}
 use Rattle.net.specs.Values.{linkCount}
 use Rattle.marks.specs.declared.Marks.{Marks}
 use Rattle.marks.specs.Marks.{marksAt}
 use Rattle.station.specs.declared.Condition.{Condition}
 use Rattle.station.specs.declared.Station.{Station}
 use Rattle.station.specs.Holding.{mark, noMarks}
 use Rattle.station.specs.Acts.{kindOf, allowedBy}
-use Rattle.station.specs.Steps.{marksThere}
+use Rattle.allowing.specs.Steps.{marksThere}
 use Rattle.station.specs.Values.{holdingOf}
 use Rattle.station.proofs.Laid.{mark-of, mark-past}
 
 -- ---- 7
 pub end-down : (live : Bool) (m : Marks) → live ≡ false → false ≡ (live && (not (m .testing) && not (m .quiet)))

@@ -7,9 +7,9 @@ use borrow.Author.Needs.{needs}
 use Rattle.lists.specs.Lists.{filled}
 use Rattle.lists.proofs.Fill.{filled-more}
 use Rattle.net.specs.Values.{linkCount}
-use Rattle.station.proofs.Recovery.{stop-is}
-use Rattle.station.proofs.stop.Statement.{statement}
-use Rattle.station.proofs.stop.Tie as tie
+use Rattle.changing.proofs.Recovery.{stop-is}
+use Rattle.changing.proofs.stop.Statement.{statement}
+use Rattle.changing.proofs.stop.Tie as tie
 
 abbrev Inv-loop : tie.InvT-loop
 Inv-loop m counters₀ k₀ counters k = (counters ≡ filled (λ j. 1) counters₀ k) × (k ≤ m)

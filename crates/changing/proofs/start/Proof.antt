@@ -1,7 +1,7 @@
-use Rattle.station.proofs.Started.{start-is}
+use Rattle.changing.proofs.Started.{start-is}
 use borrow.Author.Needs.{needs}
-use Rattle.station.proofs.start.Statement.{statement}
-use Rattle.station.proofs.start.Tie as tie
+use Rattle.changing.proofs.start.Statement.{statement}
+use Rattle.changing.proofs.start.Tie as tie
 
 own-links-requires : tie.Need-own-links-requires
 own-links-requires c κs = search needs

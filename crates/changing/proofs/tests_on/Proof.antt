@@ -1,7 +1,7 @@
-use Rattle.station.proofs.Recovery.{tests-are}
+use Rattle.changing.proofs.Recovery.{tests-are}
 use borrow.Author.Needs.{needs}
-use Rattle.station.proofs.tests_on.Statement.{statement}
-use Rattle.station.proofs.tests_on.Tie as tie
+use Rattle.changing.proofs.tests_on.Statement.{statement}
+use Rattle.changing.proofs.tests_on.Tie as tie
 
 without-requires : tie.Need-without-requires
 without-requires c κs = search needs

@@ -1,17 +1,10 @@
 -- What the private steps of the code answer. Assumes nothing.
-use Prim.Native.Nat.{ℕ, min}
-use lib.Dec.{ltb}
+use Prim.Native.Nat.{ℕ}
 use Rattle.lists.specs.Lists.{if_then_else_}
 use Rattle.lists.specs.Words.{inWord}
-use Rattle.marks.specs.declared.Marks.{Marks}
 use Rattle.marks.specs.declared.Words.{Words}
 use Rattle.marks.specs.Marks.{wordBy, marksAt}
-use Rattle.station.specs.Holding.{noMarks}
 use Rattle.station.specs.Acts.{intervalMarks}
-
--- the marks of link k, none where the link is not there
-abbrev pub marksThere : ℕ → Words → ℕ → Marks
-marksThere links w k = if ltb k (min links 64) then marksAt w k else noMarks
 
 -- event 4's work on the marks of each own link, as words
 abbrev pub recoveredWords : ℕ → Words → Words

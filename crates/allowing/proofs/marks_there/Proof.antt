@@ -1,14 +1,14 @@
 use Prim.Native.Nat.{min}
 use lib.Dec.{ltb}
 use Rattle.marks.specs.Marks.{marksAt}
 use Rattle.station.specs.Holding.{noMarks}
 use mathlib.Core.Path.{_∙_}
 use native.Mathlib.Omega.{arith}
 use borrow.Author.Tests.{lt-ltb, le-ltb}
 use Rattle.reach.proofs.Tables.{if-yes, if-no}
 use borrow.Author.Needs.{needs}
-use Rattle.station.proofs.marks_there.Statement.{statement}
-use Rattle.station.proofs.marks_there.Tie as tie
+use Rattle.allowing.proofs.marks_there.Statement.{statement}
+use Rattle.allowing.proofs.marks_there.Tie as tie
 
 at-most-64-requires : tie.Need-at-most-64-requires
 at-most-64-requires c κs = search needs

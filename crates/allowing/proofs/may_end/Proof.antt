@@ -1,7 +1,7 @@
 use borrow.Author.Tests.{not-true, not-false}
-use Rattle.station.proofs.Allowed.{end-down, end-testing, end-quiet}
-use Rattle.station.proofs.may_end.Statement.{statement}
-use Rattle.station.proofs.may_end.Tie as tie
+use Rattle.allowing.proofs.Allowed.{end-down, end-testing, end-quiet}
+use Rattle.allowing.proofs.may_end.Statement.{statement}
+use Rattle.allowing.proofs.may_end.Tie as tie
 
 returns : tie.Need-returns
 returns c = end-down (c .before .args .live) (c .before .args .m) (not-true (c .before .args .live) (c .if1 .taken))
