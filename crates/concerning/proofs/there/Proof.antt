@@ -1,10 +1,10 @@
 use native.Mathlib.Omega.{arith}
 use Rattle.net.specs.Values.{networkOf}
 use Rattle.net.proofs.ValueLaws.{stations-of}
-use Rattle.planning.proofs.Present.{there-zero, there-none, no-letter, some-letter, no-station, whole-station, link-station}
+use Rattle.concerning.proofs.Present.{there-zero, there-none, no-letter, some-letter, no-station, whole-station, link-station}
 use borrow.Author.Needs.{needs}
-use Rattle.planning.proofs.there.Statement.{statement}
-use Rattle.planning.proofs.there.Tie as tie
+use Rattle.concerning.proofs.there.Statement.{statement}
+use Rattle.concerning.proofs.there.Tie as tie
 
 returns : tie.Need-returns
 returns c = let a = c .before .args in there-zero (networkOf (a .net)) (a .flying) (a .a) (a .b) (a .kind) (c .if1 .taken)

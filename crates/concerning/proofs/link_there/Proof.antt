@@ -1,8 +1,8 @@
 use native.Mathlib.Omega.{arith}
-use Rattle.planning.proofs.Present.{link-past, link-low, link-high}
+use Rattle.concerning.proofs.Present.{link-past, link-low, link-high}
 use borrow.Author.Needs.{needs}
-use Rattle.planning.proofs.link_there.Statement.{statement}
-use Rattle.planning.proofs.link_there.Tie as tie
+use Rattle.concerning.proofs.link_there.Statement.{statement}
+use Rattle.concerning.proofs.link_there.Tie as tie
 
 at-most-64-requires : tie.Need-at-most-64-requires
 at-most-64-requires c κs = search needs

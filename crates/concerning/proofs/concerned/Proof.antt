@@ -1,8 +1,8 @@
 use Rattle.net.specs.Values.{networkOf}
-use Rattle.planning.proofs.Present.{concerned-receiver, concerned-none, concerned-act}
+use Rattle.concerning.proofs.Present.{concerned-receiver, concerned-none, concerned-act}
 use borrow.Author.Needs.{needs}
-use Rattle.planning.proofs.concerned.Statement.{statement}
-use Rattle.planning.proofs.concerned.Tie as tie
+use Rattle.concerning.proofs.concerned.Statement.{statement}
+use Rattle.concerning.proofs.concerned.Tie as tie
 
 receiver-requires : tie.Need-receiver-requires
 receiver-requires c κs = search needs

@@ -18,8 +18,7 @@ use Rattle.net.proofs.ValueLaws.{links-of}
 use Rattle.station.specs.Acts.{kindOf}
 use Rattle.world.specs.World.{Sort, act, sortOf}
 use Rattle.world.proofs.Sorts.{sort-act, sort-delivery, sort-loss, sort-none}
-use Rattle.planning.specs.Plan.{concernedAs, linkThere, thereAs}
-use Rattle.planning.specs.Planned.{inRoom}
+use Rattle.concerning.specs.Concerned.{concernedAs, inRoom, linkThere, thereAs}
 
 -- ---- a link's ends
 module _ (net : Net) (k : ℕ) where

@@ -2,10 +2,10 @@ use mathlib.Core.Path.{sym, ap}
 use native.Mathlib.Omega.{arith}
 use Rattle.net.specs.Network.{Ends}
 use Rattle.net.proofs.ValueLaws.{ends-of}
-use Rattle.planning.proofs.Present.{ends-past}
+use Rattle.concerning.proofs.Present.{ends-past}
 use borrow.Author.Needs.{needs}
-use Rattle.planning.proofs.ends_of.Statement.{statement}
-use Rattle.planning.proofs.ends_of.Tie as tie
+use Rattle.concerning.proofs.ends_of.Statement.{statement}
+use Rattle.concerning.proofs.ends_of.Tie as tie
 
 at-most-64-requires : tie.Need-at-most-64-requires
 at-most-64-requires c κs = search needs

@@ -1,7 +1,7 @@
-use Rattle.planning.proofs.Present.{other-high, other-low}
+use Rattle.concerning.proofs.Present.{other-high, other-low}
 use borrow.Author.Needs.{needs}
-use Rattle.planning.proofs.receiver.Statement.{statement}
-use Rattle.planning.proofs.receiver.Tie as tie
+use Rattle.concerning.proofs.receiver.Statement.{statement}
+use Rattle.concerning.proofs.receiver.Tie as tie
 
 ends-of-requires : tie.Need-ends-of-requires
 ends-of-requires c κs = search needs
