@@ -1,12 +1,10 @@
--- The receiver's answer, test by test, and a plain drop. Assumes nothing.
+-- The receiver's answer, test by test. Assumes nothing.
 use Prim.Native.Nat.{ℕ, _≤_, _<_, min}
 use mathlib.Core.Bool.{Bool, true, false, not, _&&_}
-use mathlib.Core.Path.{_≡_, refl, sym, ap, ap₂, _∙_, subst⁻¹}
-use mathlib.Core.Logic.{_⊎_, ⊎-elim}
-use mathlib.Core.List.{List, [], _∷_}
+use mathlib.Core.Path.{_≡_, refl, sym, ap, ap₂, _∙_}
+use mathlib.Core.List.{[], _∷_}
 use native.Mathlib.Decide.{decLt}
 use native.Mathlib.Omega.{arith}
-use denote.Enum.Declared.{tagOf}
 use lib.Dec.{ltb}
 use lib.ListN.{length, getD}
 use borrow.Author.Tests.{lt-ltb, le-ltb}
@@ -21,17 +19,13 @@ use Rattle.net.specs.Values.{networkOf, linkCount}
 use Rattle.net.proofs.ValueLaws.{links-of}
 use Rattle.marks.specs.declared.Marks.{Marks}
 use Rattle.hearing.specs.declared.Heard.{Heard}
-use Rattle.hearing.specs.declared.Heard.the-variants.{Gone, Nothing, TooHigh, Does}
 use Rattle.station.specs.declared.Station.{Station}
 use Rattle.station.specs.Holding.{Holding, mark, counter, isLive}
-use Rattle.station.specs.Acts.{Done, unchanged, hears, bodyAnswer, answer, received, replyAnswer, takes}
-use Rattle.sending.specs.Sent.{silent}
+use Rattle.station.specs.Acts.{hears, bodyAnswer, answer, replyAnswer, takes}
 use Rattle.hearing.specs.Heard.{noticeAnswer, heardNumbers}
-use Rattle.station.specs.Values.{holdingOf, Acts}
-use Rattle.hearing.proofs.Heard as H
-use Rattle.station.proofs.Laid.{Fit, mark-of, condition-of}
-use Rattle.station.proofs.Acting.{does-same, counter-at}
-use Rattle.hearing.proofs.Letters.{does, received-does}
+use Rattle.station.specs.Values.{holdingOf}
+use Rattle.station.proofs.Laid.{mark-of, condition-of}
+use Rattle.station.proofs.Acting.{counter-at}
 
 module _ (net : Net) (s : ℕ) (x : Letter) (st : Station) where
   abbrev N : Network
@@ -90,17 +84,3 @@ module _ (net : Net) (s : ℕ) (x : Letter) (st : Station) where
           same (no g) =
               ap (λ (b : Bool). b && ltb (getD (st .counters) j 0) c) (le-ltb j (linkCount net) (omega arith))
               ∙ ap (λ (b : Bool). b && ltb (counter h j) c) (sym (ap (ltb j) (links-of net) ∙ le-ltb j (linkCount net) (omega arith)))
-
-  -- ---- a plain drop: any answer but an effect
-  pub drops : (r : Heard) → (tagOf H.the-type r ≡ 0) ⊎ ((tagOf H.the-type r ≡ 1) ⊎ (tagOf H.the-type r ≡ 2)) → does N s x h r ≡ unchanged h
-  drops Gone t = refl
-  drops Nothing t = refl
-  drops TooHigh t = refl
-  drops (Does e) t = absurd (⊎-elim (λ p. omega arith) (λ q. ⊎-elim (λ p. omega arith) (λ p. omega arith) q) t)
-
-  pub dropped : (told : List ℕ) (d : Done) → Fit (st .marks) → d ≡ unchanged h → Acts net s st d (record { station = st; send = silent told })
-  dropped told d f e = subst⁻¹ (λ (y : Done). Acts net s st y (record { station = st; send = silent told })) e (does-same net s st (unchanged h) told f refl refl)
-
-  -- a link that is not there brings nothing
-  pub received-past : linkCount net ≤ x .link → received N s x h ≡ unchanged h
-  received-past l = received-does N s x h Gone (gone-past l)

@@ -1,4 +1,2 @@
 pub mod Answers
-pub mod Letters
-pub mod Replies
 pub mod Heed

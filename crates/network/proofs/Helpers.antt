@@ -11,7 +11,7 @@ use Rattle.net.specs.declared.Letter.{Letter}
 use Rattle.station.specs.Acts.{kindOf}
 use Rattle.world.specs.World.{Sort, act, delivery, loss, sortOf, noLetter}
 use Rattle.planning.specs.Plan.{takesAs}
-use Rattle.planning.specs.Planned.{inRoom}
+use Rattle.concerning.specs.Concerned.{inRoom}
 use Rattle.network.specs.Parts.{placeBy, leftBy, numberBy}
 
 module _ (kind : ℕ) where

@@ -26,8 +26,9 @@ use Rattle.state.specs.declared.State.{State}
 use Rattle.state.specs.State.{stationIn, letterIn, worldOf, stateHolds, Sized}
 use Rattle.state.proofs.Meaning as M
 use Rattle.planning.specs.declared.Plan.{Plan}
-use Rattle.planning.specs.Plan.{concernedAs, doneIn, raisedIn, droppedIn, refusalIn, roomAs, leftAs, takesAs}
-use Rattle.planning.specs.Planned.{inRoom, Plans}
+use Rattle.planning.specs.Plan.{doneIn, raisedIn, droppedIn, refusalIn, roomAs, leftAs, takesAs}
+use Rattle.planning.specs.Planned.{Plans}
+use Rattle.concerning.specs.Concerned.{concernedAs, inRoom}
 use Rattle.planning.proofs.Worlds as W
 use Rattle.stepping.specs.Step.{event}
 use Rattle.network.specs.Parts.{placeBy, leftBy, numberBy}

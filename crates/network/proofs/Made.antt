@@ -28,8 +28,9 @@ use Rattle.state.specs.State.{stationIn, letterIn, worldOf, stateOf, stateHolds
 use Rattle.state.proofs.Meaning as M
 use Rattle.state.proofs.StationRoom.{Spare, spare-unmarked, spare-laid}
 use Rattle.planning.specs.declared.Plan.{Plan}
-use Rattle.planning.specs.Plan.{concernedAs, roomAs, leftAs, takesAs}
-use Rattle.planning.specs.Planned.{inRoom, Plans}
+use Rattle.planning.specs.Plan.{roomAs, leftAs, takesAs}
+use Rattle.planning.specs.Planned.{Plans}
+use Rattle.concerning.specs.Concerned.{concernedAs, inRoom}
 use Rattle.planning.proofs.Worlds as W
 use Rattle.stepping.specs.declared.Stepped.{Stepped}
 use Rattle.stepping.specs.Step.{event, refusing, accepting, numberOf, steppedOf}

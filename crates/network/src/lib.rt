@@ -92,7 +92,7 @@ pub fn step(mut s: State, kind: u32, a: u32, b: u32) -> Stepped
     let flying = s.flying;
     let place = place_of(a);
     let x = s.letters[place];
-    let me = planning::concerned(net, kind, a, x);
+    let me = concerning::concerned(net, kind, a, x);
     let who = me as usize;
     let st = s.stations[who];
     let plan = planning::plan_event(net, flying, kind, a, b, me, x, st);

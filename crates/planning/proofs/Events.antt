@@ -17,7 +17,8 @@ use Rattle.station.proofs.Laid.{Fit}
 use Rattle.station.proofs.Acting.{does-same}
 use Rattle.world.specs.World.{Sort, loss, sortOf, isNotice}
 use Rattle.planning.specs.declared.Plan.{Plan}
-use Rattle.planning.specs.Plan.{thereAs, allowedIn, overIn, refusalIn}
+use Rattle.concerning.specs.Concerned.{thereAs}
+use Rattle.planning.specs.Plan.{allowedIn, overIn, refusalIn}
 use Rattle.planning.specs.Planned.{PlansBy, Plans, silentOf, staysOf}
 use Rattle.planning.proofs.Drafts.{does}
 

@@ -1,4 +1,3 @@
-pub mod Present
 pub mod Said
 pub mod Drafts
 pub mod Turns

@@ -19,10 +19,10 @@ use Rattle.station.specs.declared.Condition.{Condition}
 use Rattle.station.specs.declared.Station.{Station}
 use Rattle.station.specs.Holding.{Holding, counter}
 use Rattle.station.specs.Acts.{unchanged, started, stopped, spoken, kindOf, allowedBy, allowedAs}
-use Rattle.station.specs.Steps.{marksThere}
+use Rattle.allowing.specs.Steps.{marksThere}
 use Rattle.station.specs.Values.{holdingOf, Acts}
 use Rattle.station.proofs.Laid.{Fit, condition-of}
-use Rattle.station.proofs.Allowed.{marks-there}
+use Rattle.allowing.proofs.Allowed.{marks-there}
 use Rattle.station.proofs.Sent.{sent-nothing}
 use Rattle.station.proofs.Acting.{does-same}
 use Rattle.world.specs.World.{act, done}

@@ -21,8 +21,8 @@ use Rattle.world.specs.Steps.{raisedAs}
 use Rattle.world.proofs.Steps.{step-accepts}
 use Rattle.world.proofs.Keeps.{Formed, at-posted}
 use Rattle.world.proofs.OneRaised.{raised-is}
-use Rattle.planning.specs.Plan.{concernedAs, thereAs, allowedIn, overIn, doneIn, raisedIn, droppedIn, refusalIn, leftAs}
-use Rattle.planning.specs.Planned.{inRoom}
+use Rattle.concerning.specs.Concerned.{concernedAs, inRoom, thereAs}
+use Rattle.planning.specs.Plan.{allowedIn, overIn, doneIn, raisedIn, droppedIn, refusalIn, leftAs}
 
 -- ---- by the sort of the event
 module _ (w : World) (a b : ℕ) where

@@ -23,10 +23,6 @@ use Rattle.world.specs.Steps.{raisedAct}
 use Rattle.planning.specs.declared.Plan.{Plan}
 use Rattle.planning.specs.Plan.{overIn, doneIn, raisedIn, droppedIn, refusalIn, roomAs}
 
--- a station's number that may be read in a room of 32; any other becomes 0
-abbrev pub inRoom : ℕ → ℕ
-inRoom n = if ltb n 32 then n else 0
-
 -- the plan of the station s, whose value was old, by the number that says no: on 0 it has done d, its holding laid over the
 -- room, and the tally's three numbers are these; else it is as it was and nothing is sent or counted
 pub record Planned (net : Net) (s number : ℕ) (old room : Station) (d : Done) (x y z : ℕ) (r : Plan) : Type 0 where

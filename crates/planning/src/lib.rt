@@ -6,15 +6,14 @@ ghost use lib.Dec.{eqb, ltb};
 ghost use lib.ListN.{take};
 ghost use Rattle.lists.specs.Lists.{if_then_else_};
 ghost use Rattle.lists.specs.Words.{bit};
-ghost use Rattle.net.specs.Network.{ends, other};
 ghost use Rattle.net.specs.Values.{networkOf};
 ghost use Rattle.counters.specs.Counters.{even};
 ghost use Rattle.reach.specs.Reach.{counterIn};
 ghost use Rattle.station.specs.Acts.{kindOf};
 ghost use Rattle.station.specs.Values.{holdingOf, Acts};
 ghost use Rattle.world.specs.World.{sortOf, act, done, isNotice};
-ghost use Rattle.planning.specs.Plan.{concernedAs, linkThere, thereAs, roomAs};
-ghost use Rattle.planning.specs.Planned.{inRoom, Plans, ActPlans, LetterPlans, staysOf, silentOf, turnedOf, acceptedOf, fateSaid, raisedEffect, raisedSaid};
+ghost use Rattle.planning.specs.Plan.{roomAs};
+ghost use Rattle.planning.specs.Planned.{Plans, ActPlans, LetterPlans, staysOf, silentOf, turnedOf, acceptedOf, fateSaid, raisedEffect, raisedSaid};
 use counters::Counters;
 use hearing::Effect;
 use hearing::Heard;
@@ -33,106 +32,6 @@ pub struct Plan {
     pub settled: u64,
     pub raised: u64,
     pub dropped: u64,
-}
-
-// A link's two ends.
-struct Ends {
-    low: u8,
-    high: u8,
-}
-
-// ---- what the numbers of an event mean
-
-fn at_most_32(x: u8) -> u8
-    ensures { λ r. ⌜ r ≡ min x 32 ⌝ }
-{
-    if x < 32 { x } else { 32 }
-}
-
-// A station's number that may be read in a room of 32; any other becomes 0.
-fn in_room(a: u32) -> u8
-    ensures { λ r. ⌜ r ≡ inRoom a ⌝ }
-{
-    if a < 32 { a as u8 } else { 0 }
-}
-
-// A link that is not there has the ends 0 and 0.
-fn ends_of(net: Net, k: u32) -> Ends
-    ensures { λ r. ⌜ (r .low ≡ ends (networkOf net) k .low) × (r .high ≡ ends (networkOf net) k .high) ⌝ }
-{
-    if marks::at_most_64(net.links) as u32 <= k {
-        return Ends { low: 0, high: 0 };
-    }
-    let i = k as usize;
-    Ends {
-        low: net.low[i],
-        high: net.high[i],
-    }
-}
-
-// The end of a letter's link that is not its sender.
-fn receiver(net: Net, link: u16, sender: u16) -> u8
-    ensures { λ r. ⌜ r ≡ other (networkOf net) link sender ⌝ }
-{
-    let e = ends_of(net, link as u32);
-    if e.low as u16 == sender {
-        return e.high;
-    }
-    e.low
-}
-
-// Whose station an event concerns: a for kinds 1 to 6, the receiver of the letter for 7; station 0 stands for 8, and stays
-// as it is. Always below 32, so that it may be read in the room of stations.
-pub fn concerned(net: Net, kind: u32, a: u32, letter: Letter) -> u8
-    ensures { λ r. ⌜ r ≡ inRoom (concernedAs (sortOf kind) (networkOf net) a letter) ⌝ }
-{
-    if kind == 7 {
-        return in_room(receiver(net, letter.link, letter.sender) as u32);
-    }
-    if kind == 8 {
-        return 0;
-    }
-    in_room(a)
-}
-
-// Whether b is a link at the station a.
-fn link_there(net: Net, a: u32, b: u32) -> bool
-    ensures { λ r. ⌜ r ≡ linkThere (networkOf net) a b ⌝ }
-{
-    if marks::at_most_64(net.links) as u32 <= b {
-        return false;
-    }
-    let e = ends_of(net, b);
-    if e.low as u32 == a {
-        return true;
-    }
-    e.high as u32 == a
-}
-
-// Whether there is such an event kind, station, link at that station or letter, and an unused number is 0; where not, the
-// event is refused with 6.
-fn there(net: Net, flying: u16, kind: u32, a: u32, b: u32) -> bool
-    ensures { λ r. ⌜ r ≡ thereAs (sortOf kind) (networkOf net) flying a b ⌝ }
-{
-    if kind < 1 {
-        return false;
-    }
-    if 8 < kind {
-        return false;
-    }
-    if 6 < kind {
-        if flying as u32 <= a {
-            return false;
-        }
-        return b == 0;
-    }
-    if at_most_32(net.stations) as u32 <= a {
-        return false;
-    }
-    if kind < 4 {
-        return b == 0;
-    }
-    link_there(net, a, b)
 }
 
 // ---- plans
@@ -191,13 +90,13 @@ fn turned(net: Net, kind: u8, me: u8, b: u8, st: Station) -> Station
     ensures { λ r. ⌜ r ≡ turnedOf net kind me b st ⌝ }
 {
     if kind == 1 {
-        return station::start(net, me, st);
+        return changing::start(net, me, st);
     }
     if kind == 2 {
-        return station::stop(net);
+        return changing::stop(net);
     }
     if kind == 6 {
-        return station::end_quiet(net, b, st);
+        return changing::end_quiet(net, b, st);
     }
     st
 }
@@ -207,7 +106,7 @@ fn acted(net: Net, kind: u8, me: u8, b: u8, st: Station) -> Acted
     ensures { λ r. ⌜ Acts net me (roomAs (act (kindOf kind)) st) (done (kindOf kind) (networkOf net) me b (holdingOf net st)) r ⌝ }
 {
     if kind == 3 {
-        return station::recover(net, me, st);
+        return changing::recover(net, me, st);
     }
     if kind == 4 {
         return testing::end_interval(net, me, b, st);
@@ -239,7 +138,7 @@ fn plan_act(net: Net, kind: u8, me: u8, b: u8, st: Station) -> Plan
     ensures { λ r. ⌜ ActPlans net (kindOf kind) me b st r ⌝ }
 {
     let condition = st.condition;
-    if !station::allows(net.links, kind, b, condition, st.marks) {
+    if !allowing::allows(net.links, kind, b, condition, st.marks) {
         return stays(7, 0, 0, st);
     }
     let counters = st.counters;
@@ -319,7 +218,7 @@ fn plan_letter(net: Net, me: u8, letter: Letter, st: Station) -> Plan
     // not refused: 1 where the letter is dropped, else 0
     let dropped = fate as u64;
     accepted(
-        hearing::receive(net, me, letter, st),
+        receiving::receive(net, me, letter, st),
         settled,
         raised,
         dropped,
@@ -339,7 +238,7 @@ pub fn plan_event(
 ) -> Plan
     ensures { λ r. ⌜ Plans net flying (sortOf kind) a b me letter st r ⌝ }
 {
-    if !there(net, flying, kind, a, b) {
+    if !concerning::there(net, flying, kind, a, b) {
         return stays(6, 0, 0, st);
     }
     if kind == 7 {

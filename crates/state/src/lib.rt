@@ -200,7 +200,7 @@ pub fn fresh(net: Net) -> Begun
             },
         };
     }
-    let down = station::stop(net);
+    let down = changing::stop(net);
     let n = net.stations;
     for i in 0..n {
         let at = i as usize;

@@ -28,7 +28,7 @@ use Rattle.marks.proofs.WordLaws.{by-none}
 use Rattle.sending.specs.declared.Sending.{Sending}
 use Rattle.station.specs.declared.Station.{Station}
 use Rattle.station.specs.Holding.{Holding, mark, counter, marked, counted, setQuiet}
-use Rattle.station.specs.Acts.{Done, letter, onEach, openBut, intervalMarks, intervalTests, testEnded, interval, timeout, spoken, purged, unchanged}
+use Rattle.station.specs.Acts.{Done, letter, onEach, openBut, intervalMarks, intervalTests, testEnded, interval, timeout, purged, unchanged}
 use Rattle.sending.specs.Sent.{silent, openAt}
 use Rattle.station.specs.Values.{holdingOf, laid, lettersOf, membersOf, Acts}
 use Rattle.station.proofs.Laid.{Fit, mark-of, mark-past, marked-past, counter-past, laid-same, laid-marked, laid-is, marks-laid, table-set, room-set, counters-set}
@@ -146,18 +146,6 @@ module _ (net : Net) (s : ℕ) (st : Station) where
           → lettersOf s (record { requests = w; subjects = 0; ways = 0; told = told; replies = false; reply = 0; link = 0 }) ≡ (if b then (letter s k Request ∷ []) else [])
       requested true e = sent-requests s (record { requests = w; subjects = 0; ways = 0; told = told; replies = false; reply = 0; link = 0 }) (k ∷ []) (ap membersOf e ∙ members-one k (omega arith)) refl refl
       requested false e = sent-requests s (record { requests = w; subjects = 0; ways = 0; told = told; replies = false; reply = 0; link = 0 }) [] (ap membersOf (e ∙ sym (nothing-put k)) ∙ members-none) refl refl
-
-  -- ---- 6. Quiet ends
-  pub spoken-past : (k : ℕ) → Fit (st .marks) → linkCount net ≤ k → st ≡ laid net st (spoken (networkOf net) s k H .holding)
-  unfolding spoken
-  spoken-past k f h = laid-same net st f ∙ ap (laid net st) (sym (marked-past net st k (setQuiet false (mark H k)) h))
-
-  pub spoken-there : (k : ℕ) (ws : Words) (m : Marks) → k < linkCount net → m ≡ marksAt (st .marks) k → ws ≡ wordsWith (st .marks) k (setQuiet false m)
-      → _≡_ {A = Station} (record { condition = st .condition; counters = st .counters; marks = ws }) (laid net st (spoken (networkOf net) s k H .holding))
-  unfolding spoken
-  spoken-there k ws m h p e =
-      ap (λ (w : Words). record { condition = st .condition; counters = st .counters; marks = w }) (e ∙ ap (λ (x : Marks). wordsWith (st .marks) k (setQuiet false x)) (p ∙ sym (mark-of net st k h)))
-      ∙ laid-marked net st k (setQuiet false (mark H k)) h
 
   -- ---- 5. Timeout
   pub timeout-past : (k : ℕ) (told : List ℕ) → Fit (st .marks) → length (st .counters) ≡ 64 → linkCount net ≤ k → Acts net s st (timeout (networkOf net) s k H) (record { station = st; send = silent told })

@@ -2,9 +2,6 @@ pub mod MarkLaws
 pub mod Laid
 pub mod Sent
 pub mod Acting
-pub mod Started
-pub mod Allowed
-pub mod Recovery
 pub mod Slots
 pub mod HoldingLaws
 pub mod Keeps

@@ -1,4 +1,3 @@
 pub mod Holding
 pub mod Acts
-pub mod Steps
 pub mod Values

@@ -16,7 +16,7 @@ use Rattle.net.specs.Values.{networkOf}
 use Rattle.world.specs.World.{sortOf, noLetter}
 use Rattle.state.specs.declared.State.{State}
 use Rattle.state.specs.State.{letterIn}
-use Rattle.planning.specs.Plan.{concernedAs}
+use Rattle.concerning.specs.Concerned.{concernedAs}
 use Rattle.posting.specs.Post.{posted, Going}
 use Rattle.posting.proofs.PostLaws as P
 use Rattle.network.proofs.Helpers.{place-few, room-few}

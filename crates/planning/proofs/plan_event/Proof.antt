@@ -11,7 +11,7 @@ use Rattle.world.specs.World.{act, delivery, loss, sortOf}
 use Rattle.world.proofs.Sorts.{sort-delivery, sort-loss}
 use Rattle.planning.proofs.Drafts.{refuses}
 use Rattle.planning.proofs.Events.{not-there, by-sort, loss-plans}
-use Rattle.planning.proofs.Present.{sort-else, kind-small}
+use Rattle.concerning.proofs.Present.{sort-else, kind-small}
 use borrow.Author.Needs.{needs}
 use Rattle.planning.proofs.plan_event.Statement.{statement}
 use Rattle.planning.proofs.plan_event.Tie as tie

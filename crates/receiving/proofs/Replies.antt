@@ -1,0 +1,194 @@
+-- A request, a reply and a notice at one station, return by return. Assumes nothing.
+use Prim.Native.Nat.{ℕ, _<_}
+use mathlib.Core.Bool.{Bool, true, false, not, _&&_}
+use mathlib.Core.Path.{_≡_, refl, sym, ap, _∙_, subst, subst⁻¹}
+use mathlib.Core.List.{List, [], _∷_, _++_}
+use native.Mathlib.Decide.{ℕ-discrete}
+use native.Mathlib.Omega.{arith}
+use lib.Dec.{eqb, ltb}
+use lib.ListN.{length, getD, set, length-set}
+use lib.Seq.{getD-set-same, getD-set-other}
+use Rattle.lists.specs.Lists.{if_then_else_}
+use Rattle.lists.specs.Words.{inWord}
+use Rattle.lists.proofs.Numbers.{length-map-below}
+use Rattle.net.specs.declared.Body.the-variants.{Reply, Notice}
+use Rattle.net.specs.declared.Letter.{Letter}
+use Rattle.net.specs.declared.Net.{Net}
+use Rattle.net.specs.Network.{isEnd}
+use Rattle.net.specs.Values.{networkOf, linkCount}
+use Rattle.net.proofs.ValueLaws.{links-of}
+use Rattle.counters.specs.Counters.{odd}
+use Rattle.reach.specs.Values.{purgedOf}
+use Rattle.reach.proofs.Tables.{counter-of}
+use Rattle.marks.specs.declared.Marks.{Marks}
+use Rattle.marks.specs.declared.Words.{Words}
+use Rattle.marks.specs.Marks.{wordBy, marksAt, wordsWith, upTo}
+use Rattle.sending.specs.declared.Sending.{Sending}
+use Rattle.station.specs.declared.Station.{Station}
+use Rattle.station.specs.Holding.{Holding, noMarks, mark, counter, marked, counted, setAsked}
+use Rattle.station.specs.Acts.{Done, letter, onEach, tell, openLinks, openBut, known, knownBut, unchanged, repliedMarks, requestedMarks, defers, onRequest}
+use Rattle.sending.specs.Sent.{silent, openAt}
+use Rattle.receiving.specs.Effects.{replied, heals, levels, taken}
+use Rattle.station.specs.Values.{holdingOf, lettersOf, membersOf, Acts}
+use Rattle.station.proofs.Laid.{Fit, mark-of, marks-of, table-of, table-set, counters-set, laid-is, same-laid}
+use Rattle.station.proofs.Sent.{members-one, members-none, tell-same, tell-one, sent-nothing, sent-notices, sent-reply}
+use Rattle.station.proofs.Acting.{kept-links, open-but, does-marked, does-counted, does-purged, counter-at}
+
+-- replied marks keep quiet
+quiet-kept : (ms : List Marks) (k j : ℕ) → k < length ms → getD (set ms k (repliedMarks (getD ms k noMarks))) j noMarks .quiet ≡ getD ms j noMarks .quiet
+quiet-kept ms k j h = go (ℕ-discrete j k)
+  where
+    go : Dec (j ≡ k) → getD (set ms k (repliedMarks (getD ms k noMarks))) j noMarks .quiet ≡ getD ms j noMarks .quiet
+    go (yes q) =
+        ap (λ (i : ℕ). getD (set ms k (repliedMarks (getD ms k noMarks))) i noMarks .quiet) q
+        ∙ ap (λ (m : Marks). m .quiet) (getD-set-same ms k (repliedMarks (getD ms k noMarks)) noMarks h)
+        ∙ ap (λ (i : ℕ). getD ms i noMarks .quiet) (sym q)
+    go (no n) = ap (λ (m : Marks). m .quiet) (getD-set-other ms k j (repliedMarks (getD ms k noMarks)) noMarks n)
+
+module _ (net : Net) (s : ℕ) (st : Station) where
+  abbrev H : Holding
+  H = holdingOf net st
+
+  there : (k : ℕ) → k < linkCount net → k < length (H .marks)
+  there k h = subst⁻¹ (λ (n : ℕ). k < n) (ap length (marks-of net st) ∙ length-map-below (marksAt (st .marks)) (linkCount net)) h
+
+  -- ---- what a healing tells, and where
+  open-replied : (k to w : ℕ) → k < linkCount net → w ≡ wordBy (upTo (openAt net s (st .marks .quiet)) (linkCount net)) → membersOf w ≡ openLinks (networkOf net) s (replied k to H)
+  unfolding openLinks
+  open-replied k to w h e =
+      ap membersOf e
+      ∙ kept-links net s st (openAt net s (st .marks .quiet)) (λ j. isEnd (networkOf net) j s && not (mark (replied k to H) j .quiet))
+      (λ j l. ap (λ (b : Bool). isEnd (networkOf net) j s && not b) (ap (λ (m : Marks). m .quiet) (sym (mark-of net st j l)) ∙ sym (quiet-kept (H .marks) k j (there k h))))
+
+  -- the counters after the raise, as the code has them
+  counter-replied : (k to j : ℕ) (cs : List ℕ) → k < linkCount net → length (st .counters) ≡ 64 → cs ≡ set (st .counters) k to → j < linkCount net → getD cs j 0 ≡ counter (replied k to H) j
+  counter-replied k to j cs h size e l =
+      ap (λ (c : List ℕ). getD c j 0) e
+      ∙ sym (ap (λ (t : List ℕ). getD (set t k to) j 1) (table-of net st) ∙ ap (λ (t : List ℕ). getD t j 1) (sym (table-set net st k to h))
+      ∙ counter-of net (set (st .counters) k to) j (length-set (st .counters) k to ∙ size) l)
+
+  known-replied : (k to w : ℕ) (cs : List ℕ) → k < linkCount net → length (st .counters) ≡ 64 → cs ≡ set (st .counters) k to
+      → w ≡ wordBy (upTo (λ j. ltb 1 (getD cs j 0)) (linkCount net)) → membersOf w ≡ known (networkOf net) s (replied k to H)
+  unfolding known
+  known-replied k to w cs h size e q =
+      ap membersOf q
+      ∙ kept-links net s st (λ j. ltb 1 (getD cs j 0)) (λ j. ltb 1 (counter (replied k to H) j)) (λ j l. ap (ltb 1) (counter-replied k to j cs h size e l))
+
+  pub heals-does : (k to subjects ways : ℕ) (m : Marks) (ws : Words) (cs after : List ℕ) → k < linkCount net → length (st .counters) ≡ 64 → m ≡ marksAt (st .marks) k
+      → ws ≡ wordsWith (st .marks) k (repliedMarks m) → cs ≡ set (st .counters) k to → subjects ≡ wordBy (upTo (λ j. ltb 1 (getD cs j 0)) (linkCount net))
+      → ways ≡ wordBy (upTo (openAt net s (st .marks .quiet)) (linkCount net)) → after ≡ purgedOf net cs s
+      → Acts net s st (heals (networkOf net) s k to H)
+      (record {
+        station = record { condition = st .condition; counters = after; marks = ws };
+        send = record { requests = 0; subjects = subjects; ways = ways; told = cs; replies = false; reply = 0; link = 0 };
+      })
+  unfolding heals known
+  heals-does k to subjects ways m ws cs after h size p e ec es ew ea =
+      does-purged net s st k to (repliedMarks (mark H k)) ws cs after (record { requests = 0; subjects = subjects; ways = ways; told = cs; replies = false; reply = 0; link = 0 })
+      (tell s (counter (replied k to H)) (known (networkOf net) s (replied k to H)) (openLinks (networkOf net) s (replied k to H))) h
+      (e ∙ ap (λ (x : Marks). wordsWith (st .marks) k (repliedMarks x)) (p ∙ sym (mark-of net st k h))) ec ea
+      (sent-notices s (record { requests = 0; subjects = subjects; ways = ways; told = cs; replies = false; reply = 0; link = 0 })
+      (known (networkOf net) s (replied k to H)) (openLinks (networkOf net) s (replied k to H)) refl (known-replied k to subjects cs h size ec es) (open-replied k to ways h ew) refl
+      ∙ tell-same s (λ j. getD cs j 0) (counter (replied k to H)) (λ j. ltb 1 (counter (replied k to H) j)) (openLinks (networkOf net) s (replied k to H)) (length (networkOf net .links))
+      (λ j l. counter-replied k to j cs h size ec (subst (λ (n : ℕ). j < n) (links-of net) l)))
+
+  -- ---- a level tells of its link alone
+  pub levels-does : (k to ways : ℕ) (m : Marks) (ws : Words) (cs : List ℕ) (x : Sending) → k < linkCount net → length (st .counters) ≡ 64 → m ≡ marksAt (st .marks) k
+      → ws ≡ wordsWith (st .marks) k (repliedMarks m) → cs ≡ set (st .counters) k to → ways ≡ wordBy (upTo (openAt net s (st .marks .quiet)) (linkCount net))
+      → x ≡ record { requests = 0; subjects = wordBy (λ t. if eqb t k then true else inWord 0 t); ways = ways; told = cs; replies = false; reply = 0; link = 0 }
+      → Acts net s st (levels (networkOf net) s k to H) (record { station = record { condition = st .condition; counters = cs; marks = ws }; send = x })
+  unfolding levels
+  levels-does k to ways m ws cs x h size p e ec ew ex =
+      does-counted net s st k to (repliedMarks (mark H k)) ws cs x (onEach s (Notice k to) (openLinks (networkOf net) s (replied k to H))) h
+      (e ∙ ap (λ (y : Marks). wordsWith (st .marks) k (repliedMarks y)) (p ∙ sym (mark-of net st k h))) ec
+      (ap (lettersOf s) ex
+      ∙ sent-notices s (record { requests = 0; subjects = wordBy (λ t. if eqb t k then true else inWord 0 t); ways = ways; told = cs; replies = false; reply = 0; link = 0 })
+      (k ∷ []) (openLinks (networkOf net) s (replied k to H)) refl (members-one k (omega arith)) (open-replied k to ways h ew) refl
+      ∙ tell-one s (λ j. getD cs j 0) k (openLinks (networkOf net) s (replied k to H))
+      ∙ ap (λ (n : ℕ). onEach s (Notice k n) (openLinks (networkOf net) s (replied k to H))) (ap (λ (c : List ℕ). getD c k 0) ec ∙ getD-set-same (st .counters) k to 0 (omega arith)))
+
+  -- ---- an equal reply ends the test
+  pub equal-does : (k : ℕ) (m : Marks) (ws : Words) (x : Sending) (told : List ℕ) → k < linkCount net → m ≡ marksAt (st .marks) k → ws ≡ wordsWith (st .marks) k (repliedMarks m) → x ≡ silent told
+      → Acts net s st (unchanged (marked k (repliedMarks (marksAt (st .marks) k)) H)) (record { station = record { condition = st .condition; counters = st .counters; marks = ws }; send = x })
+  equal-does k m ws x told h p e ex =
+      does-marked net s st k (repliedMarks (marksAt (st .marks) k)) ws x [] h (e ∙ ap (λ (y : Marks). wordsWith (st .marks) k (repliedMarks y)) p)
+      (ap (lettersOf s) ex ∙ sent-nothing s (silent told) refl refl refl)
+
+  -- ---- a notice that is taken
+  pub taken-does : (k j c ways : ℕ) (cs : List ℕ) (x : Sending) → Fit (st .marks) → j < linkCount net → length (st .counters) ≡ 64 → cs ≡ set (st .counters) j c
+      → ways ≡ wordBy (upTo (λ i. openAt net s (st .marks .quiet) i && not (eqb i k)) (linkCount net))
+      → x ≡ record { requests = 0; subjects = wordBy (λ t. if eqb t j then true else inWord 0 t); ways = ways; told = cs; replies = false; reply = 0; link = 0 }
+      → Acts net s st (taken (networkOf net) s k j c H) (record { station = record { condition = st .condition; counters = cs; marks = st .marks }; send = x })
+  unfolding taken holdingOf
+  taken-does k j c ways cs x f h size ec ew ex = record {
+    station = laid-is net st (record { condition = st .condition; counters = cs; marks = st .marks }) (counted j c H) refl (ec ∙ counters-set net st j c h) (same-laid net st f);
+    sent = ap (lettersOf s) ex
+        ∙ sent-notices s (record { requests = 0; subjects = wordBy (λ t. if eqb t j then true else inWord 0 t); ways = ways; told = cs; replies = false; reply = 0; link = 0 })
+        (j ∷ []) (openBut (networkOf net) s k H) refl (members-one j (omega arith)) (ap membersOf ew ∙ open-but net s st k) refl
+        ∙ tell-one s (λ i. getD cs i 0) j (openBut (networkOf net) s k H)
+        ∙ ap (λ (n : ℕ). onEach s (Notice j n) (openBut (networkOf net) s k H)) (ap (λ (l : List ℕ). getD l j 0) ec ∙ getD-set-same (st .counters) j c 0 (omega arith));
+  }
+
+  -- ---- a request
+  deferred : (k p : ℕ) (b : Bool) → defers (networkOf net) s k p H ≡ b
+      → onRequest (networkOf net) s k p H
+      ≡ (if b then unchanged (marked k (setAsked true (mark H k)) H)
+      else (record {
+        holding = marked k (requestedMarks (mark H k)) H;
+        sent = (if odd (counter H k) then tell s (counter H) (knownBut (networkOf net) s k H) (k ∷ []) else []) ++ (letter s k (Reply (counter H k)) ∷ []);
+      }))
+  unfolding onRequest
+  deferred k p b e =
+      ap (λ (z : Bool). if z then unchanged (marked k (setAsked true (mark H k)) H)
+      else (record {
+        holding = marked k (requestedMarks (mark H k)) H;
+        sent = (if odd (counter H k) then tell s (counter H) (knownBut (networkOf net) s k H) (k ∷ []) else []) ++ (letter s k (Reply (counter H k)) ∷ []);
+      })) e
+
+  pub request-defers : (k p : ℕ) (m : Marks) (ws : Words) (x : Sending) (told : List ℕ) → k < linkCount net → m ≡ marksAt (st .marks) k → (m .testing && ltb p s) ≡ true
+      → ws ≡ wordsWith (st .marks) k (setAsked true m) → x ≡ silent told
+      → Acts net s st (onRequest (networkOf net) s k p H) (record { station = record { condition = st .condition; counters = st .counters; marks = ws }; send = x })
+  request-defers k p m ws x told h e t q ex =
+      let same : m ≡ mark H k = e ∙ sym (mark-of net st k h) in
+      subst⁻¹ (λ (d : Done). Acts net s st d (record { station = record { condition = st .condition; counters = st .counters; marks = ws }; send = x }))
+      (deferred k p true (ap (λ (y : Marks). y .testing && ltb p s) (sym same) ∙ t))
+      (does-marked net s st k (setAsked true (mark H k)) ws x [] h (q ∙ ap (λ (y : Marks). wordsWith (st .marks) k (setAsked true y)) same)
+      (ap (lettersOf s) ex ∙ sent-nothing s (silent told) refl refl refl))
+
+  -- what is told over the link
+  told-over : (k w c : ℕ) (b : Bool) → length (st .counters) ≡ 64 → odd c ≡ b
+      → w ≡ (if b then wordBy (upTo (λ j. ltb 1 (getD (st .counters) j 0) && not (eqb j k)) (linkCount net)) else 0)
+      → tell s (λ j. getD (st .counters) j 0) (membersOf w) (k ∷ []) ≡ (if b then tell s (counter H) (knownBut (networkOf net) s k H) (k ∷ []) else [])
+  unfolding knownBut
+  told-over k w c true size e q =
+      ap (λ (l : List ℕ). tell s (λ j. getD (st .counters) j 0) l (k ∷ []))
+      (ap membersOf q ∙ kept-links net s st (λ j. ltb 1 (getD (st .counters) j 0) && not (eqb j k)) (λ j. ltb 1 (counter H j) && not (eqb j k))
+      (λ j l. ap (λ (n : ℕ). ltb 1 n && not (eqb j k)) (sym (counter-at net s st j l size))))
+      ∙ tell-same s (λ j. getD (st .counters) j 0) (counter H) (λ j. ltb 1 (counter H j) && not (eqb j k)) (k ∷ []) (length (networkOf net .links))
+      (λ j l. sym (counter-at net s st j (subst (λ (n : ℕ). j < n) (links-of net) l) size))
+  told-over k w c false size e q = ap (λ (l : List ℕ). tell s (λ j. getD (st .counters) j 0) l (k ∷ [])) (ap membersOf q ∙ members-none)
+
+  pub request-does : (k p c subjects ways : ℕ) (m : Marks) (ws : Words) → k < linkCount net → length (st .counters) ≡ 64 → m ≡ marksAt (st .marks) k → (m .testing && ltb p s) ≡ false
+      → ws ≡ wordsWith (st .marks) k (requestedMarks m) → c ≡ getD (st .counters) k 0
+      → subjects ≡ (if odd c then wordBy (upTo (λ j. ltb 1 (getD (st .counters) j 0) && not (eqb j k)) (linkCount net)) else 0)
+      → ways ≡ wordBy (λ t. if eqb t k then true else inWord 0 t)
+      → Acts net s st (onRequest (networkOf net) s k p H)
+      (record {
+        station = record { condition = st .condition; counters = st .counters; marks = ws };
+        send = record { requests = 0; subjects = subjects; ways = ways; told = st .counters; replies = true; reply = c; link = k };
+      })
+  request-does k p c subjects ways m ws h size e t q ec es ew =
+      let same : m ≡ mark H k = e ∙ sym (mark-of net st k h) in
+      let own : c ≡ counter H k = ec ∙ sym (counter-at net s st k h size) in
+      subst⁻¹ (λ (d : Done). Acts net s st d (record {
+        station = record { condition = st .condition; counters = st .counters; marks = ws };
+        send = record { requests = 0; subjects = subjects; ways = ways; told = st .counters; replies = true; reply = c; link = k };
+      }))
+      (deferred k p false (ap (λ (y : Marks). y .testing && ltb p s) (sym same) ∙ t))
+      (does-marked net s st k (requestedMarks (mark H k)) ws (record { requests = 0; subjects = subjects; ways = ways; told = st .counters; replies = true; reply = c; link = k })
+      ((if odd (counter H k) then tell s (counter H) (knownBut (networkOf net) s k H) (k ∷ []) else []) ++ (letter s k (Reply (counter H k)) ∷ [])) h
+      (q ∙ ap (λ (y : Marks). wordsWith (st .marks) k (requestedMarks y)) same)
+      (sent-reply s (record { requests = 0; subjects = subjects; ways = ways; told = st .counters; replies = true; reply = c; link = k }) (membersOf subjects) (k ∷ []) refl refl
+      (ap membersOf ew ∙ members-one k (omega arith)) refl
+      ∙ ap (λ (l : List Letter). l ++ (letter s k (Reply c) ∷ [])) (told-over k subjects c (odd c) size refl es)
+      ∙ ap (λ (n : ℕ). (if odd n then tell s (counter H) (knownBut (networkOf net) s k H) (k ∷ []) else []) ++ (letter s k (Reply n) ∷ [])) own))

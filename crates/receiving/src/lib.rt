@@ -1,0 +1,235 @@
+// What a letter does to the station that receives it, by that station's answer to it.
+ghost use mathlib.Core.Path.{_≡_};
+ghost use mathlib.Core.Bool.{not, _&&_};
+ghost use Prim.Native.Nat.{_<_, min};
+ghost use lib.Dec.{eqb, ltb};
+ghost use lib.ListN.{getD};
+ghost use Rattle.lists.specs.Lists.{if_then_else_};
+ghost use Rattle.net.specs.Values.{networkOf, linkCount};
+ghost use Rattle.counters.specs.Counters.{odd};
+ghost use Rattle.marks.specs.Marks.{wordBy, upTo, marksAt, wordsWith};
+ghost use Rattle.station.specs.Holding.{marked};
+ghost use Rattle.station.specs.Acts.{unchanged, repliedMarks, onRequest, received};
+ghost use Rattle.station.specs.Values.{holdingOf, Acts};
+ghost use Rattle.receiving.specs.Effects.{heals, levels, taken};
+use counters::Counters;
+use hearing::Effect;
+use hearing::Heard;
+use marks::Marks;
+use marks::Words;
+use net::Letter;
+use net::Net;
+use sending::Sending;
+use station::Acted;
+use station::Station;
+
+// A request: the higher-numbered of two testers only marks it; otherwise the link is rested, what is known is told over a
+// link that was down, and the reply goes out last.
+fn hear_request(net: Net, me: u8, k: u8, sender: u16, st: Station) -> Acted
+    requires { ⌜ k < linkCount net ⌝ }
+    ensures { λ r. ⌜ Acts net me st (onRequest (networkOf net) me k sender (holdingOf net st)) r ⌝ }
+{
+    let i = k as usize;
+    let m = marks::marks_at(st.marks, k);
+    let counters = st.counters;
+    let condition = st.condition;
+    if defers_to(m.testing, sender, me) {
+        let marked = Marks {
+            token: m.token,
+            turn: m.turn,
+            testing: m.testing,
+            asked: true,
+            quiet: m.quiet,
+        };
+        let words = marks::with_marks(st.marks, k, marked);
+        return Acted {
+            station: Station {
+                condition,
+                counters,
+                marks: words,
+            },
+            send: sending::silence(counters),
+        };
+    }
+    let rested = Marks {
+        token: true,
+        turn: false, // or the next silent interval would test too early
+        testing: false,
+        asked: false,
+        quiet: m.quiet,
+    };
+    let words = marks::with_marks(st.marks, k, rested);
+    let c = counters[i];
+    let subjects = told_over(net.links, counters, k, c);
+    let ways = marks::put(0, k, true);
+    Acted {
+        station: Station {
+            condition,
+            counters,
+            marks: words,
+        },
+        send: Sending {
+            requests: 0,
+            subjects,
+            ways,
+            told: counters,
+            replies: true,
+            reply: c,
+            link: k,
+        },
+    }
+}
+
+fn defers_to(testing: bool, sender: u16, me: u8) -> bool
+    ensures { λ r. ⌜ r ≡ (testing && ltb sender me) ⌝ }
+{
+    if testing {
+        return sender < me as u16;
+    }
+    false
+}
+
+// The links that are told of over link k: all that are known but k itself where its counter c is odd, else none.
+fn told_over(links: u8, counters: Counters, k: u8, c: u16) -> u64
+    ensures { λ r. ⌜ r ≡ (if odd c then wordBy (upTo (λ j. ltb 1 (getD counters j 0) && not (eqb j k)) (min links 64)) else 0) ⌝ }
+{
+    if counters::is_even(c) {
+        return 0;
+    }
+    marks::put(sending::known_links(links, counters), k, false)
+}
+
+// The marks after a reply to a test on link k: testing and asked off.
+fn replied_words(w: Words, k: u8) -> Words
+    ensures { λ r. ⌜ r ≡ wordsWith w k (repliedMarks (marksAt w k)) ⌝ }
+{
+    let m = marks::marks_at(w, k);
+    let ended = Marks {
+        token: m.token,
+        turn: m.turn,
+        testing: false,
+        asked: false,
+        quiet: m.quiet,
+    };
+    marks::with_marks(w, k, ended)
+}
+
+// A reply that heals: everything that is known is told, and what is out of reach then is purged.
+fn hear_heals(net: Net, me: u8, k: u8, to: u16, st: Station) -> Acted
+    requires { ⌜ k < linkCount net ⌝ }
+    ensures { λ r. ⌜ Acts net me st (heals (networkOf net) me k to (holdingOf net st)) r ⌝ }
+{
+    let i = k as usize;
+    let words = replied_words(st.marks, k);
+    let mut counters = st.counters;
+    counters[i] = to;
+    let subjects = sending::known_links(net.links, counters);
+    let ways = sending::open_ways(net, me, st.marks.quiet);
+    let kept = reach::purged(net, counters, me);
+    let condition = st.condition;
+    Acted {
+        station: Station {
+            condition,
+            counters: kept,
+            marks: words,
+        },
+        send: Sending {
+            requests: 0,
+            subjects,
+            ways,
+            told: counters, // as they were before the purge
+            replies: false,
+            reply: 0,
+            link: 0,
+        },
+    }
+}
+
+// A reply that levels two even counters: this link alone is told.
+fn hear_levels(net: Net, me: u8, k: u8, to: u16, st: Station) -> Acted
+    requires { ⌜ k < linkCount net ⌝ }
+    ensures { λ r. ⌜ Acts net me st (levels (networkOf net) me k to (holdingOf net st)) r ⌝ }
+{
+    let i = k as usize;
+    let words = replied_words(st.marks, k);
+    let mut counters = st.counters;
+    counters[i] = to;
+    let ways = sending::open_ways(net, me, st.marks.quiet);
+    let condition = st.condition;
+    Acted {
+        station: Station {
+            condition,
+            counters,
+            marks: words,
+        },
+        send: sending::one_notice(k, ways, counters),
+    }
+}
+
+// A reply with an equal, even counter: the test is over.
+fn hear_equal(net: Net, me: u8, k: u8, st: Station) -> Acted
+    requires { ⌜ k < linkCount net ⌝ }
+    ensures { λ r. ⌜ Acts net me st (unchanged (marked k (repliedMarks (marksAt (st .marks) k)) (holdingOf net st))) r ⌝ }
+{
+    let words = replied_words(st.marks, k);
+    let counters = st.counters;
+    let condition = st.condition;
+    Acted {
+        station: Station {
+            condition,
+            counters,
+            marks: words,
+        },
+        send: sending::silence(counters),
+    }
+}
+
+// A newer notice: taken, and sent on wherever it did not come from.
+fn hear_notice(net: Net, me: u8, k: u8, j: u8, c: u16, st: Station) -> Acted
+    requires { ⌜ (k < linkCount net) × (j < linkCount net) ⌝ }
+    ensures { λ r. ⌜ Acts net me st (taken (networkOf net) me k j c (holdingOf net st)) r ⌝ }
+{
+    let i = j as usize;
+    let mut counters = st.counters;
+    counters[i] = c;
+    let ways = sending::ways_but(net, me, st.marks.quiet, k);
+    let words = st.marks;
+    let condition = st.condition;
+    Acted {
+        station: Station {
+            condition,
+            counters,
+            marks: words,
+        },
+        send: sending::one_notice(j, ways, counters),
+    }
+}
+
+// A letter arrives. What is gone, has no effect or would overflow changes nothing and sends nothing.
+pub fn receive(net: Net, me: u8, letter: Letter, st: Station) -> Acted
+    ensures { λ r. ⌜ Acts net me st (received (networkOf net) me letter (holdingOf net st)) r ⌝ }
+{
+    let link = letter.link;
+    let counters = st.counters;
+    if marks::at_most_64(net.links) as u16 <= link {
+        return Acted {
+            station: st,
+            send: sending::silence(counters),
+        };
+    }
+    let k = link as u8;
+    let said = hearing::hearing(net, me, letter, st);
+    let Heard::Does(effect) = said else {
+        return Acted {
+            station: st,
+            send: sending::silence(counters),
+        };
+    };
+    match effect {
+        Effect::Asks => hear_request(net, me, k, letter.sender, st),
+        Effect::Heals(to) => hear_heals(net, me, k, to, st),
+        Effect::Levels(to) => hear_levels(net, me, k, to, st),
+        Effect::Equal => hear_equal(net, me, k, st),
+        Effect::Takes(j, c) => hear_notice(net, me, k, j, c, st),
+    }
+}
