@@ -210,7 +210,7 @@ fn hear_heals(net: Net, me: u8, k: u8, to: u16, st: Station) -> Acted
     counters[i] = to;
     let subjects = sending::known_links(net.links, counters);
     let ways = sending::open_ways(net, me, st.marks.quiet);
-    let kept = reach::purged(net, counters, me);
+    let kept = purging::purged(net, counters, me);
     let condition = st.condition;
     Acted {
         station: Station {

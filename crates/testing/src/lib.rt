@@ -144,7 +144,7 @@ pub fn end_timeout(net: Net, me: u8, k: u8, st: Station) -> Acted
     };
     let words = marks::with_marks(st.marks, k, silenced);
     let ways = sending::ways_but(net, me, st.marks.quiet, k);
-    let after = reach::purged(net, counters, me);
+    let after = purging::purged(net, counters, me);
     Acted {
         station: Station {
             condition,

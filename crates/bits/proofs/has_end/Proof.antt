@@ -1,10 +1,10 @@
 use Prim.Native.Nat.{ℕ}
 use mathlib.Core.Path.{sym, ap, _∙_}
 use lib.Dec.{eqb}
-use Rattle.reach.proofs.Tables.{end-first, end-second}
+use Rattle.bits.proofs.Ends.{end-first, end-second}
 use borrow.Author.Needs.{needs}
-use Rattle.reach.proofs.has_end.Statement.{statement}
-use Rattle.reach.proofs.has_end.Tie as tie
+use Rattle.bits.proofs.has_end.Statement.{statement}
+use Rattle.bits.proofs.has_end.Tie as tie
 
 bit-of-requires : tie.Need-bit-of-requires
 bit-of-requires c κs = search needs

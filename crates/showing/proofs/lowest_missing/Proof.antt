@@ -1,9 +1,9 @@
 use native.Mathlib.Omega.{arith}
 use Rattle.lists.proofs.Counts.{run}
-use Rattle.reach.proofs.Word.{lowest-run, lowest-none}
+use Rattle.showing.proofs.Numbers.{lowest-run, lowest-none}
 use borrow.Author.Needs.{needs}
-use Rattle.reach.proofs.lowest_missing.Statement.{statement}
-use Rattle.reach.proofs.lowest_missing.Tie as tie
+use Rattle.showing.proofs.lowest_missing.Statement.{statement}
+use Rattle.showing.proofs.lowest_missing.Tie as tie
 
 at-most-requires : tie.Need-at-most-requires
 at-most-requires c κs = search needs

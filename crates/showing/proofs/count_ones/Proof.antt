@@ -1,9 +1,9 @@
 use native.Mathlib.Omega.{arith}
 use lib.Count.{ones-le}
 use Rattle.lists.proofs.Counts.{ones-bits}
-use Rattle.reach.specs.Values.{onesOf}
-use Rattle.reach.proofs.count_ones.Statement.{statement}
-use Rattle.reach.proofs.count_ones.Tie as tie
+use Rattle.showing.specs.Values.{onesOf}
+use Rattle.showing.proofs.count_ones.Statement.{statement}
+use Rattle.showing.proofs.count_ones.Tie as tie
 
 cast-result : tie.Need-cast-result
 cast-result c = omega (arith, ones-le 32 (c .args .word) (c .fits .word .fits))

@@ -1,8 +1,8 @@
 use mathlib.Core.Path.{sym, _∙_}
 use Rattle.reach.proofs.Tables.{if-yes, if-no}
 use borrow.Author.Needs.{needs}
-use Rattle.reach.proofs.purge_one.Statement.{statement}
-use Rattle.reach.proofs.purge_one.Tie as tie
+use Rattle.purging.proofs.purge_one.Statement.{statement}
+use Rattle.purging.proofs.purge_one.Tie as tie
 
 has-end-requires : tie.Need-has-end-requires
 has-end-requires c κs = search needs

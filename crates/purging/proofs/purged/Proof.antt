@@ -7,9 +7,9 @@ use native.Mathlib.Omega.{arith}
 use borrow.Author.Needs.{needs}
 use Rattle.lists.specs.Lists.{filled}
 use Rattle.lists.proofs.Fill.{filled-more}
-use Rattle.reach.proofs.Tables.{purgedAt, purge-filled}
-use Rattle.reach.proofs.purged.Statement.{statement}
-use Rattle.reach.proofs.purged.Tie as tie
+use Rattle.purging.proofs.Tables.{purgedAt, purge-filled}
+use Rattle.purging.proofs.purged.Statement.{statement}
+use Rattle.purging.proofs.purged.Tie as tie
 
 abbrev Inv-loop : tie.InvT-loop
 Inv-loop s net counters m w next₀ k₀ next k = (next ≡ filled (purgedAt net counters w) counters k) × (k ≤ m)

@@ -1,7 +1,7 @@
-use Rattle.reach.proofs.Word.{reached-is}
+use Rattle.showing.proofs.Numbers.{reached-is}
 use borrow.Author.Needs.{needs}
-use Rattle.reach.proofs.reach_of.Statement.{statement}
-use Rattle.reach.proofs.reach_of.Tie as tie
+use Rattle.showing.proofs.reach_of.Statement.{statement}
+use Rattle.showing.proofs.reach_of.Tie as tie
 
 reach-word-requires : tie.Need-reach-word-requires
 reach-word-requires c κs = search needs

@@ -1,8 +1,8 @@
 use mathlib.Core.Path.{sym, _∙_}
-use Rattle.reach.proofs.Tables.{shown-even, shown-odd, shown-none}
+use Rattle.showing.proofs.Links.{shown-even, shown-odd, shown-none}
 use borrow.Author.Needs.{needs}
-use Rattle.reach.proofs.link_shown.Statement.{statement}
-use Rattle.reach.proofs.link_shown.Tie as tie
+use Rattle.showing.proofs.link_shown.Statement.{statement}
+use Rattle.showing.proofs.link_shown.Tie as tie
 
 has-end-requires : tie.Need-has-end-requires
 has-end-requires c κs = search needs

@@ -1,8 +1,8 @@
 use mathlib.Core.Path.{sym}
 use Rattle.lists.proofs.Words.{beyond}
 use borrow.Author.Needs.{needs}
-use Rattle.reach.proofs.bit_of.Statement.{statement}
-use Rattle.reach.proofs.bit_of.Tie as tie
+use Rattle.bits.proofs.bit_of.Statement.{statement}
+use Rattle.bits.proofs.bit_of.Tie as tie
 
 shr-result : tie.Need-shr-result
 shr-result c = search needs
