@@ -7,7 +7,8 @@ ghost use lib.ListN.{getD};
 ghost use Rattle.lists.specs.Lists.{if_then_else_};
 ghost use Rattle.net.specs.Values.{networkOf, linkCount};
 ghost use Rattle.counters.specs.Counters.{odd};
-ghost use Rattle.marks.specs.Marks.{wordBy, upTo, marksAt, wordsWith};
+ghost use Rattle.words.specs.Sets.{wordBy, upTo};
+ghost use Rattle.marks.specs.Marks.{marksAt, wordsWith};
 ghost use Rattle.station.specs.Holding.{marked};
 ghost use Rattle.station.specs.Acts.{unchanged, repliedMarks, onRequest, received, answer, replyAnswer};
 ghost use Rattle.station.specs.Values.{holdingOf, Acts};
@@ -65,7 +66,7 @@ fn reply_heard(own: u16, c: u16) -> Heard
 fn notice_heard(links: u8, counters: Counters, j: u8, c: u16) -> Heard
     ensures { λ r. ⌜ heardNumbers r ≡ noticeAnswer (ltb j (min links 64) && ltb (getD counters j 0) c) j c ⌝ }
 {
-    if marks::at_most_64(links) <= j {
+    if words::at_most_64(links) <= j {
         return Heard::Nothing;
     }
     let i = j as usize;
@@ -80,7 +81,7 @@ pub fn hearing(net: Net, me: u8, letter: Letter, st: Station) -> Heard
     ensures { λ r. ⌜ heardNumbers r ≡ answer (networkOf net) me letter (holdingOf net st) ⌝ }
 {
     let link = letter.link;
-    if marks::at_most_64(net.links) as u16 <= link {
+    if words::at_most_64(net.links) as u16 <= link {
         return Heard::Gone;
     }
     let condition = st.condition;
@@ -88,14 +89,14 @@ pub fn hearing(net: Net, me: u8, letter: Letter, st: Station) -> Heard
         return Heard::Gone;
     }
     let k = link as u8;
-    if marks::has(st.marks.quiet, k) {
+    if words::has(st.marks.quiet, k) {
         return Heard::Gone;
     }
     let body = letter.body;
     match body {
         Body::Request => Heard::Does(Effect::Asks),
         Body::Reply(c) => {
-            if marks::has(st.marks.testing, k) {
+            if words::has(st.marks.testing, k) {
                 let i = k as usize;
                 reply_heard(st.counters[i], c)
             } else {
@@ -146,7 +147,7 @@ fn hear_request(net: Net, me: u8, k: u8, sender: u16, st: Station) -> Acted
     let words = marks::with_marks(st.marks, k, rested);
     let c = counters[i];
     let subjects = told_over(net.links, counters, k, c);
-    let ways = marks::put(0, k, true);
+    let ways = words::put(0, k, true);
     Acted {
         station: Station {
             condition,
@@ -181,7 +182,7 @@ fn told_over(links: u8, counters: Counters, k: u8, c: u16) -> u64
     if counters::is_even(c) {
         return 0;
     }
-    marks::put(sending::known_links(links, counters), k, false)
+    words::put(sending::known_links(links, counters), k, false)
 }
 
 // The marks after a reply to a test on link k: testing and asked off.
@@ -296,7 +297,7 @@ pub fn receive(net: Net, me: u8, letter: Letter, st: Station) -> Acted
 {
     let link = letter.link;
     let counters = st.counters;
-    if marks::at_most_64(net.links) as u16 <= link {
+    if words::at_most_64(net.links) as u16 <= link {
         return Acted {
             station: st,
             send: sending::silence(counters),

@@ -60,7 +60,7 @@ fn in_room(a: u32) -> u8
 fn ends_of(net: Net, k: u32) -> Ends
     ensures { λ r. ⌜ (r .low ≡ ends (networkOf net) k .low) × (r .high ≡ ends (networkOf net) k .high) ⌝ }
 {
-    if marks::at_most_64(net.links) as u32 <= k {
+    if words::at_most_64(net.links) as u32 <= k {
         return Ends { low: 0, high: 0 };
     }
     let i = k as usize;
@@ -99,7 +99,7 @@ pub fn concerned(net: Net, kind: u32, a: u32, letter: Letter) -> u8
 fn link_there(net: Net, a: u32, b: u32) -> bool
     ensures { λ r. ⌜ r ≡ linkThere (networkOf net) a b ⌝ }
 {
-    if marks::at_most_64(net.links) as u32 <= b {
+    if words::at_most_64(net.links) as u32 <= b {
         return false;
     }
     let e = ends_of(net, b);
@@ -156,7 +156,7 @@ fn stays(number: u8, settled: u64, dropped: u64, st: Station) -> Plan
 fn counter_at(links: u8, counters: Counters, k: u16) -> u16
     ensures { λ r. ⌜ r ≡ counterIn (take (min links 64) counters) k ⌝ }
 {
-    if marks::at_most_64(links) as u16 <= k {
+    if words::at_most_64(links) as u16 <= k {
         return 1;
     }
     let i = k as usize;

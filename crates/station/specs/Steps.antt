@@ -3,9 +3,10 @@ use Prim.Native.Nat.{ℕ, min}
 use lib.Dec.{ltb}
 use Rattle.lists.specs.Lists.{if_then_else_}
 use Rattle.lists.specs.Words.{inWord}
+use Rattle.words.specs.Sets.{wordBy}
 use Rattle.marks.specs.declared.Marks.{Marks}
 use Rattle.marks.specs.declared.Words.{Words}
-use Rattle.marks.specs.Marks.{wordBy, marksAt}
+use Rattle.marks.specs.Marks.{marksAt}
 use Rattle.station.specs.Holding.{noMarks}
 use Rattle.station.specs.Acts.{intervalMarks}
 

@@ -6,7 +6,8 @@ ghost use mathlib.Core.Bool.{not, _&&_};
 ghost use lib.ListN.{replicate};
 ghost use Rattle.lists.specs.Words.{inWord};
 ghost use Rattle.net.specs.Values.{networkOf};
-ghost use Rattle.marks.specs.Marks.{wordBy, marksAt};
+ghost use Rattle.words.specs.Sets.{wordBy};
+ghost use Rattle.marks.specs.Marks.{marksAt};
 ghost use Rattle.station.specs.Holding.{isLive, isDown, isWaiting};
 ghost use Rattle.station.specs.Acts.{intervalTests, started, stopped, recovered, spoken, kindOf, allowedBy};
 ghost use Rattle.station.specs.Steps.{marksThere, recoveredWords};
@@ -40,7 +41,7 @@ pub struct Acted {
 fn marks_there(links: u8, w: Words, k: u8) -> Marks
     ensures { λ r. ⌜ r ≡ marksThere links w k ⌝ }
 {
-    if marks::at_most_64(links) <= k {
+    if words::at_most_64(links) <= k {
         return Marks {
             token: false,
             turn: false,
@@ -77,7 +78,7 @@ pub fn start(net: Net, me: u8, st: Station) -> Station
 pub fn end_quiet(net: Net, k: u8, st: Station) -> Station
     ensures { λ r. ⌜ r ≡ laid net st (spoken (networkOf net) 0 k (holdingOf net st) .holding) ⌝ }
 {
-    if marks::at_most_64(net.links) <= k {
+    if words::at_most_64(net.links) <= k {
         return st;
     }
     let m = marks::marks_at(st.marks, k);
@@ -102,7 +103,7 @@ pub fn end_quiet(net: Net, k: u8, st: Station) -> Station
 pub fn stop(net: Net) -> Station
     ensures { λ r. ⌜ r ≡ laid net blank (stopped (networkOf net) 0 .holding) ⌝ }
 {
-    let m = marks::at_most_64(net.links);
+    let m = words::at_most_64(net.links);
     let mut counters = no_counters();
     for k in 0..m {
         let i = k as usize;
@@ -131,11 +132,11 @@ fn no_counters() -> Counters
 fn recovered_words(own: u64, w: Words) -> Words
     ensures { λ r. ⌜ r ≡ recoveredWords own w ⌝ }
 {
-    let flips = marks::without(own, w.token);
-    let turn = marks::join(marks::without(w.turn, flips), marks::without(flips, w.turn));
-    let testing = marks::join(w.testing, tests_on(own, w));
+    let flips = words::without(own, w.token);
+    let turn = words::join(words::without(w.turn, flips), words::without(flips, w.turn));
+    let testing = words::join(w.testing, tests_on(own, w));
     Words {
-        token: marks::without(w.token, own),
+        token: words::without(w.token, own),
         turn,
         testing,
         asked: w.asked,
@@ -147,8 +148,8 @@ fn recovered_words(own: u64, w: Words) -> Words
 fn tests_on(own: u64, w: Words) -> u64
     ensures { λ r. ⌜ r ≡ wordBy (λ t. inWord own t && intervalTests (marksAt w t)) ⌝ }
 {
-    let neither = marks::without(marks::without(own, w.token), w.turn);
-    marks::without(own, neither)
+    let neither = words::without(words::without(own, w.token), w.turn);
+    words::without(own, neither)
 }
 
 // The recovery wait ends: live, and event 4's work on each own link.

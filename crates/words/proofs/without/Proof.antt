@@ -1,6 +1,6 @@
-use Rattle.marks.proofs.WordLaws.{without-is}
-use Rattle.marks.proofs.without.Statement.{statement}
-use Rattle.marks.proofs.without.Tie as tie
+use Rattle.words.proofs.WordLaws.{without-is}
+use Rattle.words.proofs.without.Statement.{statement}
+use Rattle.words.proofs.without.Tie as tie
 
 returns : tie.Need-returns
 returns c = without-is (c .args .a) (c .args .b) (c .fits .a .fits) (c .fits .b .fits)

@@ -1,8 +1,8 @@
 use mathlib.Core.Path.{sym}
 use Rattle.lists.proofs.Words.{beyond, zero-is-out}
 use borrow.Author.Needs.{needs}
-use Rattle.marks.proofs.has.Statement.{statement}
-use Rattle.marks.proofs.has.Tie as tie
+use Rattle.words.proofs.has.Statement.{statement}
+use Rattle.words.proofs.has.Tie as tie
 
 shr-result : tie.Need-shr-result
 shr-result c = search needs

@@ -1,6 +1,6 @@
-use Rattle.marks.proofs.WordLaws.{join-is}
-use Rattle.marks.proofs.join.Statement.{statement}
-use Rattle.marks.proofs.join.Tie as tie
+use Rattle.words.proofs.WordLaws.{join-is}
+use Rattle.words.proofs.join.Statement.{statement}
+use Rattle.words.proofs.join.Tie as tie
 
 returns : tie.Need-returns
 returns c = join-is (c .args .a) (c .args .b) (c .fits .a .fits) (c .fits .b .fits)

@@ -1,8 +1,8 @@
 use mathlib.Core.Path.{sym, _∙_}
-use Rattle.marks.proofs.WordLaws.{put-beyond, put-already, on-fits, on-is, off-fits, off-is}
+use Rattle.words.proofs.WordLaws.{put-beyond, put-already, on-fits, on-is, off-fits, off-is}
 use borrow.Author.Needs.{needs}
-use Rattle.marks.proofs.put.Statement.{statement}
-use Rattle.marks.proofs.put.Tie as tie
+use Rattle.words.proofs.put.Statement.{statement}
+use Rattle.words.proofs.put.Tie as tie
 
 returns : tie.Need-returns
 returns c =

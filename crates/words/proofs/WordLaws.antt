@@ -8,18 +8,13 @@ use native.Mathlib.Decide.{decLt, ℕ-discrete}
 use native.Mathlib.Omega.{arith}
 use lib.Bits.{bitAnd, and-lt, bitOr, or-lt}
 use lib.Dec.{eqb, ltb}
-use lib.ListN.{getD}
 use lib.Pow.{pow-pos, pow-lt, ones-sub-lt}
 use borrow.Author.Tests.{eq-eqb, ne-eqb, lt-ltb, le-ltb}
 use Rattle.lists.specs.Lists.{if_then_else_, below}
 use Rattle.lists.specs.Words.{bit, bitAt, inWord, wordOf}
 use Rattle.lists.proofs.Numbers.{getD-map-below, length-map-below}
 use Rattle.lists.proofs.Words.{in-is-one, out-is-zero, one-is-in, zero-is-out, beyond, none-in, word-ext, put-same, put-other, put-fits, off-room, off-same, off-other, not-at, and-at, or-at, wordOf-lt, in-wordOf}
-use Rattle.net.specs.declared.Net.{Net}
-use Rattle.net.specs.Network.{Ends, isEnd}
-use Rattle.net.specs.Values.{networkOf, linkCount}
-use Rattle.net.proofs.ValueLaws.{ends-of}
-use Rattle.marks.specs.Marks.{wordBy, upTo}
+use Rattle.words.specs.Sets.{wordBy, upTo}
 
 module _ (f : ℕ → Bool) where
   pub by-lt : wordBy f < 2 ^ 64
@@ -140,11 +135,6 @@ module _ (q : ℕ → Bool) where
           ∙ ap (λ (x : Bool). x && q t) (sym (lt-ltb t (k + 1) (omega arith)))
       go t l (no n) =
           ap (λ (x : Bool). if x then b else inWord w t) (ne-eqb t k n) ∙ ap (λ (x : ℕ). inWord x t) e ∙ in-by (upTo q k) t l ∙ later t n (decLt t k)
-
--- what the code reads off the ends of link k
-pub own-read : (net : Net) (s k : ℕ) (b : Bool) → k < linkCount net → b ≡ (eqb (getD (net .low) k 0) s || eqb (getD (net .high) k 0) s)
-    → b ≡ isEnd (networkOf net) k s
-own-read net s k b h p = p ∙ ap (λ (x : Ends). eqb (x .low) s || eqb (x .high) s) (sym (ends-of net k h))
 
 -- ---- what is in either of two words
 pub join-is : (a b : ℕ) → a < 2 ^ 64 → b < 2 ^ 64 → bitOr a b ≡ wordBy (λ t. inWord a t || inWord b t)
