@@ -12,7 +12,7 @@ use station::Condition;
 fn marks_there(links: u8, w: Words, k: u8) -> Marks
     ensures { λ r. ⌜ r ≡ marksThere links w k ⌝ }
 {
-    if marks::at_most_64(links) <= k {
+    if words::at_most_64(links) <= k {
         return Marks {
             token: false,
             turn: false,

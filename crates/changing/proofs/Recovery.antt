@@ -15,10 +15,13 @@ use Rattle.net.specs.declared.Net.{Net}
 use Rattle.net.specs.Network.{isEnd, linkNumbers}
 use Rattle.net.specs.Values.{networkOf, linkCount}
 use Rattle.net.proofs.ValueLaws.{links-of}
+use Rattle.words.specs.Sets.{wordBy, upTo}
+use Rattle.words.proofs.WordLaws.{by-ext, by-same, by-none, in-by}
 use Rattle.marks.specs.declared.Marks.{Marks}
 use Rattle.marks.specs.declared.Words.{Words}
-use Rattle.marks.specs.Marks.{wordBy, marksAt, ownAt, upTo}
-use Rattle.marks.proofs.WordLaws.{by-ext, by-same, by-none, in-by}
+use Rattle.words.specs.Sets.{wordBy, upTo}
+use Rattle.marks.specs.Marks.{marksAt, ownAt}
+use Rattle.words.proofs.WordLaws.{by-ext, by-same, by-none, in-by}
 use Rattle.station.specs.declared.Condition.the-variants.{Down, Live}
 use Rattle.station.specs.declared.Station.{Station}
 use Rattle.station.specs.Holding.{noMarks, mark}

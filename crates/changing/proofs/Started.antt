@@ -12,10 +12,13 @@ use Rattle.net.specs.declared.Net.{Net}
 use Rattle.net.specs.Network.{isEnd, linkNumbers}
 use Rattle.net.specs.Values.{networkOf, linkCount}
 use Rattle.net.proofs.ValueLaws.{links-of}
+use Rattle.words.specs.Sets.{wordBy}
+use Rattle.words.proofs.WordLaws.{by-same, by-none}
 use Rattle.marks.specs.declared.Marks.{Marks}
 use Rattle.marks.specs.declared.Words.{Words}
-use Rattle.marks.specs.Marks.{wordBy, marksAt, ownAt}
-use Rattle.marks.proofs.WordLaws.{by-same, by-none}
+use Rattle.words.specs.Sets.{wordBy}
+use Rattle.marks.specs.Marks.{marksAt, ownAt}
+use Rattle.words.proofs.WordLaws.{by-same, by-none}
 use Rattle.station.specs.declared.Condition.the-variants.{Waiting}
 use Rattle.station.specs.declared.Station.{Station}
 use Rattle.station.specs.Holding.{noMarks, setToken}

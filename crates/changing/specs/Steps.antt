@@ -3,7 +3,8 @@ use Prim.Native.Nat.{ℕ}
 use Rattle.lists.specs.Lists.{if_then_else_}
 use Rattle.lists.specs.Words.{inWord}
 use Rattle.marks.specs.declared.Words.{Words}
-use Rattle.marks.specs.Marks.{wordBy, marksAt}
+use Rattle.words.specs.Sets.{wordBy}
+use Rattle.marks.specs.Marks.{marksAt}
 use Rattle.station.specs.Acts.{intervalMarks}
 
 -- event 4's work on the marks of each own link, as words

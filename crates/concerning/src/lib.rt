@@ -31,7 +31,7 @@ fn in_room(a: u32) -> u8
 fn ends_of(net: Net, k: u32) -> Ends
     ensures { λ r. ⌜ (r .low ≡ ends (networkOf net) k .low) × (r .high ≡ ends (networkOf net) k .high) ⌝ }
 {
-    if marks::at_most_64(net.links) as u32 <= k {
+    if words::at_most_64(net.links) as u32 <= k {
         return Ends { low: 0, high: 0 };
     }
     let i = k as usize;
@@ -70,7 +70,7 @@ pub fn concerned(net: Net, kind: u32, a: u32, letter: Letter) -> u8
 fn link_there(net: Net, a: u32, b: u32) -> bool
     ensures { λ r. ⌜ r ≡ linkThere (networkOf net) a b ⌝ }
 {
-    if marks::at_most_64(net.links) as u32 <= b {
+    if words::at_most_64(net.links) as u32 <= b {
         return false;
     }
     let e = ends_of(net, b);

@@ -14,7 +14,7 @@ use Rattle.net.specs.Network.{isEnd}
 use Rattle.net.specs.Letters.{isCounter, bodyHolds, letterHolds}
 use Rattle.net.specs.Values.{networkOf, linkCount}
 use Rattle.net.proofs.ValueLaws.{links-of}
-use Rattle.marks.proofs.WordLaws.{own-read}
+use Rattle.marks.proofs.OwnLinks.{own-read}
 use Rattle.formed.specs.Formed.{bodyTest, letterTest}
 
 -- a number of 16 bits is a counter if it is no 0

@@ -20,8 +20,9 @@ use Rattle.net.specs.Values.{networkOf, linkCount, isZero}
 use Rattle.net.proofs.ValueLaws.{links-of}
 use Rattle.reach.specs.Reach.{counterIn}
 use Rattle.reach.proofs.Tables.{counter-of}
+use Rattle.words.specs.Sets.{wordBy}
 use Rattle.marks.specs.declared.Marks.{Marks}
-use Rattle.marks.specs.Marks.{wordBy, marksAt, ownAt}
+use Rattle.marks.specs.Marks.{marksAt, ownAt}
 use Rattle.station.specs.declared.Condition.{Condition}
 use Rattle.station.specs.declared.Condition.the-variants.{Down, Waiting, Live}
 use Rattle.station.specs.declared.Station.{Station}

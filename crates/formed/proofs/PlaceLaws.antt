@@ -8,8 +8,8 @@ use Rattle.lists.specs.Words.{inWord}
 use Rattle.lists.proofs.Tests.{and-l, and-r, and-i, eq→eqb, same-test}
 use Rattle.lists.proofs.Numbers.{below-at, at-below}
 use Rattle.lists.proofs.Words.{zero-is-out, none-in}
-use Rattle.marks.specs.Marks.{wordBy}
-use Rattle.marks.proofs.WordLaws.{in-by, by-ext}
+use Rattle.words.specs.Sets.{wordBy}
+use Rattle.words.proofs.WordLaws.{in-by, by-ext}
 use Rattle.formed.specs.Steps.{everyPlace}
 
 pub place-at : (p : ℕ → Bool) → T (everyPlace p) → (k : ℕ) → k < 64 → T (p k)

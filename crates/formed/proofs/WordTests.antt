@@ -6,10 +6,11 @@ use mathlib.Core.Path.{_≡_, refl, ap, ap₂, _∙_}
 use lib.Dec.{T, eqb}
 use Rattle.lists.specs.Words.{inWord}
 use Rattle.lists.proofs.Tests.{same-test}
+use Rattle.words.specs.Sets.{wordBy}
+use Rattle.words.proofs.WordLaws.{by-same}
 use Rattle.marks.specs.declared.Marks.{Marks}
 use Rattle.marks.specs.declared.Words.{Words}
-use Rattle.marks.specs.Marks.{wordBy, marksAt}
-use Rattle.marks.proofs.WordLaws.{by-same}
+use Rattle.marks.specs.Marks.{marksAt}
 use Rattle.station.specs.declared.Condition.the-variants.{Down, Waiting, Live}
 use Rattle.station.specs.Holding.{implies}
 use Rattle.station.proofs.Slots.{allMarks, rule}

@@ -4,7 +4,8 @@ ghost use mathlib.Core.Bool.{not, _&&_, _||_};
 ghost use lib.Dec.{eqb};
 ghost use Rattle.lists.specs.Words.{inWord};
 ghost use Rattle.net.specs.Letters.{isCounter};
-ghost use Rattle.marks.specs.Marks.{wordBy, marksAt};
+ghost use Rattle.words.specs.Sets.{wordBy};
+ghost use Rattle.marks.specs.Marks.{marksAt};
 ghost use Rattle.station.specs.Holding.{implies};
 ghost use Rattle.station.specs.declared.Condition.the-variants.{Down, Waiting, Live};
 ghost use Rattle.formed.specs.Formed.{bodyTest, letterTest, stationFormed};
@@ -86,23 +87,23 @@ fn both(a: bool, b: bool) -> bool
 fn within(a: u64, b: u64) -> bool
     ensures { λ r. ⌜ r ≡ everyPlace (λ t. implies (inWord a t) (inWord b t)) ⌝ }
 {
-    marks::without(a, b) == 0
+    words::without(a, b) == 0
 }
 
 // Whether the two sets share nothing.
 fn apart(a: u64, b: u64) -> bool
     ensures { λ r. ⌜ r ≡ everyPlace (λ t. not (inWord a t && inWord b t)) ⌝ }
 {
-    marks::without(a, b) == a
+    words::without(a, b) == a
 }
 
 // The links with a mark other than token.
 fn beside_token(w: Words) -> u64
     ensures { λ r. ⌜ r ≡ wordBy (λ t. besideToken (marksAt w t)) ⌝ }
 {
-    marks::join(
-        marks::join(w.turn, w.testing),
-        marks::join(w.asked, w.quiet),
+    words::join(
+        words::join(w.turn, w.testing),
+        words::join(w.asked, w.quiet),
     )
 }
 
@@ -110,7 +111,7 @@ fn beside_token(w: Words) -> u64
 fn down_formed(own: u64, w: Words) -> bool
     ensures { λ r. ⌜ r ≡ everyPlace (λ t. marksTest Down (inWord own t) (marksAt w t)) ⌝ }
 {
-    marks::join(w.token, beside_token(w)) == 0
+    words::join(w.token, beside_token(w)) == 0
 }
 
 // Token alone on each own link.
@@ -124,9 +125,9 @@ fn waiting_formed(own: u64, w: Words) -> bool
 fn live_formed(own: u64, w: Words) -> bool
     ensures { λ r. ⌜ r ≡ everyPlace (λ t. marksTest Live (inWord own t) (marksAt w t)) ⌝ }
 {
-    let idle = marks::join(marks::join(w.token, w.turn), w.quiet);
+    let idle = words::join(words::join(w.token, w.turn), w.quiet);
     let tests = both(apart(w.testing, idle), within(w.asked, w.testing));
-    let all = marks::join(w.token, beside_token(w));
+    let all = words::join(w.token, beside_token(w));
     both(both(tests, apart(w.token, w.turn)), within(all, own))
 }
 
@@ -149,7 +150,7 @@ pub fn station_formed(net: Net, s: u8, st: Station) -> bool
     if !marks_formed(condition, own, st.marks) {
         return false;
     }
-    let m = marks::at_most_64(net.links);
+    let m = words::at_most_64(net.links);
     let live = station::is_live(condition);
     for k in 0..64u8 {
         let i = k as usize;

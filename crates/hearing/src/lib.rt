@@ -55,7 +55,7 @@ fn reply_heard(own: u16, c: u16) -> Heard
 fn notice_heard(links: u8, counters: Counters, j: u8, c: u16) -> Heard
     ensures { λ r. ⌜ heardNumbers r ≡ noticeAnswer (ltb j (min links 64) && ltb (getD counters j 0) c) j c ⌝ }
 {
-    if marks::at_most_64(links) <= j {
+    if words::at_most_64(links) <= j {
         return Heard::Nothing;
     }
     let i = j as usize;
@@ -70,7 +70,7 @@ pub fn hearing(net: Net, me: u8, letter: Letter, st: Station) -> Heard
     ensures { λ r. ⌜ heardNumbers r ≡ answer (networkOf net) me letter (holdingOf net st) ⌝ }
 {
     let link = letter.link;
-    if marks::at_most_64(net.links) as u16 <= link {
+    if words::at_most_64(net.links) as u16 <= link {
         return Heard::Gone;
     }
     let condition = st.condition;
@@ -78,14 +78,14 @@ pub fn hearing(net: Net, me: u8, letter: Letter, st: Station) -> Heard
         return Heard::Gone;
     }
     let k = link as u8;
-    if marks::has(st.marks.quiet, k) {
+    if words::has(st.marks.quiet, k) {
         return Heard::Gone;
     }
     let body = letter.body;
     match body {
         Body::Request => Heard::Does(Effect::Asks),
         Body::Reply(c) => {
-            if marks::has(st.marks.testing, k) {
+            if words::has(st.marks.testing, k) {
                 let i = k as usize;
                 reply_heard(st.counters[i], c)
             } else {

@@ -1,19 +1,15 @@
--- Sets of links as words, and the marks of a link in five words. Assumes nothing.
+-- The marks of a link in five words, and a station's own links. Assumes nothing.
 use Prim.Native.Nat.{ℕ}
 use mathlib.Core.Bool.{Bool, _&&_}
-use mathlib.Core.List.{map}
 use lib.Dec.{eqb, ltb}
-use Rattle.lists.specs.Lists.{if_then_else_, below}
-use Rattle.lists.specs.Words.{inWord, wordOf}
+use Rattle.lists.specs.Lists.{if_then_else_}
+use Rattle.lists.specs.Words.{inWord}
 use Rattle.net.specs.declared.Net.{Net}
 use Rattle.net.specs.Network.{isEnd}
 use Rattle.net.specs.Values.{networkOf, linkCount}
+use Rattle.words.specs.Sets.{wordBy}
 use Rattle.marks.specs.declared.Marks.{Marks}
 use Rattle.marks.specs.declared.Words.{Words}
-
--- the word of 64 bits that has bit t where the test says yes
-unfoldable pub wordBy : (ℕ → Bool) → ℕ
-wordBy f = wordOf (map f (below 64))
 
 -- the marks of link k
 abbrev pub marksAt : Words → ℕ → Marks
@@ -34,7 +30,3 @@ wordsWith w k m =
 -- link k exists and s is an end of it
 abbrev pub ownAt : Net → ℕ → ℕ → Bool
 ownAt net s k = ltb k (linkCount net) && isEnd (networkOf net) k s
-
--- those among the first k that pass the test
-abbrev pub upTo : (ℕ → Bool) → ℕ → ℕ → Bool
-upTo q k t = ltb t k && q t

@@ -1,12 +1,9 @@
-// Sets of links as 64-bit words, bit k for link k, and the five marks of each link as five such words.
+// The five marks of each link as five sets of links, and the links that a station is an end of as one such set.
 ghost use mathlib.Core.Path.{_≡_};
-ghost use Prim.Native.Nat.{_+_, _-_, _^_, _<_, min};
-ghost use mathlib.Core.Bool.{not, _&&_, _||_};
-ghost use lib.Dec.{eqb, ltb};
-ghost use lib.ListN.{getD};
-ghost use Rattle.lists.specs.Lists.{if_then_else_};
-ghost use Rattle.lists.specs.Words.{inWord, bitAt};
-ghost use Rattle.marks.specs.Marks.{wordBy, marksAt, wordsWith, ownAt};
+ghost use mathlib.Core.Bool.{_||_};
+ghost use lib.Dec.{eqb};
+ghost use Rattle.words.specs.Sets.{wordBy};
+ghost use Rattle.marks.specs.Marks.{marksAt, wordsWith, ownAt};
 use net::Net;
 
 // The marks of one link.
@@ -27,53 +24,16 @@ pub struct Words {
     pub quiet: u64,
 }
 
-// Whether k is in the set; a place beyond the word is not.
-pub fn has(w: u64, k: u8) -> bool
-    ensures { λ r. ⌜ r ≡ inWord w k ⌝ }
-{
-    if k < 64 { (w >> k) % 2 == 1 } else { false }
-}
-
-// The set with k, or without it; a place beyond the word changes nothing.
-pub fn put(w: u64, k: u8, on: bool) -> u64
-    ensures { λ r. ⌜ r ≡ wordBy (λ t. if eqb t k then on else inWord w t) ⌝ }
-{
-    if 64 <= k {
-        return w;
-    }
-    if has(w, k) {
-        if on {
-            return w;
-        }
-        return w - (1u64 << k);
-    }
-    if on { w + (1u64 << k) } else { w }
-}
-
-// What is in the first set and not in the second.
-pub fn without(a: u64, b: u64) -> u64
-    ensures { λ r. ⌜ r ≡ wordBy (λ t. inWord a t && not (inWord b t)) ⌝ }
-{
-    a & !b
-}
-
-// What is in either set.
-pub fn join(a: u64, b: u64) -> u64
-    ensures { λ r. ⌜ r ≡ wordBy (λ t. inWord a t || inWord b t) ⌝ }
-{
-    a | b
-}
-
 // The five marks of link k.
 pub fn marks_at(w: Words, k: u8) -> Marks
     ensures { λ r. ⌜ r ≡ marksAt w k ⌝ }
 {
     Marks {
-        token: has(w.token, k),
-        turn: has(w.turn, k),
-        testing: has(w.testing, k),
-        asked: has(w.asked, k),
-        quiet: has(w.quiet, k),
+        token: words::has(w.token, k),
+        turn: words::has(w.turn, k),
+        testing: words::has(w.testing, k),
+        asked: words::has(w.asked, k),
+        quiet: words::has(w.quiet, k),
     }
 }
 
@@ -82,11 +42,11 @@ pub fn with_marks(w: Words, k: u8, m: Marks) -> Words
     ensures { λ r. ⌜ r ≡ wordsWith w k m ⌝ }
 {
     Words {
-        token: put(w.token, k, m.token),
-        turn: put(w.turn, k, m.turn),
-        testing: put(w.testing, k, m.testing),
-        asked: put(w.asked, k, m.asked),
-        quiet: put(w.quiet, k, m.quiet),
+        token: words::put(w.token, k, m.token),
+        turn: words::put(w.turn, k, m.turn),
+        testing: words::put(w.testing, k, m.testing),
+        asked: words::put(w.asked, k, m.asked),
+        quiet: words::put(w.quiet, k, m.quiet),
     }
 }
 
@@ -99,22 +59,15 @@ fn is_end(low: u8, high: u8, s: u8) -> bool
     high == s
 }
 
-// As many links as the room holds.
-pub fn at_most_64(x: u8) -> u8
-    ensures { λ r. ⌜ r ≡ min x 64 ⌝ }
-{
-    if x < 64 { x } else { 64 }
-}
-
 // The links that the station s is an end of.
 pub fn own_links(net: Net, s: u8) -> u64
     ensures { λ r. ⌜ r ≡ wordBy (ownAt net s) ⌝ }
 {
-    let m = at_most_64(net.links);
+    let m = words::at_most_64(net.links);
     let mut own: u64 = 0;
     for k in 0..m {
         let i = k as usize;
-        own = put(own, k, is_end(net.low[i], net.high[i], s));
+        own = words::put(own, k, is_end(net.low[i], net.high[i], s));
     }
     own
 }

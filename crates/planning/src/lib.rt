@@ -55,7 +55,7 @@ fn stays(number: u8, settled: u64, dropped: u64, st: Station) -> Plan
 fn counter_at(links: u8, counters: Counters, k: u16) -> u16
     ensures { λ r. ⌜ r ≡ counterIn (take (min links 64) counters) k ⌝ }
 {
-    if marks::at_most_64(links) as u16 <= k {
+    if words::at_most_64(links) as u16 <= k {
         return 1;
     }
     let i = k as usize;

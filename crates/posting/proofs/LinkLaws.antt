@@ -21,8 +21,8 @@ use Rattle.lists.proofs.Counts.{ones-bits, Run, run}
 use Rattle.lists.proofs.Kept.{keep-le}
 use Rattle.lists.proofs.First.{first-below}
 use Rattle.lists.proofs.Heads.{fails-still, keep-head, keep-nothing, kept-ones}
-use Rattle.marks.specs.Marks.{wordBy}
-use Rattle.marks.proofs.WordLaws.{in-by, by-ext, by-none, off-fits, off-is}
+use Rattle.words.specs.Sets.{wordBy}
+use Rattle.words.proofs.WordLaws.{in-by, by-ext, by-none, off-fits, off-is}
 use Rattle.station.specs.Values.{membersOf}
 use Rattle.station.proofs.Sent.{keep-same, members-none}
 use Rattle.posting.specs.Links.{someIn, lowestIn, lessLowest}

@@ -2,10 +2,9 @@
 use Prim.Native.Nat.{ℕ, _+_, _^_, _<_}
 use mathlib.Core.Path.{_≡_}
 use mathlib.Core.Logic.{_⊎_}
-use mathlib.Core.Bool.{Bool, not, _&&_, _||_}
+use mathlib.Core.Bool.{Bool, not, _&&_}
 use lib.Dec.{eqb, ltb}
-use Rattle.lists.specs.Lists.{if_then_else_}
-use Rattle.lists.specs.Words.{bitAt, inWord}
+use Rattle.lists.specs.Words.{bitAt}
 use Rattle.counters.specs.Counters.{even}
 
 -- an even link between two of the n stations, of which the word has one and lacks the other
@@ -19,7 +18,3 @@ pub record Apart (a b w r : ℕ) : Type 0 where
   pub lacks : bitAt w new ≡ 0
   pub more : r ≡ w + 2 ^ new
   pub which : ((new ≡ a) × (bitAt w b ≡ 1)) ⊎ ((new ≡ b) × (bitAt w a ≡ 1))
-
--- a link's counter after a purge, by its ends and the reach word
-abbrev pub purgedTo : ℕ → ℕ → ℕ → ℕ → ℕ
-purgedTo a b c w = if inWord w a || inWord w b then c else 1

@@ -70,7 +70,7 @@ fn print_links(net: Net, counters: Counters, word: u32, links: u8)
 {
     for k in 0..links {
         let i = k as usize;
-        let shown = reach::link_shown(net.low[i], net.high[i], counters[i], word);
+        let shown = showing::link_shown(net.low[i], net.high[i], counters[i], word);
         print(shown as u64);
     }
 }
@@ -88,13 +88,13 @@ fn run(case: &[u8])
     } else {
         io::write_all(1, b" broken");
     }
-    let got = reach::reach_of(net, counters, s);
+    let got = showing::reach_of(net, counters, s);
     io::write_all(1, b"\nreach");
     print(got.word as u64);
     print(got.ones as u64);
     print(got.lowest as u64);
     io::write_all(1, b"\npurged");
-    print_counters(reach::purged(net, counters, s), links);
+    print_counters(purging::purged(net, counters, s), links);
     io::write_all(1, b"\nlinks");
     print_links(net, counters, got.word, links);
     io::write_all(1, b"\n");

@@ -20,9 +20,10 @@ use Rattle.net.proofs.ValueLaws.{links-of}
 use Rattle.counters.specs.Counters.{odd}
 use Rattle.reach.specs.Values.{purgedOf}
 use Rattle.reach.proofs.Tables.{counter-of}
+use Rattle.words.specs.Sets.{wordBy, upTo}
 use Rattle.marks.specs.declared.Marks.{Marks}
 use Rattle.marks.specs.declared.Words.{Words}
-use Rattle.marks.specs.Marks.{wordBy, marksAt, wordsWith, upTo}
+use Rattle.marks.specs.Marks.{marksAt, wordsWith}
 use Rattle.sending.specs.declared.Sending.{Sending}
 use Rattle.station.specs.declared.Station.{Station}
 use Rattle.station.specs.Holding.{Holding, noMarks, mark, counter, marked, counted, setAsked}

@@ -7,7 +7,8 @@ ghost use lib.ListN.{getD};
 ghost use Rattle.lists.specs.Lists.{if_then_else_};
 ghost use Rattle.net.specs.Values.{networkOf, linkCount};
 ghost use Rattle.counters.specs.Counters.{odd};
-ghost use Rattle.marks.specs.Marks.{wordBy, upTo, marksAt, wordsWith};
+ghost use Rattle.words.specs.Sets.{wordBy, upTo};
+ghost use Rattle.marks.specs.Marks.{marksAt, wordsWith};
 ghost use Rattle.station.specs.Holding.{marked};
 ghost use Rattle.station.specs.Acts.{unchanged, repliedMarks, onRequest, received};
 ghost use Rattle.station.specs.Values.{holdingOf, Acts};
@@ -61,7 +62,7 @@ fn hear_request(net: Net, me: u8, k: u8, sender: u16, st: Station) -> Acted
     let words = marks::with_marks(st.marks, k, rested);
     let c = counters[i];
     let subjects = told_over(net.links, counters, k, c);
-    let ways = marks::put(0, k, true);
+    let ways = words::put(0, k, true);
     Acted {
         station: Station {
             condition,
@@ -96,7 +97,7 @@ fn told_over(links: u8, counters: Counters, k: u8, c: u16) -> u64
     if counters::is_even(c) {
         return 0;
     }
-    marks::put(sending::known_links(links, counters), k, false)
+    words::put(sending::known_links(links, counters), k, false)
 }
 
 // The marks after a reply to a test on link k: testing and asked off.
@@ -125,7 +126,7 @@ fn hear_heals(net: Net, me: u8, k: u8, to: u16, st: Station) -> Acted
     counters[i] = to;
     let subjects = sending::known_links(net.links, counters);
     let ways = sending::open_ways(net, me, st.marks.quiet);
-    let kept = reach::purged(net, counters, me);
+    let kept = purging::purged(net, counters, me);
     let condition = st.condition;
     Acted {
         station: Station {
@@ -211,7 +212,7 @@ pub fn receive(net: Net, me: u8, letter: Letter, st: Station) -> Acted
 {
     let link = letter.link;
     let counters = st.counters;
-    if marks::at_most_64(net.links) as u16 <= link {
+    if words::at_most_64(net.links) as u16 <= link {
         return Acted {
             station: st,
             send: sending::silence(counters),

@@ -9,8 +9,8 @@ use borrow.Author.Tests.{eq-eqb, ne-eqb, lt-ltb, le-ltb}
 use Rattle.lists.specs.Lists.{if_then_else_}
 use Rattle.lists.proofs.Tests.{if-elim}
 use Rattle.net.specs.declared.Net.{Net}
-use Rattle.reach.specs.declared.Reached.{Reached}
-use Rattle.reach.specs.Values.{reachedOf}
+use Rattle.showing.specs.declared.Reached.{Reached}
+use Rattle.showing.specs.Values.{reachedOf}
 use Rattle.station.specs.declared.Condition.{Condition}
 use Rattle.station.specs.Holding.{isLive}
 use Rattle.reports.specs.Answers.{noReach}

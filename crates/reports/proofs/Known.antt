@@ -13,9 +13,10 @@ use Rattle.lists.specs.Words.{wordOf}
 use Rattle.lists.proofs.Tests.{is-T}
 use Rattle.net.specs.Network.{Network}
 use Rattle.net.specs.Values.{networkOf}
-use Rattle.reach.specs.declared.Reached.{Reached}
 use Rattle.reach.specs.Reach.{worksIn, reach, countOf, lowestOf, report}
-use Rattle.reach.specs.Values.{tableOf, reachedOf}
+use Rattle.reach.specs.Values.{tableOf}
+use Rattle.showing.specs.declared.Reached.{Reached}
+use Rattle.showing.specs.Values.{reachedOf}
 use Rattle.station.specs.Holding.{Holding, isLive}
 use Rattle.station.specs.Values.{holdingOf}
 use Rattle.station.proofs.Laid.{table-of, condition-of}

@@ -14,10 +14,11 @@ use Rattle.lists.specs.Words.{bitAt, inWord, wordOf}
 use Rattle.lists.proofs.Words.{in-is-one, out-is-zero}
 use Rattle.net.specs.Network.{Network}
 use Rattle.net.specs.Values.{networkOf}
-use Rattle.reach.specs.declared.Reached.{Reached}
 use Rattle.reach.specs.Reach.{worksIn, Reaches, reach, countOf, lowestOf}
-use Rattle.reach.specs.Values.{reachedOf, onesOf}
-use Rattle.reach.proofs.Word.{word-bit, ones-of-reach}
+use Rattle.reach.proofs.Word.{word-bit}
+use Rattle.showing.specs.declared.Reached.{Reached}
+use Rattle.showing.specs.Values.{reachedOf, onesOf}
+use Rattle.showing.proofs.Numbers.{ones-of-reach}
 use Rattle.world.specs.World.{holdingAt, reachAt}
 use Rattle.world.proofs.Reports as R
 use Rattle.state.specs.declared.State.{State}

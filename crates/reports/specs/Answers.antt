@@ -5,7 +5,7 @@ use mathlib.Core.List.{List, _++_}
 use lib.Dec.{eqb, ltb}
 use lib.ListN.{length, drop}
 use Rattle.lists.specs.Lists.{if_then_else_}
-use Rattle.reach.specs.declared.Reached.{Reached}
+use Rattle.showing.specs.declared.Reached.{Reached}
 use Rattle.world.specs.World.{askRefusal, reportAt, reachAt}
 use Rattle.state.specs.declared.State.{State}
 use Rattle.state.specs.State.{worldOf, stateHolds}

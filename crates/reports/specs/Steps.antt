@@ -8,9 +8,10 @@ use Rattle.lists.specs.Lists.{if_then_else_}
 use Rattle.lists.specs.Words.{inWord}
 use Rattle.net.specs.declared.Net.{Net}
 use Rattle.net.specs.Values.{networkOf}
-use Rattle.reach.specs.declared.Reached.{Reached}
 use Rattle.reach.specs.Reach.{linkValue, report}
-use Rattle.reach.specs.Values.{tableOf, reachedOf}
+use Rattle.reach.specs.Values.{tableOf}
+use Rattle.showing.specs.declared.Reached.{Reached}
+use Rattle.showing.specs.Values.{reachedOf}
 use Rattle.station.specs.declared.Condition.{Condition}
 use Rattle.station.specs.Holding.{isLive}
 use Rattle.reports.specs.Answers.{noReach}

@@ -10,7 +10,7 @@ ghost use Rattle.reports.specs.Answers.{askedOf, answerOf, outputOf, wit
 ghost use Rattle.reports.specs.Steps.{placeBy, numberBy, reachedBy, reportIn, linkShown};
 use counters::Counters;
 use net::Net;
-use reach::Reached;
+use showing::Reached;
 use state::State;
 use station::Condition;
 
@@ -52,7 +52,7 @@ fn reached_by(number: u8, net: Net, counters: Counters, me: u8) -> Reached
             lowest: 0,
         };
     }
-    reach::reach_of(net, counters, me)
+    showing::reach_of(net, counters, me)
 }
 
 // The reach of station a by its own table. Refusals in their order: 11, 6, 7.
@@ -103,7 +103,7 @@ fn put_links(out: &mut [u8], net: Net, counters: Counters, word: u32, m: u8)
 {
     for k in 0..m {
         let i = k as usize;
-        out[i] = reach::link_shown(net.low[i], net.high[i], counters[i], word);
+        out[i] = showing::link_shown(net.low[i], net.high[i], counters[i], word);
     }
 }
 

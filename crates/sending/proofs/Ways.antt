@@ -9,8 +9,9 @@ use Rattle.lists.proofs.Tests.{and-assoc}
 use Rattle.net.specs.declared.Net.{Net}
 use Rattle.net.specs.Network.{isEnd}
 use Rattle.net.specs.Values.{networkOf, linkCount}
-use Rattle.marks.specs.Marks.{wordBy, upTo, ownAt}
-use Rattle.marks.proofs.WordLaws.{by-same, in-by}
+use Rattle.words.specs.Sets.{wordBy, upTo}
+use Rattle.words.proofs.WordLaws.{by-same, in-by}
+use Rattle.marks.specs.Marks.{ownAt}
 use Rattle.sending.specs.Sent.{openAt}
 
 pub open-ways-is : (net : Net) (s q own r : ℕ) → own ≡ wordBy (ownAt net s) → r ≡ wordBy (λ t. inWord own t && not (inWord q t))

@@ -8,7 +8,7 @@ use Rattle.lists.specs.Words.{inWord}
 use Rattle.net.specs.declared.Net.{Net}
 use Rattle.net.specs.Network.{isEnd}
 use Rattle.net.specs.Values.{networkOf}
-use Rattle.marks.specs.Marks.{wordBy}
+use Rattle.words.specs.Sets.{wordBy}
 use Rattle.sending.specs.declared.Sending.{Sending}
 
 -- nothing sent

@@ -7,7 +7,7 @@ ghost use lib.ListN.{getD};
 ghost use Rattle.lists.specs.Lists.{if_then_else_};
 ghost use Rattle.lists.specs.Words.{inWord};
 ghost use Rattle.net.specs.Values.{linkCount};
-ghost use Rattle.marks.specs.Marks.{wordBy, upTo};
+ghost use Rattle.words.specs.Sets.{wordBy, upTo};
 ghost use Rattle.sending.specs.Sent.{silent, oneNotice, openAt};
 use counters::Counters;
 use net::Net;
@@ -42,7 +42,7 @@ pub fn silence(told: Counters) -> Sending
 pub fn one_notice(k: u8, ways: u64, told: Counters) -> Sending
     ensures { λ r. ⌜ r ≡ oneNotice k ways told ⌝ }
 {
-    let subjects = marks::put(0, k, true);
+    let subjects = words::put(0, k, true);
     Sending {
         requests: 0,
         subjects,
@@ -58,26 +58,26 @@ pub fn one_notice(k: u8, ways: u64, told: Counters) -> Sending
 pub fn open_ways(net: Net, me: u8, quiet: u64) -> u64
     ensures { λ r. ⌜ r ≡ wordBy (upTo (openAt net me quiet) (linkCount net)) ⌝ }
 {
-    marks::without(marks::own_links(net, me), quiet)
+    words::without(marks::own_links(net, me), quiet)
 }
 
 // The same but for one.
 pub fn ways_but(net: Net, me: u8, quiet: u64, k: u8) -> u64
     ensures { λ r. ⌜ r ≡ wordBy (upTo (λ j. openAt net me quiet j && not (eqb j k)) (linkCount net)) ⌝ }
 {
-    marks::put(open_ways(net, me, quiet), k, false)
+    words::put(open_ways(net, me, quiet), k, false)
 }
 
 // The links whose counter is above 1.
 pub fn known_links(links: u8, counters: Counters) -> u64
     ensures { λ r. ⌜ r ≡ wordBy (upTo (λ j. ltb 1 (getD counters j 0)) (min links 64)) ⌝ }
 {
-    let m = marks::at_most_64(links);
+    let m = words::at_most_64(links);
     let mut known: u64 = 0;
     for k in 0..m {
         let i = k as usize;
         let c = counters[i];
-        known = marks::put(known, k, 1 < c);
+        known = words::put(known, k, 1 < c);
     }
     known
 }

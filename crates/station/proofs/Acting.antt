@@ -21,10 +21,11 @@ use Rattle.reach.specs.Reach.{purge}
 use Rattle.reach.specs.Values.{tableOf, purgedOf}
 use Rattle.reach.proofs.Tables.{counter-of}
 use Rattle.counters.proofs.CounterLaws.{even-is, timed-even}
+use Rattle.words.specs.Sets.{wordBy, upTo}
+use Rattle.words.proofs.WordLaws.{by-none}
 use Rattle.marks.specs.declared.Marks.{Marks}
 use Rattle.marks.specs.declared.Words.{Words}
-use Rattle.marks.specs.Marks.{wordBy, marksAt, wordsWith, upTo}
-use Rattle.marks.proofs.WordLaws.{by-none}
+use Rattle.marks.specs.Marks.{marksAt, wordsWith}
 use Rattle.sending.specs.declared.Sending.{Sending}
 use Rattle.station.specs.declared.Station.{Station}
 use Rattle.station.specs.Holding.{Holding, mark, counter, marked, counted, setQuiet}

@@ -15,10 +15,11 @@ use Rattle.lists.proofs.Numbers.{getD-map-below, length-map-below}
 use Rattle.net.specs.declared.Net.{Net}
 use Rattle.net.specs.Values.{linkCount}
 use Rattle.reach.specs.Values.{tableOf}
+use Rattle.words.specs.Sets.{wordBy}
+use Rattle.words.proofs.WordLaws.{by-ext, by-same}
 use Rattle.marks.specs.declared.Marks.{Marks}
 use Rattle.marks.specs.declared.Words.{Words}
-use Rattle.marks.specs.Marks.{wordBy, marksAt, wordsWith}
-use Rattle.marks.proofs.WordLaws.{by-ext, by-same}
+use Rattle.marks.specs.Marks.{marksAt, wordsWith}
 use Rattle.station.specs.declared.Station.{Station}
 use Rattle.station.specs.Holding.{Holding, noMarks, mark, counter, marked}
 use Rattle.station.specs.Values.{holdingOf, bitsOf, laidWord, laidWords, laid}

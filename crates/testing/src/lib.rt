@@ -79,7 +79,7 @@ pub fn end_interval(net: Net, me: u8, k: u8, st: Station) -> Acted
     ensures { λ r. ⌜ Acts net me st (interval (networkOf net) me k (holdingOf net st)) r ⌝ }
 {
     let counters = st.counters;
-    if marks::at_most_64(net.links) <= k {
+    if words::at_most_64(net.links) <= k {
         return Acted {
             station: st,
             send: sending::silence(counters),
@@ -87,7 +87,7 @@ pub fn end_interval(net: Net, me: u8, k: u8, st: Station) -> Acted
     }
     let m = marks::marks_at(st.marks, k);
     let words = marks::with_marks(st.marks, k, interval_marks(m));
-    let requests = marks::put(0, k, tests_now(m));
+    let requests = words::put(0, k, tests_now(m));
     let condition = st.condition;
     Acted {
         station: Station {
@@ -113,7 +113,7 @@ pub fn end_timeout(net: Net, me: u8, k: u8, st: Station) -> Acted
 {
     let before = st.counters;
     let mut counters = before;
-    if marks::at_most_64(net.links) <= k {
+    if words::at_most_64(net.links) <= k {
         return Acted {
             station: st,
             send: sending::silence(counters),
@@ -144,7 +144,7 @@ pub fn end_timeout(net: Net, me: u8, k: u8, st: Station) -> Acted
     };
     let words = marks::with_marks(st.marks, k, silenced);
     let ways = sending::ways_but(net, me, st.marks.quiet, k);
-    let after = reach::purged(net, counters, me);
+    let after = purging::purged(net, counters, me);
     Acted {
         station: Station {
             condition,

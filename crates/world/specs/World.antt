@@ -15,8 +15,8 @@ use Rattle.net.specs.declared.Letter.{Letter}
 use Rattle.net.specs.Network.{Network, isEnd, linkNumbers, sheetHolds}
 use Rattle.net.specs.Network as Net
 use Rattle.net.specs.Letters.{letterHolds}
-use Rattle.reach.specs.declared.Reached.{Reached}
 use Rattle.reach.specs.Reach.{worksIn, reach, countOf, lowestOf, report}
+use Rattle.showing.specs.declared.Reached.{Reached}
 use Rattle.station.specs.declared.Condition.the-variants.{Down}
 use Rattle.station.specs.Holding.{Holding, counter, isLive, holdingHolds}
 use Rattle.station.specs.Acts.{Done, unchanged, started, stopped, recovered, interval, timeout, spoken, received, hears, bodyOver, Kind, start, stop, recovery, intervalEnd, timeoutEnd, quietEnd, other, kindOf, allowedAs}

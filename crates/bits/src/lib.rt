@@ -1,0 +1,29 @@
+// The bits of a word of stations, and a number held below a bound: the small steps that reach, purge and the report share.
+ghost use mathlib.Core.Path.{_≡_};
+ghost use Prim.Native.Nat.{min};
+ghost use mathlib.Core.Bool.{_||_};
+ghost use Rattle.lists.specs.Words.{bitAt, inWord};
+
+// Bit t of the word; a place beyond the word has none.
+pub fn bit_of(w: u32, t: u8) -> u32
+    ensures { λ r. ⌜ r ≡ bitAt w t ⌝ }
+{
+    if t < 32 { (w >> t) % 2 } else { 0 }
+}
+
+// Whether the word has an end of a link.
+pub fn has_end(a: u8, b: u8, w: u32) -> bool
+    ensures { λ r. ⌜ r ≡ (inWord w a || inWord w b) ⌝ }
+{
+    if bit_of(w, a) == 1 {
+        return true;
+    }
+    bit_of(w, b) == 1
+}
+
+// The number, or the most that there may be.
+pub fn at_most(x: u8, most: u8) -> u8
+    ensures { λ r. ⌜ r ≡ min x most ⌝ }
+{
+    if x < most { x } else { most }
+}

@@ -1,0 +1,15 @@
+-- A station's own links, as the code reads them off the network. Assumes nothing.
+use Prim.Native.Nat.{ℕ, _<_}
+use mathlib.Core.Bool.{Bool, _||_}
+use mathlib.Core.Path.{_≡_, sym, ap, _∙_}
+use lib.Dec.{eqb}
+use lib.ListN.{getD}
+use Rattle.net.specs.declared.Net.{Net}
+use Rattle.net.specs.Network.{Ends, isEnd}
+use Rattle.net.specs.Values.{networkOf, linkCount}
+use Rattle.net.proofs.ValueLaws.{ends-of}
+
+-- what the code reads off the ends of link k
+pub own-read : (net : Net) (s k : ℕ) (b : Bool) → k < linkCount net → b ≡ (eqb (getD (net .low) k 0) s || eqb (getD (net .high) k 0) s)
+    → b ≡ isEnd (networkOf net) k s
+own-read net s k b h p = p ∙ ap (λ (x : Ends). eqb (x .low) s || eqb (x .high) s) (sym (ends-of net k h))

@@ -1,0 +1,53 @@
+// What is shown of a reach: the word's two numbers, and how the report shows a link. Every public function answers every
+// input; what a bad network or a station that is not there gives is said in reach/specs/Values.antt.
+ghost use mathlib.Core.Path.{_≡_};
+ghost use mathlib.Core.Bool.{_||_};
+ghost use Rattle.lists.specs.Words.{inWord};
+ghost use Rattle.reach.specs.Reach.{linkValue};
+ghost use Rattle.showing.specs.Values.{reachedOf, onesOf, lowestMissing};
+use counters::Counters;
+use net::Net;
+
+// A reach: bit t of the word for station t, how many bits are set, and the lowest station not reached or 255.
+pub struct Reached {
+    pub word: u32,
+    pub ones: u8,
+    pub lowest: u8,
+}
+
+// How many bits of the word are set.
+pub fn count_ones(word: u32) -> u8
+    ensures { λ r. ⌜ r ≡ onesOf word ⌝ }
+{
+    u32::count_ones(word) as u8
+}
+
+// The lowest station that the word lacks, or 255.
+pub fn lowest_missing(word: u32, stations: u8) -> u8
+    ensures { λ r. ⌜ r ≡ lowestMissing word stations ⌝ }
+{
+    let n = bits::at_most(stations, 32);
+    let z = u32::trailing_zeros(!word);
+    if z < n as u32 { z as u8 } else { 255 }
+}
+
+// The reach word with its two numbers.
+pub fn reach_of(net: Net, counters: Counters, s: u8) -> Reached
+    ensures { λ r. ⌜ r ≡ reachedOf net counters s ⌝ }
+{
+    let word = reach::reach_word(net, counters, s);
+    let ones = count_ones(word);
+    let lowest = lowest_missing(word, net.stations);
+    Reached { word, ones, lowest }
+}
+
+// How the report shows a link with the ends low and high to the station whose counter and reach word these are.
+pub fn link_shown(low: u8, high: u8, counter: u16, word: u32) -> u8
+    ensures { λ r. ⌜ r ≡ linkValue (inWord word low || inWord word high) counter ⌝ }
+{
+    if bits::has_end(low, high, word) {
+        if counters::is_even(counter) { 1 } else { 2 }
+    } else {
+        0
+    }
+}

@@ -1,0 +1,52 @@
+// Sets of links as 64-bit words, bit k for link k, and how many links there are room for.
+ghost use mathlib.Core.Path.{_≡_};
+ghost use Prim.Native.Nat.{min};
+ghost use mathlib.Core.Bool.{not, _&&_, _||_};
+ghost use lib.Dec.{eqb};
+ghost use Rattle.lists.specs.Lists.{if_then_else_};
+ghost use Rattle.lists.specs.Words.{inWord};
+ghost use Rattle.words.specs.Sets.{wordBy};
+
+// Whether k is in the set; a place beyond the word is not.
+pub fn has(w: u64, k: u8) -> bool
+    ensures { λ r. ⌜ r ≡ inWord w k ⌝ }
+{
+    if k < 64 { (w >> k) % 2 == 1 } else { false }
+}
+
+// The set with k, or without it; a place beyond the word changes nothing.
+pub fn put(w: u64, k: u8, on: bool) -> u64
+    ensures { λ r. ⌜ r ≡ wordBy (λ t. if eqb t k then on else inWord w t) ⌝ }
+{
+    if 64 <= k {
+        return w;
+    }
+    if has(w, k) {
+        if on {
+            return w;
+        }
+        return w - (1u64 << k);
+    }
+    if on { w + (1u64 << k) } else { w }
+}
+
+// What is in the first set and not in the second.
+pub fn without(a: u64, b: u64) -> u64
+    ensures { λ r. ⌜ r ≡ wordBy (λ t. inWord a t && not (inWord b t)) ⌝ }
+{
+    a & !b
+}
+
+// What is in either set.
+pub fn join(a: u64, b: u64) -> u64
+    ensures { λ r. ⌜ r ≡ wordBy (λ t. inWord a t || inWord b t) ⌝ }
+{
+    a | b
+}
+
+// As many links as the room holds.
+pub fn at_most_64(x: u8) -> u8
+    ensures { λ r. ⌜ r ≡ min x 64 ⌝ }
+{
+    if x < 64 { x } else { 64 }
+}
