@@ -1,7 +1,7 @@
-// The bits of a word of stations, and a number held below a bound: the small steps that reach, purge and the report share.
+// Small steps that several crates share: the bits of a word of stations, a number held below a bound, and two tests at once.
 ghost use mathlib.Core.Path.{_≡_};
 ghost use Prim.Native.Nat.{min};
-ghost use mathlib.Core.Bool.{_||_};
+ghost use mathlib.Core.Bool.{_&&_, _||_};
 ghost use Rattle.lists.specs.Words.{bitAt, inWord};
 
 // Bit t of the word; a place beyond the word has none.
@@ -26,4 +26,11 @@ pub fn at_most(x: u8, most: u8) -> u8
     ensures { λ r. ⌜ r ≡ min x most ⌝ }
 {
     if x < most { x } else { most }
+}
+
+// Whether both tests pass.
+pub fn both(a: bool, b: bool) -> bool
+    ensures { λ r. ⌜ r ≡ (a && b) ⌝ }
+{
+    if a { b } else { false }
 }

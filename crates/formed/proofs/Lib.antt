@@ -1,4 +1,3 @@
 pub mod PlaceLaws
 pub mod WordTests
-pub mod LetterTests
 pub mod Parts

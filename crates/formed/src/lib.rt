@@ -1,64 +1,17 @@
-// Whether one letter, and what one station holds, is well formed: the parts of the test of a whole state.
+// Whether what one station holds is well formed: a part of the test of a whole state.
 ghost use mathlib.Core.Path.{_≡_};
-ghost use mathlib.Core.Bool.{not, _&&_, _||_};
-ghost use lib.Dec.{eqb};
+ghost use mathlib.Core.Bool.{not, _&&_};
 ghost use Rattle.lists.specs.Words.{inWord};
-ghost use Rattle.net.specs.Letters.{isCounter};
 ghost use Rattle.words.specs.Sets.{wordBy};
 ghost use Rattle.marks.specs.Marks.{marksAt};
 ghost use Rattle.station.specs.Holding.{implies};
 ghost use Rattle.station.specs.declared.Condition.the-variants.{Down, Waiting, Live};
-ghost use Rattle.formed.specs.Formed.{bodyTest, letterTest, stationFormed};
+ghost use Rattle.formed.specs.Formed.{stationFormed};
 ghost use Rattle.formed.specs.Steps.{everyPlace, counterTest, besideToken, marksTest};
 use marks::Words;
-use net::Body;
-use net::Letter;
 use net::Net;
 use station::Condition;
 use station::Station;
-
-// ---- a letter
-
-fn ends_at(low: u8, high: u8, s: u16) -> bool
-    ensures { λ r. ⌜ r ≡ (eqb low s || eqb high s) ⌝ }
-{
-    if low as u16 == s {
-        return true;
-    }
-    high as u16 == s
-}
-
-fn counter_holds(c: u16) -> bool
-    ensures { λ r. ⌜ r ≡ isCounter c ⌝ }
-{
-    1 <= c
-}
-
-// Whether what a letter says fits a network of so many links.
-fn body_formed(links: u8, body: Body) -> bool
-    ensures { λ r. ⌜ r ≡ bodyTest links body ⌝ }
-{
-    match body {
-        Body::Request => true,
-        Body::Reply(c) => counter_holds(c),
-        Body::Notice(j, c) => both(j < links, counter_holds(c)),
-    }
-}
-
-// Whether the letter may travel on a link with these ends, in a network of so many links: its links exist, its sender is
-// an end, its counter is no 0. It takes the ends and not the network, which would be copied for each letter of a state.
-pub fn letter_formed(links: u8, low: u8, high: u8, letter: Letter) -> bool
-    ensures { λ r. ⌜ r ≡ letterTest links low high letter ⌝ }
-{
-    let body = letter.body;
-    if links as u16 <= letter.link {
-        return false;
-    }
-    if !ends_at(low, high, letter.sender) {
-        return false;
-    }
-    body_formed(links, body)
-}
 
 // ---- a station's counters
 
@@ -70,18 +23,12 @@ fn counter_formed(there: bool, live: bool, c: u16) -> bool
         return c == 0;
     }
     if live {
-        return counter_holds(c);
+        return carried::counter_holds(c);
     }
     c == 1
 }
 
 // ---- a station's marks, all links at once
-
-fn both(a: bool, b: bool) -> bool
-    ensures { λ r. ⌜ r ≡ (a && b) ⌝ }
-{
-    if a { b } else { false }
-}
 
 // Whether all of the first set is in the second.
 fn within(a: u64, b: u64) -> bool
@@ -118,7 +65,7 @@ fn down_formed(own: u64, w: Words) -> bool
 fn waiting_formed(own: u64, w: Words) -> bool
     ensures { λ r. ⌜ r ≡ everyPlace (λ t. marksTest Waiting (inWord own t) (marksAt w t)) ⌝ }
 {
-    both(w.token == own, beside_token(w) == 0)
+    bits::both(w.token == own, beside_token(w) == 0)
 }
 
 // Marks that may stand together, on own links.
@@ -126,9 +73,9 @@ fn live_formed(own: u64, w: Words) -> bool
     ensures { λ r. ⌜ r ≡ everyPlace (λ t. marksTest Live (inWord own t) (marksAt w t)) ⌝ }
 {
     let idle = words::join(words::join(w.token, w.turn), w.quiet);
-    let tests = both(apart(w.testing, idle), within(w.asked, w.testing));
+    let tests = bits::both(apart(w.testing, idle), within(w.asked, w.testing));
     let all = words::join(w.token, beside_token(w));
-    both(both(tests, apart(w.token, w.turn)), within(all, own))
+    bits::both(bits::both(tests, apart(w.token, w.turn)), within(all, own))
 }
 
 fn marks_formed(condition: Condition, own: u64, w: Words) -> bool

@@ -16,8 +16,8 @@ use Rattle.net.specs.declared.Net.{Net}
 use Rattle.net.specs.Letters.{letterHolds}
 use Rattle.net.specs.Values.{networkOf, linkCount, netHolds}
 use Rattle.net.proofs.Good.{few-places}
-use Rattle.formed.specs.Formed.{letterTest}
-use Rattle.formed.proofs.LetterTests.{letter-is, letter-past}
+use Rattle.carried.specs.Carried.{letterTest}
+use Rattle.carried.proofs.LetterTests.{letter-is, letter-past}
 use Rattle.state.specs.declared.State.{State}
 use Rattle.state.specs.State.{stationIn, letterIn, stationPlace, letterPlace, isNoLetter, stationsHold, lettersHold, stateHolds, Fits, Ends64, Sized}
 use Rattle.state.proofs.Places.{restAt}

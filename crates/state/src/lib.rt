@@ -140,7 +140,7 @@ pub fn well_formed(s: State) -> bool
         let at = j as usize;
         let x = s.letters[at];
         let k = in_room(x.link);
-        if !formed::letter_formed(net.links, net.low[k], net.high[k], x) {
+        if !carried::letter_formed(net.links, net.low[k], net.high[k], x) {
             return false;
         }
     }

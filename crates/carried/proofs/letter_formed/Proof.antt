@@ -1,9 +1,9 @@
 use native.Mathlib.Omega.{arith}
 use borrow.Author.Tests.{not-true, not-false}
-use Rattle.formed.proofs.LetterTests.{test-past, test-foreign, test-says}
+use Rattle.carried.proofs.LetterTests.{test-past, test-foreign, test-says}
 use borrow.Author.Needs.{needs}
-use Rattle.formed.proofs.letter_formed.Statement.{statement}
-use Rattle.formed.proofs.letter_formed.Tie as tie
+use Rattle.carried.proofs.letter_formed.Statement.{statement}
+use Rattle.carried.proofs.letter_formed.Tie as tie
 
 returns : tie.Need-returns
 returns c =

@@ -1,7 +1,7 @@
-use Rattle.formed.proofs.LetterTests.{counter-is}
+use Rattle.carried.proofs.LetterTests.{counter-is}
 use borrow.Author.Needs.{needs}
-use Rattle.formed.proofs.counter_holds.Statement.{statement}
-use Rattle.formed.proofs.counter_holds.Tie as tie
+use Rattle.carried.proofs.counter_holds.Statement.{statement}
+use Rattle.carried.proofs.counter_holds.Tie as tie
 
 returns : tie.Need-returns
 returns c = counter-is (c .args .c) (search needs)

@@ -15,7 +15,7 @@ use Rattle.net.specs.Letters.{isCounter, bodyHolds, letterHolds}
 use Rattle.net.specs.Values.{networkOf, linkCount}
 use Rattle.net.proofs.ValueLaws.{links-of}
 use Rattle.marks.proofs.OwnLinks.{own-read}
-use Rattle.formed.specs.Formed.{bodyTest, letterTest}
+use Rattle.carried.specs.Carried.{bodyTest, letterTest}
 
 -- a number of 16 bits is a counter if it is no 0
 pub counter-is : (c : ℕ) → c ≤ 65535 → leb 1 c ≡ isCounter c

@@ -1,6 +1,6 @@
 use borrow.Author.Tests.{eq-eqb, ne-eqb}
-use Rattle.formed.proofs.ends_at.Statement.{statement}
-use Rattle.formed.proofs.ends_at.Tie as tie
+use Rattle.carried.proofs.ends_at.Statement.{statement}
+use Rattle.carried.proofs.ends_at.Tie as tie
 
 returns : tie.Need-returns
 returns c = simp (eq-eqb _ _ (c .if1 .taken))

@@ -1,10 +1,10 @@
 use mathlib.Core.Bool.{Bool, _&&_}
 use mathlib.Core.Path.{sym, ap, _∙_}
 use lib.Dec.{ltb}
-use Rattle.formed.specs.Formed.{bodyTest}
+use Rattle.carried.specs.Carried.{bodyTest}
 use borrow.Author.Needs.{needs}
-use Rattle.formed.proofs.body_formed.Statement.{statement}
-use Rattle.formed.proofs.body_formed.Tie as tie
+use Rattle.carried.proofs.body_formed.Statement.{statement}
+use Rattle.carried.proofs.body_formed.Tie as tie
 
 enum-told : tie.Need-enum-told
 enum-told c = search needs
