@@ -1,18 +1,10 @@
 -- The tally after a step that is lent one: an accepted event is added to it, a refused one leaves it untouched. Assumes nothing.
-use Prim.Native.Nat.{ℕ}
 use lib.Dec.{eqb}
 use Rattle.lists.specs.Lists.{if_then_else_}
 use Rattle.tally.specs.declared.Tally.{Tally}
 use Rattle.tally.specs.Sums.{tallied}
-use Rattle.state.specs.declared.State.{State}
 use Rattle.stepping.specs.declared.Stepped.{Stepped}
-use Rattle.stepping.specs.Step.{steppedOf}
-use Rattle.counting.specs.declared.Counted.{Counted}
 
 -- accepted (0): the three numbers of the event are added, each count staying at its largest value. Refused: the tally as it was
 abbrev pub talliedBy : Stepped → Tally → Tally
 talliedBy r t = if eqb (r .answer) 0 then tallied t (r .settled) (r .raised) (r .dropped) else t
-
--- the step's answer, and the tally that was given after it
-abbrev pub countedOf : Tally → State → ℕ → ℕ → ℕ → Counted
-countedOf t s kind a b = record { stepped = steppedOf s kind a b; tally = talliedBy (steppedOf s kind a b) t }

@@ -1,7 +1,7 @@
 // The network's step for a caller that keeps the tally: the tally is lent to the call and added to.
 ghost use mathlib.Core.Path.{_≡_};
 ghost use Rattle.stepping.specs.Step.{steppedOf};
-ghost use Rattle.counting.specs.Counting.{talliedBy, countedOf};
+ghost use Rattle.counting.specs.Counting.{talliedBy};
 use state::State;
 use stepping::Stepped;
 use tally::Tally;
@@ -14,22 +14,4 @@ pub fn step_counted(t: &mut Tally, s: State, kind: u32, a: u32, b: u32) -> Stepp
     let r = network::step(s, kind, a, b);
     tally::add(t, r.settled, r.raised, r.dropped);
     r
-}
-
-// What a step answers to a caller that holds its tally by value.
-pub struct Counted {
-    pub stepped: Stepped,
-    pub tally: Tally,
-}
-
-// The same for a caller that holds its tally by value, as a loop of events does: its own copy is lent to the step.
-pub fn step_with(given: Tally, s: State, kind: u32, a: u32, b: u32) -> Counted
-    ensures { λ r. ⌜ r ≡ countedOf given s kind a b ⌝ }
-{
-    let mut mine = given;
-    let stepped = step_counted(&mut mine, s, kind, a, b);
-    Counted {
-        stepped,
-        tally: mine,
-    }
 }
