@@ -5,4 +5,3 @@ pub mod Feeding
 pub mod Lines
 pub mod Faults
 pub mod Goods
-pub mod Begun

@@ -1,4 +1,3 @@
 pub mod Sheets
 pub mod Outputs
-pub mod Begun
 pub mod Feeding

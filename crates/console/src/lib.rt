@@ -5,9 +5,6 @@ ghost use lib.ListN.{length};
 ghost use Rattle.sheet.specs.Values.{numberOf, zeroNet};
 ghost use Rattle.console.specs.Sheets.{fileSheet, openedBy, refusalText};
 ghost use Rattle.console.specs.Outputs.{Counts, wroteBy, outputBy};
-ghost use Rattle.console.specs.Begun.{isBegun, isHexBegun};
-use hex_lines::HexReading;
-use lines::Reading;
 use net::Net;
 
 // ---- the sheet
@@ -62,23 +59,6 @@ pub fn open_sheet(file: &[u8]) -> Opened
         number: number_of(answer),
         net,
     }
-}
-
-// Whether a byte of the line under way is read: "the last newline may be missing".
-pub fn is_begun(r: Reading) -> bool
-    ensures { λ b. ⌜ b ≡ isBegun r ⌝ }
-{
-    if r.place != 0 {
-        return true;
-    }
-    r.digits != 0
-}
-
-// The same of a line of hexadecimal digits.
-pub fn is_hex_begun(r: HexReading) -> bool
-    ensures { λ b. ⌜ b ≡ isHexBegun r ⌝ }
-{
-    r.count != 0
 }
 
 // What is written to lent output: 0 and how many bytes, or 10 where the output is too short.

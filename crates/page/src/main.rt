@@ -66,7 +66,7 @@ fn read_chunk(reading: Reading, room: &mut [u8]) -> Chunk
             more: true,
         };
     }
-    if console::is_begun(reading) {
+    if begun::is_begun(reading) {
         room[0] = 10;
         return Chunk {
             size: 1,

@@ -1,19 +1,12 @@
-// What a letter does to the station that receives it, by that station's answer to it.
+// What a letter does to the station that receives it, by that station's answer to it. A request is the crate answering's.
 ghost use mathlib.Core.Path.{_≡_};
-ghost use mathlib.Core.Bool.{not, _&&_};
-ghost use Prim.Native.Nat.{_<_, min};
-ghost use lib.Dec.{eqb, ltb};
-ghost use lib.ListN.{getD};
-ghost use Rattle.lists.specs.Lists.{if_then_else_};
+ghost use Prim.Native.Nat.{_<_};
 ghost use Rattle.net.specs.Values.{networkOf, linkCount};
-ghost use Rattle.counters.specs.Counters.{odd};
-ghost use Rattle.words.specs.Sets.{wordBy, upTo};
 ghost use Rattle.marks.specs.Marks.{marksAt, wordsWith};
 ghost use Rattle.station.specs.Holding.{marked};
-ghost use Rattle.station.specs.Acts.{unchanged, repliedMarks, onRequest, received};
+ghost use Rattle.station.specs.Acts.{unchanged, repliedMarks, received};
 ghost use Rattle.station.specs.Values.{holdingOf, Acts};
 ghost use Rattle.receiving.specs.Effects.{heals, levels, taken};
-use counters::Counters;
 use hearing::Effect;
 use hearing::Heard;
 use marks::Marks;
@@ -23,82 +16,6 @@ use net::Net;
 use sending::Sending;
 use station::Acted;
 use station::Station;
-
-// A request: the higher-numbered of two testers only marks it; otherwise the link is rested, what is known is told over a
-// link that was down, and the reply goes out last.
-fn hear_request(net: Net, me: u8, k: u8, sender: u16, st: Station) -> Acted
-    requires { ⌜ k < linkCount net ⌝ }
-    ensures { λ r. ⌜ Acts net me st (onRequest (networkOf net) me k sender (holdingOf net st)) r ⌝ }
-{
-    let i = k as usize;
-    let m = marks::marks_at(st.marks, k);
-    let counters = st.counters;
-    let condition = st.condition;
-    if defers_to(m.testing, sender, me) {
-        let marked = Marks {
-            token: m.token,
-            turn: m.turn,
-            testing: m.testing,
-            asked: true,
-            quiet: m.quiet,
-        };
-        let words = marks::with_marks(st.marks, k, marked);
-        return Acted {
-            station: Station {
-                condition,
-                counters,
-                marks: words,
-            },
-            send: sending::silence(counters),
-        };
-    }
-    let rested = Marks {
-        token: true,
-        turn: false, // or the next silent interval would test too early
-        testing: false,
-        asked: false,
-        quiet: m.quiet,
-    };
-    let words = marks::with_marks(st.marks, k, rested);
-    let c = counters[i];
-    let subjects = told_over(net.links, counters, k, c);
-    let ways = words::put(0, k, true);
-    Acted {
-        station: Station {
-            condition,
-            counters,
-            marks: words,
-        },
-        send: Sending {
-            requests: 0,
-            subjects,
-            ways,
-            told: counters,
-            replies: true,
-            reply: c,
-            link: k,
-        },
-    }
-}
-
-fn defers_to(testing: bool, sender: u16, me: u8) -> bool
-    ensures { λ r. ⌜ r ≡ (testing && ltb sender me) ⌝ }
-{
-    if testing {
-        return sender < me as u16;
-    }
-    false
-}
-
-// The links that are told of over link k: all that are known but k itself where its counter c is odd, else none.
-fn told_over(links: u8, counters: Counters, k: u8, c: u16) -> u64
-    ensures { λ r. ⌜ r ≡ (if odd c then wordBy (upTo (λ j. ltb 1 (getD counters j 0) && not (eqb j k)) (min links 64)) else 0) ⌝ }
-{
-    if counters::is_even(c) {
-        return 0;
-    }
-    words::put(sending::known_links(links, counters), k, false)
-}
 
 // The marks after a reply to a test on link k: testing and asked off.
 fn replied_words(w: Words, k: u8) -> Words
@@ -227,7 +144,7 @@ pub fn receive(net: Net, me: u8, letter: Letter, st: Station) -> Acted
         };
     };
     match effect {
-        Effect::Asks => hear_request(net, me, k, letter.sender, st),
+        Effect::Asks => answering::hear_request(net, me, k, letter.sender, st),
         Effect::Heals(to) => hear_heals(net, me, k, to, st),
         Effect::Levels(to) => hear_levels(net, me, k, to, st),
         Effect::Equal => hear_equal(net, me, k, st),

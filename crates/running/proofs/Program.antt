@@ -28,12 +28,12 @@ use Rattle.state.specs.declared.State.{State}
 use Rattle.state.specs.declared.Begun.{Begun}
 use Rattle.state.specs.State.{stateOf, Ends64, begunOf}
 use Rattle.laws.proofs.Tallies.{Fits}
-use Rattle.console.specs.Begun.{isBegun}
+use Rattle.begun.specs.Begun.{isBegun}
 use Rattle.console.specs.Sheets.{fileSheet, openedBy, refusalText}
 use Rattle.console.proofs.Lines.{joined, whole-text, whole-held}
 use Rattle.console.proofs.Faults.{refusal-counts}
 use Rattle.console.proofs.Goods.{file-holds}
-use Rattle.console.proofs.Begun.{not-first, byte-begins}
+use Rattle.begun.proofs.Begun.{not-first, byte-begins}
 use Rattle.standing.specs.Stations.{stationsText}
 use Rattle.running.specs.Events.{Standing, noTally, begins, printed, doneAll, endText, outputBy, eventProgram}
 use Rattle.running.specs.Runs.{Desk, deskOf, acted, spoken}

@@ -10,7 +10,7 @@ use Rattle.state.specs.declared.State.{State}
 use Rattle.state.specs.State.{begunOf}
 use Rattle.console.specs.declared.Opened.{Opened}
 use Rattle.console.specs.Sheets.{fileSheet, openedBy, refusalText}
-use Rattle.console.specs.Begun.{isBegun}
+use Rattle.begun.specs.Begun.{isBegun}
 use Rattle.console.specs.Feeding.{wholeText, wholeHeld}
 use Rattle.standing.specs.Stations.{stationsText}
 use Rattle.running.specs.Events.{noTally}

@@ -21,14 +21,14 @@ use Rattle.sheet.specs.Values.{valueOf}
 use Rattle.sheet.proofs.ValueLaws.{value-means, value-holds}
 use Rattle.letters.specs.Letters.{readLetter}
 use Rattle.letters.specs.Values.{reading}
-use Rattle.console.specs.Begun.{isHexBegun}
+use Rattle.begun.specs.Begun.{isHexBegun}
 use Rattle.console.specs.Sheets.{fileSheet, openedBy}
 use Rattle.console.specs.Feeding.{wholeText}
 use Rattle.console.specs.Feeding as Feeding
 use Rattle.console.proofs.Lines.{joined, whole-text}
 use Rattle.console.proofs.Faults.{refusal-counts}
 use Rattle.console.proofs.Goods.{file-holds}
-use Rattle.console.proofs.Begun.{hex-not-first, hex-begins}
+use Rattle.begun.proofs.Begun.{hex-not-first, hex-begins}
 use Rattle.sheet_line.specs.Line.{sheetText}
 use Rattle.letter_line.specs.Line.{readText}
 use Rattle.wiring.specs.Wire.{lineText, outputBy, wireProgram}

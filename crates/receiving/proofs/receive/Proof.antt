@@ -18,6 +18,7 @@ use Rattle.station.specs.Acts.{Done, unchanged, repliedMarks, answer, received}
 use Rattle.station.specs.Values.{holdingOf, Acts}
 use Rattle.hearing.specs.Heard.{heardNumbers}
 use Rattle.station.proofs.Laid.{Fit, mark-of}
+use Rattle.answering.proofs.Requests.{requested-there}
 use Rattle.receiving.proofs.Letters.{does, done, received-does, taken-there}
 use Rattle.receiving.proofs.Drops.{drops, dropped, received-past}
 use borrow.Author.Needs.{needs}
@@ -107,7 +108,10 @@ hear-notice-requires c κs =
 returns-3 : tie.Need-returns-3
 returns-3 c =
     let a = c .before .before .before .before .before .before .before .before .before .before .args in
-    by-effect (a .net) (a .me) (a .letter) (a .st) (c .before .before .before .before .before .before .hearing .result) (Asks) _ (c .before .before .before .before .before .before .hearing .ensures) (c .before .before .before .before .said .given .1 ∙ ap Does (c .before .enum-told .given .1)) (c .hear-request .ensures)
+    by-effect (a .net) (a .me) (a .letter) (a .st) (c .before .before .before .before .before .before .hearing .result) (Asks) _ (c .before .before .before .before .before .before .hearing .ensures) (c .before .before .before .before .said .given .1 ∙ ap Does (c .before .enum-told .given .1))
+    (subst (λ (d : Done). Acts (a .net) (a .me) (a .st) d (c .hear-request .result))
+    (requested-there (a .net) (a .me) (a .letter .link) (a .letter .sender) (holdingOf (a .net) (a .st)) (omega (arith, c .before .before .before .before .before .before .before .before .at-most-64 .ensures, c .before .before .before .before .before .before .before .if1 .left)))
+    (c .hear-request .ensures))
 
 returns-4 : tie.Need-returns-4
 returns-4 c =

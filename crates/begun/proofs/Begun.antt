@@ -12,7 +12,7 @@ use Rattle.lines.specs.Steps.{start, withDigit, nextNumber, readOn}
 use Rattle.hex_lines.specs.declared.HexReading.{HexReading}
 use Rattle.hex_lines.specs.Hex.{isHex, isEven, hexValue}
 use Rattle.hex_lines.specs.HexSteps.{hexStart, withHex, readHex}
-use Rattle.console.specs.Begun.{isBegun, isHexBegun}
+use Rattle.begun.specs.Begun.{isBegun, isHexBegun}
 
 pub not-first : isBegun start ≡ false
 not-first = refl

@@ -1,6 +1,6 @@
 use borrow.Author.Tests.{eq-eqb, ne-eqb}
-use Rattle.console.proofs.is_begun.Statement.{statement}
-use Rattle.console.proofs.is_begun.Tie as tie
+use Rattle.begun.proofs.is_begun.Statement.{statement}
+use Rattle.begun.proofs.is_begun.Tie as tie
 
 returns : tie.Need-returns
 returns c = simp (ne-eqb _ _ (c .if1 .taken))

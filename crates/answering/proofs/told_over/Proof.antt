@@ -7,8 +7,8 @@ use Rattle.counters.specs.Counters.{odd}
 use Rattle.reach.proofs.Tables.{if-yes, if-no}
 use Rattle.sending.proofs.Ways.{ways-but-is}
 use borrow.Author.Needs.{needs}
-use Rattle.receiving.proofs.told_over.Statement.{statement}
-use Rattle.receiving.proofs.told_over.Tie as tie
+use Rattle.answering.proofs.told_over.Statement.{statement}
+use Rattle.answering.proofs.told_over.Tie as tie
 
 is-even-requires : tie.Need-is-even-requires
 is-even-requires c κs = search needs

@@ -2,8 +2,8 @@ use mathlib.Core.Bool.{Bool, _&&_}
 use mathlib.Core.Path.{sym, ap}
 use lib.Dec.{ltb}
 use borrow.Author.Needs.{needs}
-use Rattle.receiving.proofs.defers_to.Statement.{statement}
-use Rattle.receiving.proofs.defers_to.Tie as tie
+use Rattle.answering.proofs.defers_to.Statement.{statement}
+use Rattle.answering.proofs.defers_to.Tie as tie
 
 returns : tie.Need-returns
 returns c = ap (λ (b : Bool). b && ltb (c .before .args .sender) (c .before .args .me)) (sym (c .if1 .taken))
