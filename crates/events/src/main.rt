@@ -107,7 +107,7 @@ fn finish(state: State) {
 
 // A proved loop has to end, and nothing says that an input does: it counts its turns down, from a number that no run uses up.
 fn run(net: Net) {
-    let begun = state::fresh(net);
+    let begun = beginning::fresh(net);
     let first = begun.state;
     let mut state = first;
     let mut tally = Tally {

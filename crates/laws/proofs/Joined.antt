@@ -12,9 +12,9 @@ use Rattle.sheet.proofs.ValueLaws.{value-back}
 use Rattle.world.specs.World.{World, Event, wellFormed, fresh}
 use Rattle.world.specs.History.{run, everSettled, everSent, everDelivered, everLost}
 use Rattle.state.specs.declared.State.{State}
-use Rattle.state.specs.State.{worldOf, stateOf, stateHolds, Ends64, Sized, begunOf}
+use Rattle.state.specs.State.{worldOf, stateOf, stateHolds, Ends64, Sized}
 use Rattle.state.proofs.Meaning.{holds-net, net-is, world-well}
-use Rattle.state.proofs.LaidOut.{first-sized, first-holds, first-means}
+use Rattle.beginning.proofs.First.{first-sized, first-holds, first-means}
 use Rattle.stepping.specs.declared.Stepped.{Stepped}
 use Rattle.stepping.specs.Step.{steppedOf}
 use Rattle.stepping.proofs.Bridge as B

@@ -131,7 +131,7 @@ fn finish(state: State, stations: u8, answers: Answers) {
 }
 
 fn run(net: Net) {
-    let begun = state::fresh(net);
+    let begun = beginning::fresh(net);
     let first = begun.state;
     let mut state = first;
     let mut tally = Tally {

@@ -9,12 +9,13 @@ use Rattle.net.proofs.ValueLaws.{stations-few}
 use Rattle.station.specs.Holding.{isWaiting}
 use Rattle.state.specs.declared.State.{State}
 use Rattle.state.specs.State.{stationIn}
-use Rattle.reports.specs.declared.Asked.{Asked}
-use Rattle.reports.specs.Answers.{askedOf, outputOf}
-use Rattle.reports.specs.Steps.{placeBy}
-use Rattle.reports.proofs.Helpers.{place-there}
-use Rattle.reports.proofs.Refusals.{Why, none, eleven, six, seven, number-why, stations-are}
-use Rattle.reports.proofs.WordShown.{answer-number}
+use Rattle.asking.specs.Asking.{placeBy}
+use Rattle.asking.proofs.Helpers.{place-there}
+use Rattle.asking.proofs.Refusals.{Why, none, eleven, six, seven, number-why, stations-are}
+use Rattle.reaching.specs.declared.Asked.{Asked}
+use Rattle.reaching.specs.Answers.{askedOf}
+use Rattle.reaching.proofs.WordShown.{answer-number}
+use Rattle.reports.specs.Answers.{outputOf}
 use Rattle.parts.specs.Parts.{isThere, partText, partWrote, partOutput}
 use Rattle.paging.specs.Page.{reportRoom, stationPart}
 

@@ -1,8 +1,8 @@
-// The page's part for each station of a state: what `reports` answers for it, put by `parts`.
+// The page's part for each station of a state: what `reaching` and `reports` answer for it, put by `parts`.
 ghost use mathlib.Core.Path.{_≡_};
 ghost use Rattle.station.specs.Holding.{isWaiting};
-ghost use Rattle.reports.specs.Steps.{placeBy};
-ghost use Rattle.reports.specs.Answers.{askedOf};
+ghost use Rattle.asking.specs.Asking.{placeBy};
+ghost use Rattle.reaching.specs.Answers.{askedOf};
 ghost use Rattle.console.specs.Outputs.{Counts};
 ghost use Rattle.parts.specs.Parts.{partWrote, partOutput};
 ghost use Rattle.paging.specs.Page.{stationPart};
@@ -32,7 +32,7 @@ pub fn put_station(s: State, i: u8, out: &mut [u8]) -> Wrote
     ensures output { λ r. ⌜ now (out .exit) ≡ partOutput (askedOf s i .answer) (stationPart s i) (now (out .entry)) ⌝ }
     ensures room { λ r. ⌜ Counts (r .written) (now (out .exit)) ⌝ }
 {
-    let asked = reports::reach(s, i as u32);
+    let asked = reaching::reach(s, i as u32);
     let mut seen = [0u8; 96];
     reports::report(s, i as u32, &mut seen);
     let here = place_of(i);

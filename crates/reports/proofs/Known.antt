@@ -1,154 +1,36 @@
--- What the two calls know of the state: the number that they decide, and that what they read in it is what the world has.
--- Assumes nothing.
+-- That the report by the table that the call reads is the report in the world, or that its number refuses it. Assumes nothing.
 use Prim.Native.Nat.{ℕ, _<_}
-use mathlib.Core.Bool.{Bool, true, false, not}
-use mathlib.Core.Path.{_≡_, refl, sym, ap, ap₂, _∙_}
+use mathlib.Core.Bool.{Bool}
+use mathlib.Core.Path.{_≡_, sym, ap, ap₂, _∙_}
 use mathlib.Core.List.{List}
-use native.Mathlib.Decide.{decLt, ℕ-discrete}
-use native.Mathlib.Omega.{arith}
-use borrow.Author.Tests.{eq-eqb, ne-eqb, lt-ltb, le-ltb}
-use lib.Dec.{T, eqb, ltb}
-use Rattle.lists.specs.Lists.{if_then_else_}
-use Rattle.lists.specs.Words.{wordOf}
-use Rattle.lists.proofs.Tests.{is-T}
+use native.Mathlib.Decide.{ℕ-discrete}
+use borrow.Author.Tests.{ne-eqb}
+use lib.Dec.{T}
 use Rattle.net.specs.Network.{Network}
-use Rattle.net.specs.Values.{networkOf}
-use Rattle.reach.specs.Reach.{worksIn, reach, countOf, lowestOf, report}
-use Rattle.reach.specs.Values.{tableOf}
-use Rattle.showing.specs.declared.Reached.{Reached}
-use Rattle.showing.specs.Values.{reachedOf}
-use Rattle.station.specs.Holding.{Holding, isLive}
-use Rattle.station.specs.Values.{holdingOf}
-use Rattle.station.proofs.Laid.{table-of, condition-of}
-use Rattle.world.specs.World.{World, holdingAt, askRefusal, reportAt, reachAt}
+use Rattle.reach.specs.Reach.{report}
+use Rattle.world.specs.World.{World, holdingAt, reportAt}
 use Rattle.state.specs.declared.State.{State}
 use Rattle.state.specs.State.{stationIn, worldOf, stateHolds, Sized}
-use Rattle.state.proofs.Meaning as M
-use Rattle.reports.specs.declared.Asked.{Asked}
-use Rattle.reports.specs.Answers.{numberOf, noReach, askedOf, withRoom, writtenOver, answerOf, outputOf}
-use Rattle.reports.specs.Steps.{placeBy, numberBy, reachedBy, reportIn}
+use Rattle.asking.specs.Asking.{placeBy}
+use Rattle.asking.proofs.Known.{world-net, me-is, table-is, Read, holds, number-is, is-good, there}
+use Rattle.reports.specs.Answers.{withRoom, writtenOver, answerOf, outputOf}
+use Rattle.reports.specs.Steps.{reportIn}
 
 -- ---- a well-formed state
-module _ (s : State) (z : Sized s) (t : T (stateHolds s)) where
+module _ (s : State) (z : Sized s) (t : T (stateHolds s)) (a me : ℕ) (pe : me ≡ placeBy a) (h : a < s .net .stations) where
   abbrev w : World
   w = worldOf s
 
-  world-net : w .net ≡ networkOf (s .net)
-  world-net = M.net-is s z t
-
-  pub world-stations : w .net .stations ≡ s .net .stations
-  world-stations = ap (λ (n : Network). n .stations) world-net ∙ M.count-is s z t
-
-  module _ (a me : ℕ) (pe : me ≡ placeBy a) where
-    -- the station that a names stands at its place
-    pub me-is : a < s .net .stations → me ≡ a
-    me-is h = pe ∙ ap (λ (b : Bool). if b then a else 0) (lt-ltb a 32 (omega (arith, M.few s z t)))
-
-    module _ (h : a < s .net .stations) where
-      holding-is : holdingAt w a ≡ holdingOf (s .net) (stationIn s me)
-      holding-is = M.world-holding s z t a h ∙ ap (λ (k : ℕ). holdingOf (s .net) (stationIn s k)) (sym (me-is h))
-
-      pub condition-is : holdingAt w a .condition ≡ stationIn s me .condition
-      condition-is = ap (λ (x : Holding). x .condition) holding-is ∙ condition-of (s .net) (stationIn s me)
-
-      pub table-is : holdingAt w a .table ≡ tableOf (s .net) (stationIn s me .counters)
-      table-is = ap (λ (x : Holding). x .table) holding-is ∙ table-of (s .net) (stationIn s me)
-
-      pub reach-is : reachedOf (s .net) (stationIn s me .counters) me ≡ reachAt w a
-      unfolding reachAt
-      reach-is =
-          ap₂ at (sym world-net) (sym table-is) ∙ ap (λ (k : ℕ). answered (w .net) (holdingAt w a .table) k) (me-is h)
-        where
-          answered : Network → List ℕ → ℕ → Reached
-          answered n l k = record { word = wordOf (reach n (worksIn l) k); ones = countOf (reach n (worksIn l) k); lowest = lowestOf (reach n (worksIn l) k) }
-
-          at : Network → List ℕ → Reached
-          at n l = answered n l me
-
-      pub report-is : reportIn (s .net) (stationIn s me .counters) me ≡ reportAt w a
-      unfolding reportIn reportAt
-      report-is = ap₂ (λ (n : Network) (l : List ℕ). report n me l) (sym world-net) (sym table-is) ∙ ap (λ (k : ℕ). report (w .net) k (holdingAt w a .table)) (me-is h)
-
-    -- the world's number, as the code decides it
-    ask-is : numberBy true (s .net .stations) a (stationIn s me .condition) ≡ askRefusal w a
-    unfolding askRefusal
-    ask-is = go (decLt a (s .net .stations)) ∙ ap (λ (n : ℕ). if not (ltb a n) then 6 else (if not (isLive (holdingAt w a .condition)) then 7 else 0)) (sym world-stations)
-      where
-        flip : (b : Bool) → _≡_ {A = ℕ} (if b then 0 else 7) (if not b then 7 else 0)
-        flip true = refl
-        flip false = refl
-
-        go : Dec (a < s .net .stations) → numberBy true (s .net .stations) a (stationIn s me .condition) ≡ (if not (ltb a (s .net .stations)) then 6 else (if not (isLive (holdingAt w a .condition)) then 7 else 0))
-        go (yes h) = simp (lt-ltb a (s .net .stations) h, condition-is h) (flip (isLive (stationIn s me .condition)))
-        go (no h) = let l = le-ltb a (s .net .stations) (omega arith) in simp l
-
--- ---- what a call read: the test's answer, the place, and the number
-pub record Read (s : State) (a : ℕ) (good : Bool) (me number : ℕ) : Type 0 where
-  pub tested : good ≡ stateHolds s
-  pub sized : good ≡ true → Sized s
-  pub place : me ≡ placeBy a
-  pub says : number ≡ numberBy good (s .net .stations) a (stationIn s me .condition)
+  pub report-is : reportIn (s .net) (stationIn s me .counters) me ≡ reportAt w a
+  unfolding reportIn reportAt
+  report-is = ap₂ (λ (n : Network) (l : List ℕ). report n me l) (sym (world-net s z t)) (sym (table-is s z t a me pe h)) ∙ ap (λ (k : ℕ). report (w .net) k (holdingAt w a .table)) (me-is s z t a me pe h)
 
 module _ {s : State} {a : ℕ} {good : Bool} {me number : ℕ} (r : Read s a good me number) where
-  holds : good ≡ true → T (stateHolds s)
-  holds p = is-T _ (sym (r .tested) ∙ p)
-
-  pub number-is : number ≡ numberOf s a
-  unfolding numberOf
-  number-is = r .says ∙ go good refl
-    where
-      go : (b : Bool) → good ≡ b → numberBy good (s .net .stations) a (stationIn s me .condition) ≡ (if stateHolds s then askRefusal (worldOf s) a else 11)
-      go true p =
-          ap (λ (b : Bool). numberBy b (s .net .stations) a (stationIn s me .condition)) p ∙ ask-is s (r .sized p) (holds p) a me (r .place)
-          ∙ ap (λ (b : Bool). if b then askRefusal (worldOf s) a else 11) (sym p ∙ r .tested)
-      go false p =
-          ap (λ (b : Bool). numberBy b (s .net .stations) a (stationIn s me .condition)) p
-          ∙ ap (λ (b : Bool). if b then askRefusal (worldOf s) a else 11) (sym p ∙ r .tested)
-
-  -- where no number refuses, the state is well formed and the station is there
+  -- where no number refuses
   module _ (q : number ≡ 0) where
-    pub is-good : good ≡ true
-    is-good = go good refl
-      where
-        go : (b : Bool) → good ≡ b → good ≡ true
-        go true p = p
-        go false p = let e : number ≡ 11 = r .says ∙ ap (λ (b : Bool). numberBy b (s .net .stations) a (stationIn s me .condition)) p in absurd (omega arith)
-
-    pub there : a < s .net .stations
-    there = go (decLt a (s .net .stations))
-      where
-        go : Dec (a < s .net .stations) → a < s .net .stations
-        go (yes h) = h
-        go (no h) =
-            let l = le-ltb a (s .net .stations) (omega arith) in
-            let e : number ≡ 6 = r .says ∙ simp (is-good, l) in
-            absurd (omega arith)
-
-    pub reach-read : reachedOf (s .net) (stationIn s me .counters) me ≡ reachAt (worldOf s) a
-    reach-read = reach-is s (r .sized is-good) (holds is-good) a me (r .place) there
-
     pub report-read : reportIn (s .net) (stationIn s me .counters) me ≡ reportAt (worldOf s) a
-    report-read = report-is s (r .sized is-good) (holds is-good) a me (r .place) there
+    report-read = report-is s (r .sized (is-good r q)) (holds r (is-good r q)) a me (r .place) (there r q)
 
-  -- ---- the reach
-  pub asked-is : (x : Reached) → x ≡ reachedBy number (s .net) (stationIn s me .counters) me → _≡_ {A = Asked} (record { answer = number; reached = x }) (askedOf s a)
-  unfolding askedOf
-  asked-is x e = go (ℕ-discrete number 0) ∙ ap answered number-is
-    where
-      answered : ℕ → Asked
-      answered n = if eqb n 0 then (record { answer = 0; reached = reachAt (worldOf s) a }) else (record { answer = n; reached = noReach })
-
-      go : Dec (number ≡ 0) → _≡_ {A = Asked} (record { answer = number; reached = x }) (answered number)
-      go (yes q) =
-          let b = eq-eqb number 0 q in
-          let y : x ≡ reachAt (worldOf s) a = e ∙ ap (λ (c : Bool). if c then reachedOf (s .net) (stationIn s me .counters) me else noReach) b ∙ reach-read q in
-          ap₂ (λ (n : ℕ) (v : Reached). record { answer = n; reached = v }) q y ∙ sym (ap (λ (c : Bool). if c then (record { answer = 0; reached = reachAt (worldOf s) a }) else (record { answer = number; reached = noReach })) b)
-      go (no q) =
-          let b = ne-eqb number 0 q in
-          let y : x ≡ noReach = e ∙ ap (λ (c : Bool). if c then reachedOf (s .net) (stationIn s me .counters) me else noReach) b in
-          ap (λ (v : Reached). record { answer = number; reached = v }) y ∙ sym (ap (λ (c : Bool). if c then (record { answer = 0; reached = reachAt (worldOf s) a }) else (record { answer = number; reached = noReach })) b)
-
-  -- ---- the report
   module _ (old : List ℕ) where
     abbrev new : List ℕ
     new = reportIn (s .net) (stationIn s me .counters) me
@@ -170,10 +52,10 @@ module _ {s : State} {a : ℕ} {good : Bool} {me number : ℕ} (r : Read s a goo
 
     pub answer-seen : (n : ℕ) → n ≡ withRoom number new old → n ≡ answerOf s a old
     unfolding answerOf
-    answer-seen n e = e ∙ over new (reportAt (worldOf s) a) report-read ∙ ap (λ (n : ℕ). withRoom n (reportAt (worldOf s) a) old) number-is
+    answer-seen n e = e ∙ over new (reportAt (worldOf s) a) report-read ∙ ap (λ (n : ℕ). withRoom n (reportAt (worldOf s) a) old) (number-is r)
 
     pub output-seen : (out : List ℕ) → out ≡ writtenOver (withRoom number new old) new old → out ≡ outputOf s a old
     unfolding answerOf outputOf
     output-seen out e =
         e ∙ over-bytes new (reportAt (worldOf s) a) report-read
-        ∙ ap (λ (n : ℕ). writtenOver (withRoom n (reportAt (worldOf s) a) old) (reportAt (worldOf s) a) old) number-is
+        ∙ ap (λ (n : ℕ). writtenOver (withRoom n (reportAt (worldOf s) a) old) (reportAt (worldOf s) a) old) (number-is r)

@@ -1,6 +1,5 @@
-pub mod Helpers
 pub mod Output
 pub mod Known
 pub mod Refusals
 pub mod Shown
-pub mod WordShown
+pub mod SameBits

@@ -1,5 +1,5 @@
 -- What an accepted report shows, over its bytes: a station is shown as working exactly if a path of links with even counters
--- leads to it in the asker's own table. For every state, station and lent output. The reach word: WordShown.antt.
+-- leads to it in the asker's own table. For every state, station and lent output. The reach word: reaching, WordShown.antt.
 -- Assumes nothing.
 use Prim.Native.Nat.{ℕ, _+_, _≤_, _<_}
 use mathlib.Core.Bool.{Bool}
@@ -16,27 +16,20 @@ use Rattle.net.specs.Network.{Network, ends}
 use Rattle.net.specs.Values.{networkOf}
 use Rattle.counters.specs.Counters.{even, odd}
 use Rattle.reach.specs.Reach.{counterIn, worksIn, Reaches}
-use Rattle.reach.specs.Values.{tableOf}
 use Rattle.world.specs.World.{holdingAt, reportAt}
 use Rattle.world.proofs.Reports as R
 use Rattle.state.specs.declared.State.{State}
-use Rattle.state.specs.State.{stationIn, worldOf}
+use Rattle.state.specs.State.{worldOf}
+use Rattle.asking.proofs.Refusals.{Asks, net-is, table-is, stations-are, links-are}
+use Rattle.reaching.proofs.WordShown.{ownTable, PathTo}
 use Rattle.reports.specs.Answers.{answerOf, outputOf}
-use Rattle.reports.proofs.Refusals.{Asks, size, net-is, table-is, stations-are, links-are, report-size, accepted-when}
+use Rattle.reports.proofs.Refusals.{size, report-size, accepted-when}
 
 -- ---- the words of the theorem
 module _ (s : State) (a : ℕ) where
-  -- the counters that station a itself has, one for each link
-  abbrev pub ownTable : List ℕ
-  ownTable = tableOf (s .net) (stationIn s a .counters)
-
-  -- a path of links with even counters in its own table leads from a to t
-  abbrev pub PathTo : ℕ → Type 0
-  PathTo t = Reaches (networkOf (s .net)) (worksIn ownTable) a t
-
   -- an end of the link k is reached
   abbrev pub EndReached : ℕ → Type 0
-  EndReached k = PathTo (ends (networkOf (s .net)) k .low) ⊎ PathTo (ends (networkOf (s .net)) k .high)
+  EndReached k = PathTo s a (ends (networkOf (s .net)) k .low) ⊎ PathTo s a (ends (networkOf (s .net)) k .high)
 
 -- what the output shows after the call, byte by byte
 pub record Shown (s : State) (a : ℕ) (old out : List ℕ) : Type 0 where

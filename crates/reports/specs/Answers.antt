@@ -1,29 +1,14 @@
--- What the two calls answer, in the world's words: the reach, and the reach report as bytes. Document 01, "The reach report"
+-- What the call answers, in the world's words: the reach report as bytes. Document 01, "The reach report"
 -- and "The numbers that say no". Assumes nothing.
 use Prim.Native.Nat.{ℕ}
 use mathlib.Core.List.{List, _++_}
 use lib.Dec.{eqb, ltb}
 use lib.ListN.{length, drop}
 use Rattle.lists.specs.Lists.{if_then_else_}
-use Rattle.showing.specs.declared.Reached.{Reached}
-use Rattle.world.specs.World.{askRefusal, reportAt, reachAt}
+use Rattle.world.specs.World.{reportAt}
 use Rattle.state.specs.declared.State.{State}
-use Rattle.state.specs.State.{worldOf, stateHolds}
-use Rattle.reports.specs.declared.Asked.{Asked}
-
--- 11 where the state isn't well formed, then 6 for no such station, 7 for one that isn't live
-unfoldable pub numberOf : State → ℕ → ℕ
-numberOf s a = if stateHolds s then askRefusal (worldOf s) a else 11
-
--- ---- the reach
--- beside a refusal there is none
-abbrev pub noReach : Reached
-noReach = record { word = 0; ones = 0; lowest = 0 }
-
-unfoldable pub askedOf : State → ℕ → Asked
-askedOf s a =
-    if eqb (numberOf s a) 0 then (record { answer = 0; reached = reachAt (worldOf s) a })
-    else (record { answer = numberOf s a; reached = noReach })
+use Rattle.state.specs.State.{worldOf}
+use Rattle.asking.specs.Asking.{numberOf}
 
 -- ---- bytes for a lent output that no number refuses yet: 10 where it is too short
 abbrev pub withRoom : ℕ → List ℕ → List ℕ → ℕ

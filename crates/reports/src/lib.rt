@@ -1,77 +1,15 @@
-// What a live station can be asked: its reach, and the reach report as bytes. Each call reads the state it is given and
-// changes nothing of it. Only the two public functions hold a state: what answers for them takes the network and one table.
+// The reach report of a live station, as bytes. The call reads the state it is given and changes nothing of it. Only the public
+// function holds a state: what answers for it takes the network and one table.
 ghost use mathlib.Core.Path.{_≡_};
-ghost use mathlib.Core.Bool.{Bool};
 ghost use Prim.Native.Nat.{_+_, _<_, _≤_, min};
 ghost use lib.ListN.{length};
 ghost use Rattle.lists.specs.Lists.{filled};
 ghost use Rattle.lists.specs.Words.{bitAt};
-ghost use Rattle.reports.specs.Answers.{askedOf, answerOf, outputOf, withRoom, writtenOver};
-ghost use Rattle.reports.specs.Steps.{placeBy, numberBy, reachedBy, reportIn, linkShown};
+ghost use Rattle.reports.specs.Answers.{answerOf, outputOf, withRoom, writtenOver};
+ghost use Rattle.reports.specs.Steps.{reportIn, linkShown};
 use counters::Counters;
 use net::Net;
-use showing::Reached;
 use state::State;
-use station::Condition;
-
-// A number, and on 0 the reach. A refusal has none: the three numbers beside it are then 0.
-pub struct Asked {
-    pub answer: u8,
-    pub reached: Reached,
-}
-
-// The place of the station that a names, where there is one.
-fn place_of(a: u32) -> u8
-    ensures { λ r. ⌜ r ≡ placeBy a ⌝ }
-{
-    if a < 32 { a as u8 } else { 0 }
-}
-
-// 11 for a state that isn't well formed, 6 for no such station, 7 for one that isn't live, else 0.
-fn number_of(good: bool, stations: u8, a: u32, condition: Condition) -> u8
-    ensures { λ r. ⌜ r ≡ numberBy good stations a condition ⌝ }
-{
-    if !good {
-        return 11;
-    }
-    if stations as u32 <= a {
-        return 6;
-    }
-    if station::is_live(condition) { 0 } else { 7 }
-}
-
-// ---- the reach
-
-fn reached_by(number: u8, net: Net, counters: Counters, me: u8) -> Reached
-    ensures { λ r. ⌜ r ≡ reachedBy number net counters me ⌝ }
-{
-    if number != 0 {
-        return Reached {
-            word: 0,
-            ones: 0,
-            lowest: 0,
-        };
-    }
-    showing::reach_of(net, counters, me)
-}
-
-// The reach of station a by its own table. Refusals in their order: 11, 6, 7.
-pub fn reach(s: State, a: u32) -> Asked
-    ensures { λ r. ⌜ r ≡ askedOf s a ⌝ }
-{
-    let good = state::well_formed(s);
-    let net = s.net;
-    let me = place_of(a);
-    let at = me as usize;
-    let st = s.stations[at];
-    let condition = st.condition;
-    let counters = st.counters;
-    let answer = number_of(good, net.stations, a, condition);
-    let reached = reached_by(answer, net, counters, me);
-    Asked { answer, reached }
-}
-
-// ---- the report
 
 fn at_most(x: u8, most: u8) -> u8
     ensures { λ r. ⌜ r ≡ min x most ⌝ }
@@ -136,11 +74,11 @@ pub fn report(s: State, a: u32, out: &mut [u8]) -> u8
 {
     let good = state::well_formed(s);
     let net = s.net;
-    let who = place_of(a);
+    let who = asking::place_of(a);
     let at = who as usize;
     let st = s.stations[at];
     let condition = st.condition;
     let counters = st.counters;
-    let number = number_of(good, net.stations, a, condition);
+    let number = asking::number_of(good, net.stations, a, condition);
     written(number, net, counters, who, out)
 }

@@ -25,8 +25,9 @@ use Rattle.sheet.proofs.ValueLaws.{value-means, value-holds}
 use Rattle.world.specs.World.{World, fresh}
 use Rattle.world.proofs.Keeps.{fresh-formed}
 use Rattle.state.specs.declared.State.{State}
-use Rattle.state.specs.declared.Begun.{Begun}
-use Rattle.state.specs.State.{stateOf, Ends64, begunOf}
+use Rattle.state.specs.State.{stateOf, Ends64}
+use Rattle.beginning.specs.declared.Begun.{Begun}
+use Rattle.beginning.specs.Beginning.{begunOf}
 use Rattle.laws.proofs.Tallies.{Fits}
 use Rattle.begun.specs.Begun.{isBegun}
 use Rattle.console.specs.Sheets.{fileSheet, openedBy, refusalText}

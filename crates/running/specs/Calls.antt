@@ -7,7 +7,7 @@ use lib.Dec.{eqb}
 use Rattle.lists.specs.Lists.{if_then_else_}
 use Rattle.lines.specs.Steps.{start, readOn, lineEnd}
 use Rattle.state.specs.declared.State.{State}
-use Rattle.state.specs.State.{begunOf}
+use Rattle.beginning.specs.Beginning.{begunOf}
 use Rattle.console.specs.declared.Opened.{Opened}
 use Rattle.console.specs.Sheets.{fileSheet, openedBy, refusalText}
 use Rattle.begun.specs.Begun.{isBegun}

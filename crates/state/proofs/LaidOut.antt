@@ -20,15 +20,15 @@ use Rattle.net.specs.declared.Net.{Net}
 use Rattle.net.specs.Network.{Network}
 use Rattle.net.specs.Letters.{letterHolds}
 use Rattle.net.specs.Values.{networkOf, linkCount, netHolds}
-use Rattle.net.proofs.Good.{few-stations, sheet-good}
+use Rattle.net.proofs.Good.{few-stations}
 use Rattle.net.proofs.ValueLaws.{stations-of, links-of}
 use Rattle.station.specs.declared.Station.{Station}
 use Rattle.station.specs.Holding.{Holding, holdingHolds}
 use Rattle.station.specs.Values.{holdingOf, laid, blank}
 use Rattle.station.proofs.HoldingLaws as Slots
 use Rattle.formed.specs.Formed.{stationFormed}
-use Rattle.world.specs.World.{World, nobody, noLetter, holdingAt, fresh}
-use Rattle.world.proofs.Keeps.{Formed, fresh-formed}
+use Rattle.world.specs.World.{World, nobody, noLetter, holdingAt}
+use Rattle.world.proofs.Keeps.{Formed}
 use Rattle.state.specs.declared.State.{State}
 use Rattle.state.specs.State.{beyond, stationIn, letterIn, worldOf, stateOf, isBlank, isNoLetter, stationPlace, letterPlace, stationsHold, lettersHold, stateHolds, Fits, Ends64, Sized}
 use Rattle.state.proofs.StationRoom.{Spare, spare-formed, fits-laid, laid-spare, holding-laid, is-blank, fits-blank}
@@ -169,21 +169,3 @@ module _ (net : Net) (w : World) (n : T (netHolds net)) (e : networkOf net ≡ w
     where
       few-is : min (net .stations) 32 ≡ length laidAll
       few-is = omega (arith, few, laid-count)
-
--- ---- a freshly read sheet's state
-module _ (net : Net) (n : T (netHolds net)) where
-  fresh-net : networkOf net ≡ fresh (networkOf net) .net
-  unfolding fresh
-  fresh-net = refl
-
-  abbrev first : State
-  first = stateOf net (fresh (networkOf net))
-
-  pub first-sized : Ends64 net → Sized first
-  first-sized = laid-sized net (fresh (networkOf net)) n fresh-net (fresh-formed (networkOf net) (sheet-good net n))
-
-  pub first-holds : T (stateHolds first)
-  first-holds = laid-holds net (fresh (networkOf net)) n fresh-net (fresh-formed (networkOf net) (sheet-good net n))
-
-  pub first-means : worldOf first ≡ fresh (networkOf net)
-  first-means = laid-means net (fresh (networkOf net)) n fresh-net (fresh-formed (networkOf net) (sheet-good net n))

@@ -1,6 +1,5 @@
 pub mod Places
 pub mod Tested
-pub mod Begin
 pub mod StationRoom
 pub mod Meaning
 pub mod LaidOut

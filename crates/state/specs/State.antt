@@ -5,7 +5,7 @@ use mathlib.Core.Bool.{Bool, true, false, _&&_}
 use mathlib.Core.Path.{_≡_}
 use mathlib.Core.List.{[], map}
 use lib.Dec.{leb, ltb}
-use lib.ListN.{length, getD, take, replicate}
+use lib.ListN.{length, getD, take}
 use Rattle.lists.specs.Lists.{if_then_else_, every, below}
 use Rattle.lists.specs.Places.{roomed}
 use Rattle.net.specs.declared.Body.{Body}
@@ -20,9 +20,8 @@ use Rattle.station.specs.declared.Condition.the-variants.{Down}
 use Rattle.station.specs.Holding.{isDown}
 use Rattle.station.specs.Values.{holdingOf, laid, blank, noWords}
 use Rattle.formed.specs.Formed.{stationFormed}
-use Rattle.world.specs.World.{World, noLetter, fresh}
+use Rattle.world.specs.World.{World, noLetter}
 use Rattle.state.specs.declared.State.{State}
-use Rattle.state.specs.declared.Begun.{Begun}
 
 -- beyond the 32 places there is nothing
 abbrev pub beyond : Station
@@ -106,10 +105,3 @@ pub record Sized (s : State) : Type 0 where
   pub stations : length (s .stations) ≡ 32
   pub letters : length (s .letters) ≡ 4096
   pub each : (i : ℕ) → i < 32 → Fits (stationIn s i)
-
--- ---- right after reading a sheet; for a bad network 11, with room that is zero beside it: no well-formed state
-unfoldable pub unread : Net → State
-unread net = record { net = net; flying = 0; stations = replicate 32 blank; letters = replicate 4096 noLetter }
-
-unfoldable pub begunOf : Net → Begun
-begunOf net = if netHolds net then (record { answer = 0; state = stateOf net (fresh (networkOf net)) }) else (record { answer = 11; state = unread net })

@@ -1,16 +1,11 @@
-// The whole network as one value: what every station holds and the letters in flight. Its test (11), and the state right
-// after a sheet is read.
+// The whole network as one value: what every station holds and the letters in flight, and its test (11).
 ghost use mathlib.Core.Path.{_≡_};
 ghost use mathlib.Core.Bool.{true, _&&_};
-ghost use Prim.Native.Nat.{_<_, min};
+ghost use Prim.Native.Nat.{min};
 ghost use lib.Dec.{leb};
-ghost use lib.ListN.{length, replicate};
-ghost use Rattle.lists.specs.Lists.{every};
-ghost use Rattle.net.specs.Values.{isZero, netHolds};
+ghost use Rattle.net.specs.Values.{netHolds};
 ghost use Rattle.station.specs.Holding.{isDown};
-ghost use Rattle.station.specs.Values.{blank};
-ghost use Rattle.world.specs.World.{noLetter};
-ghost use Rattle.state.specs.State.{isRequest, isBlank, isNoLetter, noWord, stationPlace, stateHolds, Fits, Sized, begunOf};
+ghost use Rattle.state.specs.State.{isRequest, isBlank, isNoLetter, noWord, stationPlace, stateHolds, Fits, Sized};
 use marks::Words;
 use net::Body;
 use net::Letter;
@@ -24,12 +19,6 @@ pub struct State {
     pub flying: u16,
     pub stations: [Station; 32],
     pub letters: [Letter; 4096],
-}
-
-// A state just made, or the number that says no.
-pub struct Begun {
-    pub answer: u8,
-    pub state: State,
 }
 
 // ---- the test
@@ -151,68 +140,4 @@ pub fn well_formed(s: State) -> bool
         clean = still_zero(clean, x);
     }
     clean
-}
-
-// ---- right after reading a sheet
-
-fn no_station() -> Station
-    ensures { λ r. ⌜ r ≡ blank ⌝ }
-{
-    Station {
-        condition: Condition::Down,
-        counters: [0u16; 64],
-        marks: Words {
-            token: 0,
-            turn: 0,
-            testing: 0,
-            asked: 0,
-            quiet: 0,
-        },
-    }
-}
-
-fn no_letter() -> Letter
-    ensures { λ r. ⌜ r ≡ noLetter ⌝ }
-{
-    Letter {
-        link: 0,
-        sender: 0,
-        body: Body::Request,
-    }
-}
-
-// The state with every station down and no letter in flight; 11 for a bad network, with a state that no call accepts.
-pub fn fresh(net: Net) -> Begun
-    ensures { λ r. ⌜ r ≡ begunOf net ⌝ }
-{
-    let nobody = no_station();
-    let mut stations = [nobody; 32];
-    let unused = no_letter();
-    let letters = [unused; 4096];
-    if !net::keeps_sheet_rules(net) {
-        return Begun {
-            answer: 11,
-            state: State {
-                net,
-                flying: 0,
-                stations,
-                letters,
-            },
-        };
-    }
-    let down = changing::stop(net);
-    let n = net.stations;
-    for i in 0..n {
-        let at = i as usize;
-        stations[at] = down;
-    }
-    Begun {
-        answer: 0,
-        state: State {
-            net,
-            flying: 0, // no letter
-            stations,
-            letters,
-        },
-    }
 }

@@ -1,4 +1,4 @@
-use Rattle.reports.proofs.Helpers.{place-there, place-past}
+use Rattle.asking.proofs.Helpers.{place-there, place-past}
 use borrow.Author.Needs.{needs}
 use Rattle.paging.proofs.place_of.Statement.{statement}
 use Rattle.paging.proofs.place_of.Tie as tie

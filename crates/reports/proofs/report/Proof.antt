@@ -1,7 +1,8 @@
 use denote.Ref.{now}
 use borrow.Author.Needs.{needs}
-use Rattle.reports.proofs.Helpers.{place-few}
-use Rattle.reports.proofs.Known.{Read, answer-seen, output-seen}
+use Rattle.asking.proofs.Helpers.{place-few}
+use Rattle.asking.proofs.Known.{Read}
+use Rattle.reports.proofs.Known.{answer-seen, output-seen}
 use Rattle.reports.proofs.report.Statement.{statement}
 use Rattle.reports.proofs.report.Tie as tie
 

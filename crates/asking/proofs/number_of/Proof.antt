@@ -1,8 +1,8 @@
 use borrow.Author.Needs.{needs}
 use borrow.Author.Tests.{not-true, not-false}
-use Rattle.reports.proofs.Helpers.{number-bad, number-six, number-live, number-seven}
-use Rattle.reports.proofs.number_of.Statement.{statement}
-use Rattle.reports.proofs.number_of.Tie as tie
+use Rattle.asking.proofs.Helpers.{number-bad, number-six, number-live, number-seven}
+use Rattle.asking.proofs.number_of.Statement.{statement}
+use Rattle.asking.proofs.number_of.Tie as tie
 
 returns : tie.Need-returns
 returns c = let a = c .before .args in number-bad (a .good) (a .stations) (a .a) (a .condition) (not-true _ (c .if1 .taken))

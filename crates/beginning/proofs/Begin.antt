@@ -21,9 +21,10 @@ use Rattle.station.specs.Holding.{Holding}
 use Rattle.station.specs.Acts.{stopped}
 use Rattle.station.specs.Values.{laid, blank}
 use Rattle.world.specs.World.{World, noLetter, fresh}
 use Rattle.state.specs.declared.State.{State}
-use Rattle.state.specs.declared.Begun.{Begun}
-use Rattle.state.specs.State.{stateOf, unread, begunOf}
+use Rattle.beginning.specs.declared.Begun.{Begun}
+use Rattle.state.specs.State.{stateOf}
+use Rattle.beginning.specs.Beginning.{unread, begunOf}
 
 module _ (net : Net) (r : Bool) (e : r ≡ netHolds net) where
   pub good-stations : r ≡ true → net .stations ≤ 32

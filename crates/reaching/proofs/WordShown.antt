@@ -1,20 +1,19 @@
--- The same of the reach: its word's bits say which stations a path leads to, and its two numbers are the word's. For every
--- state and station; where the report is given too, its bytes are the word's bits. Assumes nothing.
+-- What an accepted reach says: its word's bits say which stations a path leads to, and its two numbers are the word's. For every
+-- state and station. That the report's bytes are the word's bits: reports, SameBits.antt. Assumes nothing.
 use Prim.Native.Nat.{ℕ, _<_}
-use mathlib.Core.Bool.{Bool, true, false}
-use mathlib.Core.Path.{_≡_, refl, sym, ap, ap₂, _∙_, subst, subst⁻¹}
+use mathlib.Core.Bool.{Bool}
+use mathlib.Core.Path.{_≡_, sym, ap, ap₂, _∙_, subst, subst⁻¹}
 use mathlib.Core.Logic.{_⊎_, inl, inr, ⊎-elim, _↔_}
 use mathlib.Core.List.{List}
 use native.Mathlib.Decide.{ℕ-discrete}
 use native.Mathlib.Omega.{arith}
 use borrow.Author.Tests.{eq-eqb, ne-eqb}
-use lib.ListN.{getD}
 use Rattle.lists.specs.Lists.{if_then_else_}
-use Rattle.lists.specs.Words.{bitAt, inWord, wordOf}
-use Rattle.lists.proofs.Words.{in-is-one, out-is-zero}
+use Rattle.lists.specs.Words.{bitAt, wordOf}
 use Rattle.net.specs.Network.{Network}
 use Rattle.net.specs.Values.{networkOf}
 use Rattle.reach.specs.Reach.{worksIn, Reaches, reach, countOf, lowestOf}
+use Rattle.reach.specs.Values.{tableOf}
 use Rattle.reach.proofs.Word.{word-bit}
 use Rattle.showing.specs.declared.Reached.{Reached}
 use Rattle.showing.specs.Values.{reachedOf, onesOf}
@@ -23,10 +22,20 @@ use Rattle.world.specs.World.{holdingAt, reachAt}
 use Rattle.world.proofs.Reports as R
 use Rattle.state.specs.declared.State.{State}
 use Rattle.state.specs.State.{stationIn, worldOf}
-use Rattle.reports.specs.declared.Asked.{Asked}
-use Rattle.reports.specs.Answers.{numberOf, noReach, askedOf, answerOf, outputOf}
-use Rattle.reports.proofs.Refusals.{Asks, none, why-number, asks, net-is, stations-are, table-is, accepted-when}
-use Rattle.reports.proofs.Shown.{ownTable, PathTo, Shown, shown}
+use Rattle.asking.specs.Asking.{numberOf}
+use Rattle.asking.proofs.Refusals.{Asks, none, why-number, asks, net-is, stations-are, table-is}
+use Rattle.reaching.specs.declared.Asked.{Asked}
+use Rattle.reaching.specs.Answers.{noReach, askedOf}
+
+-- ---- the words of the theorem
+module _ (s : State) (a : ℕ) where
+  -- the counters that station a itself has, one for each link
+  abbrev pub ownTable : List ℕ
+  ownTable = tableOf (s .net) (stationIn s a .counters)
+
+  -- a path of links with even counters in its own table leads from a to t
+  abbrev pub PathTo : ℕ → Type 0
+  PathTo t = Reaches (networkOf (s .net)) (worksIn ownTable) a t
 
 -- the lowest station that no path leads to
 pub record Lowest (s : State) (a z : ℕ) : Type 0 where
@@ -104,20 +113,3 @@ module _ (s : State) (a : ℕ) where
           subst⁻¹ (λ (r : Reached). ((r .lowest ≡ 255) × ((t : ℕ) → t < s .net .stations → PathTo s a t)) ⊎ Lowest s a (r .lowest))
           (ap (λ (x : Asked). x .reached) (asked-zero (sym answer-number ∙ q))) lowest-is;
     }
-
-  -- the report's bytes of the stations are the bits of the word
-  pub same-bits : (old : List ℕ) → answerOf s a old ≡ 0 → (t : ℕ) → t < s .net .stations → getD (outputOf s a old) t 0 ≡ bitAt (askedOf s a .reached .word) t
-  same-bits old q t h = go (inWord word t) refl
-    where
-      word : ℕ
-      word = askedOf s a .reached .word
-
-      bits : (bitAt word t ≡ 1) ↔ PathTo s a t
-      bits = word-shown (given-when .1 (accepted-when s a old .0 q .0)) .bits t
-
-      bytes : Shown s a old (outputOf s a old)
-      bytes = shown s a old q
-
-      go : (b : Bool) → inWord word t ≡ b → getD (outputOf s a old) t 0 ≡ bitAt word t
-      go true e = let o = in-is-one word t e in bytes .working t h .1 (bits .0 o) ∙ sym o
-      go false e = let z = out-is-zero word t e in bytes .unreachable t h .1 (λ r. omega (arith, bits .1 r, z)) ∙ sym z

@@ -1,7 +1,7 @@
 use borrow.Author.Needs.{needs}
-use Rattle.reports.proofs.Helpers.{place-there, place-past}
-use Rattle.reports.proofs.place_of.Statement.{statement}
-use Rattle.reports.proofs.place_of.Tie as tie
+use Rattle.asking.proofs.Helpers.{place-there, place-past}
+use Rattle.asking.proofs.place_of.Statement.{statement}
+use Rattle.asking.proofs.place_of.Tie as tie
 
 cast-result : tie.Need-cast-result
 cast-result c = search needs

@@ -1,7 +1,7 @@
 use mathlib.Core.Path.{refl}
 use Rattle.station.specs.Values.{blank}
-use Rattle.state.proofs.no_station.Statement.{statement}
-use Rattle.state.proofs.no_station.Tie as tie
+use Rattle.beginning.proofs.no_station.Statement.{statement}
+use Rattle.beginning.proofs.no_station.Tie as tie
 
 returns : tie.Need-returns
 unfolding blank

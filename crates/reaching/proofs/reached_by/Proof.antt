@@ -1,7 +1,7 @@
 use borrow.Author.Needs.{needs}
-use Rattle.reports.proofs.Helpers.{reached-none, reached-some}
-use Rattle.reports.proofs.reached_by.Statement.{statement}
-use Rattle.reports.proofs.reached_by.Tie as tie
+use Rattle.reaching.proofs.Helpers.{reached-none, reached-some}
+use Rattle.reaching.proofs.reached_by.Statement.{statement}
+use Rattle.reaching.proofs.reached_by.Tie as tie
 
 returns : tie.Need-returns
 returns c = let a = c .before .args in reached-none (a .number) (a .net) (a .counters) (a .me) (c .if1 .taken)

@@ -2,19 +2,14 @@
 use Prim.Native.Nat.{ℕ, _≤_, _<_}
 use mathlib.Core.Bool.{Bool, true, false}
 use mathlib.Core.Path.{_≡_, sym, ap, _∙_, subst⁻¹}
-use mathlib.Core.List.{List}
 use native.Mathlib.Omega.{arith}
 use lib.Dec.{ltb, ltb→lt}
-use borrow.Author.Tests.{eq-eqb, ne-eqb, lt-ltb, le-ltb}
+use borrow.Author.Tests.{lt-ltb, le-ltb}
 use Rattle.lists.specs.Lists.{if_then_else_}
 use Rattle.lists.proofs.Tests.{if-elim}
-use Rattle.net.specs.declared.Net.{Net}
-use Rattle.showing.specs.declared.Reached.{Reached}
-use Rattle.showing.specs.Values.{reachedOf}
 use Rattle.station.specs.declared.Condition.{Condition}
 use Rattle.station.specs.Holding.{isLive}
-use Rattle.reports.specs.Answers.{noReach}
-use Rattle.reports.specs.Steps.{placeBy, numberBy, reachedBy}
+use Rattle.asking.specs.Asking.{placeBy, numberBy}
 
 -- ---- the place
 pub place-there : (a : ℕ) → a < 32 → a ≡ placeBy a
@@ -39,11 +34,3 @@ module _ (good : Bool) (stations a : ℕ) (x : Condition) where
 
   pub number-seven : (r : Bool) → r ≡ isLive x → r ≡ false → good ≡ true → a < stations → 7 ≡ numberBy good stations a x
   number-seven r p q e h = let l : isLive x ≡ false = sym p ∙ q in simp (e, lt-ltb a stations h, l)
-
--- ---- the reach, where no number refuses it
-module _ (number : ℕ) (net : Net) (counters : List ℕ) (s : ℕ) where
-  pub reached-none : (number ≡ 0 → ⊥) → noReach ≡ reachedBy number net counters s
-  reached-none h = sym (ap (λ (b : Bool). if b then reachedOf net counters s else noReach) (ne-eqb number 0 h))
-
-  pub reached-some : (r : Reached) → r ≡ reachedOf net counters s → number ≡ 0 → r ≡ reachedBy number net counters s
-  reached-some r p h = p ∙ sym (ap (λ (b : Bool). if b then reachedOf net counters s else noReach) (eq-eqb number 0 h))

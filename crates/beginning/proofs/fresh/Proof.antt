@@ -8,9 +8,9 @@ use borrow.Author.Tests.{not-true, not-false}
 use Rattle.lists.specs.Lists.{filled}
 use Rattle.lists.proofs.Fill.{filled-more}
 use Rattle.station.specs.declared.Station.{Station}
-use Rattle.state.proofs.Begin.{good-stations, begun-bad, begun-good}
-use Rattle.state.proofs.fresh.Statement.{statement}
-use Rattle.state.proofs.fresh.Tie as tie
+use Rattle.beginning.proofs.Begin.{good-stations, begun-bad, begun-good}
+use Rattle.beginning.proofs.fresh.Statement.{statement}
+use Rattle.beginning.proofs.fresh.Tie as tie
 
 abbrev Inv-loop : tie.InvT-loop
 Inv-loop net stations₀ letters down n i₀ stations i = (i ≤ n) × (stations ≡ filled (λ (t : ℕ). down) stations₀ i)

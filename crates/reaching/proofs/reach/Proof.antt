@@ -1,8 +1,9 @@
 use borrow.Author.Needs.{needs}
-use Rattle.reports.proofs.Helpers.{place-few}
-use Rattle.reports.proofs.Known.{Read, asked-is}
-use Rattle.reports.proofs.reach.Statement.{statement}
-use Rattle.reports.proofs.reach.Tie as tie
+use Rattle.asking.proofs.Helpers.{place-few}
+use Rattle.asking.proofs.Known.{Read}
+use Rattle.reaching.proofs.Known.{asked-is}
+use Rattle.reaching.proofs.reach.Statement.{statement}
+use Rattle.reaching.proofs.reach.Tie as tie
 
 well-formed-requires : tie.Need-well-formed-requires
 well-formed-requires c κs = search needs

@@ -1,0 +1,3 @@
+pub mod Helpers
+pub mod Known
+pub mod WordShown
