@@ -2,47 +2,36 @@
 use Prim.Native.Nat.{ℕ, _≤_, _<_}
 use mathlib.Core.Bool.{Bool, true, false, _&&_, _||_}
 use mathlib.Core.Path.{_≡_, refl, sym, ap, ap₂, _∙_}
-use lib.Dec.{eqb, leb, ltb}
+use lib.Dec.{eqb, ltb}
 use lib.ListN.{getD}
-use borrow.Author.Tests.{lt-ltb, le-ltb, le-leb}
-use Rattle.lists.proofs.Tests.{and-yes, and-no}
-use Rattle.net.specs.declared.Body.{Body}
-use Rattle.net.specs.declared.Body.the-variants.{Request, Reply, Notice}
+use borrow.Author.Tests.{lt-ltb, le-ltb}
+use Rattle.lists.proofs.Tests.{and-no}
 use Rattle.net.specs.declared.Letter.{Letter}
 use Rattle.net.specs.declared.Net.{Net}
 use Rattle.net.specs.Network.{isEnd}
-use Rattle.net.specs.Letters.{isCounter, bodyHolds, letterHolds}
-use Rattle.net.specs.Values.{networkOf, linkCount}
+use Rattle.net.specs.Letters.{letterHolds}
+use Rattle.net.specs.Values.{networkOf, linkCount, bodyTest}
 use Rattle.net.proofs.ValueLaws.{links-of}
+use Rattle.net.proofs.Bodies.{body-is}
 use Rattle.marks.proofs.OwnLinks.{own-read}
-use Rattle.carried.specs.Carried.{bodyTest, letterTest}
+use Rattle.carried.specs.Carried.{letterTest}
 
--- a number of 16 bits is a counter if it is no 0
-pub counter-is : (c : ℕ) → c ≤ 65535 → leb 1 c ≡ isCounter c
-counter-is c h = sym (and-yes (leb 1 c)) ∙ ap (λ (b : Bool). leb 1 c && b) (sym (le-leb c 65535 h))
+module _ (net : Net) (x : Letter) where
+  parts : letterHolds (networkOf net) x ≡ ((ltb (x .link) (linkCount net) && isEnd (networkOf net) (x .link) (x .sender)) && bodyTest (linkCount net) (x .body))
+  unfolding letterHolds
+  parts =
+      ap₂ (λ (n : ℕ) (b : Bool). (ltb (x .link) n && isEnd (networkOf net) (x .link) (x .sender)) && b) (links-of net) (sym (body-is net (x .body)))
 
-module _ (net : Net) where
-  body-is : (b : Body) → bodyTest (linkCount net) b ≡ bodyHolds (networkOf net) b
-  body-is Request = refl
-  body-is (Reply c) = refl
-  body-is (Notice j c) = ap (λ (n : ℕ). ltb j n && isCounter c) (sym (links-of net))
+  -- with the ends of its link
+  pub letter-is : x .link < linkCount net → letterTest (linkCount net) (getD (net .low) (x .link) 0) (getD (net .high) (x .link) 0) x ≡ letterHolds (networkOf net) x
+  letter-is h =
+      ap (λ (b : Bool). (ltb (x .link) (linkCount net) && b) && bodyTest (linkCount net) (x .body)) (own-read net (x .sender) (x .link) _ h refl) ∙ sym parts
 
-  module _ (x : Letter) where
-    parts : letterHolds (networkOf net) x ≡ ((ltb (x .link) (linkCount net) && isEnd (networkOf net) (x .link) (x .sender)) && bodyTest (linkCount net) (x .body))
-    unfolding letterHolds
-    parts =
-        ap₂ (λ (n : ℕ) (b : Bool). (ltb (x .link) n && isEnd (networkOf net) (x .link) (x .sender)) && b) (links-of net) (sym (body-is (x .body)))
-
-    -- with the ends of its link
-    pub letter-is : x .link < linkCount net → letterTest (linkCount net) (getD (net .low) (x .link) 0) (getD (net .high) (x .link) 0) x ≡ letterHolds (networkOf net) x
-    letter-is h =
-        ap (λ (b : Bool). (ltb (x .link) (linkCount net) && b) && bodyTest (linkCount net) (x .body)) (own-read net (x .sender) (x .link) _ h refl) ∙ sym parts
-
-    -- a link that is not there: whatever the ends
-    pub letter-past : (low high : ℕ) → linkCount net ≤ x .link → letterTest (linkCount net) low high x ≡ letterHolds (networkOf net) x
-    letter-past low high h =
-        ap (λ (b : Bool). (b && (eqb low (x .sender) || eqb high (x .sender))) && bodyTest (linkCount net) (x .body)) (le-ltb (x .link) (linkCount net) h)
-        ∙ sym (parts ∙ ap (λ (b : Bool). (b && isEnd (networkOf net) (x .link) (x .sender)) && bodyTest (linkCount net) (x .body)) (le-ltb (x .link) (linkCount net) h))
+  -- a link that is not there: whatever the ends
+  pub letter-past : (low high : ℕ) → linkCount net ≤ x .link → letterTest (linkCount net) low high x ≡ letterHolds (networkOf net) x
+  letter-past low high h =
+      ap (λ (b : Bool). (b && (eqb low (x .sender) || eqb high (x .sender))) && bodyTest (linkCount net) (x .body)) (le-ltb (x .link) (linkCount net) h)
+      ∙ sym (parts ∙ ap (λ (b : Bool). (b && isEnd (networkOf net) (x .link) (x .sender)) && bodyTest (linkCount net) (x .body)) (le-ltb (x .link) (linkCount net) h))
 
 -- ---- the code's order
 module _ (links low high : ℕ) (x : Letter) where

@@ -3,8 +3,7 @@ ghost use mathlib.Core.Path.{_≡_};
 ghost use mathlib.Core.Bool.{_||_};
 ghost use lib.Dec.{eqb};
 ghost use Rattle.net.specs.Letters.{isCounter};
-ghost use Rattle.carried.specs.Carried.{bodyTest, letterTest};
-use net::Body;
+ghost use Rattle.carried.specs.Carried.{letterTest};
 use net::Letter;
 
 fn ends_at(low: u8, high: u8, s: u16) -> bool
@@ -23,17 +22,6 @@ pub fn counter_holds(c: u16) -> bool
     1 <= c
 }
 
-// Whether what a letter says fits a network of so many links.
-fn body_formed(links: u8, body: Body) -> bool
-    ensures { λ r. ⌜ r ≡ bodyTest links body ⌝ }
-{
-    match body {
-        Body::Request => true,
-        Body::Reply(c) => counter_holds(c),
-        Body::Notice(j, c) => bits::both(j < links, counter_holds(c)),
-    }
-}
-
 // Whether the letter may travel on a link with these ends, in a network of so many links: its links exist, its sender is
 // an end, its counter is no 0. It takes the ends and not the network, which would be copied for each letter of a state.
 pub fn letter_formed(links: u8, low: u8, high: u8, letter: Letter) -> bool
@@ -46,5 +34,5 @@ pub fn letter_formed(links: u8, low: u8, high: u8, letter: Letter) -> bool
     if !ends_at(low, high, letter.sender) {
         return false;
     }
-    body_formed(links, body)
+    net::body_holds(links, body)
 }

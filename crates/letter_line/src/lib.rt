@@ -61,7 +61,7 @@ fn put_letter(out: &mut [u8], at: usize, net: Net, letter: Letter) -> usize
     ensures { λ r. ⌜ Put (letterText (networkOf net) letter) 64 at (now (out .entry)) r (now (out .exit)) ⌝ }
 {
     let mut room = letter_room();
-    let n = letter_size(letters::write(net, letter, &mut room));
+    let n = letter_size(letter_writing::write(net, letter, &mut room));
     let body = letter.body;
     let a = put_kind(out, at, body);
     let b = spelling::put_field(out, a, letter.link);

@@ -1,71 +1,41 @@
 -- What each return of the private steps says, in the order in which the code asks. Assumes nothing.
 use Prim.Native.Nat.{ℕ, _+_, _≤_, _<_}
-use mathlib.Core.Bool.{Bool, true, false, _&&_}
+use mathlib.Core.Bool.{Bool, false, _&&_}
 use mathlib.Core.Path.{_≡_, sym, ap, ap₂, _∙_}
-use mathlib.Core.List.{List, [], _∷_}
-use native.Mathlib.Decide.{decLt}
+use mathlib.Core.List.{List}
 use native.Mathlib.Omega.{arith}
-use lib.Dec.{eqb, leb}
+use lib.Dec.{eqb}
 use lib.ListN.{length, getD, take, drop, length-drop}
 use lib.Seq.{length-take-le}
 use borrow.Author.Tests.{eq-eqb, ne-eqb, lt-ltb, le-ltb, le-leb, lt-leb}
 use Rattle.lists.specs.Lists.{if_then_else_}
-use Rattle.lists.proofs.Tests.{and-no, and-yes}
-use Rattle.fields.specs.Fields.{wide, writeField, putSize, putField}
-use Rattle.fields.specs.Output.{Writing, fitting, writingNumbers, writingOutput}
-use Rattle.fields.proofs.Steps.{put-short}
-use Rattle.fields.proofs.Seen.{value-at, put-written, size-written, length-field}
+use Rattle.lists.proofs.Tests.{and-no}
+use Rattle.fields.specs.Fields.{wide}
+use Rattle.fields.proofs.Seen.{value-at}
 use Rattle.net.specs.declared.Body.{Body}
 use Rattle.net.specs.declared.Body.the-variants.{Request, Reply, Notice}
-use Rattle.net.specs.Letters.{isCounter}
-use Rattle.letters.specs.declared.Wrote.the-variants as wrote
+use Rattle.net.specs.Values.{bodyTest}
 use Rattle.letters.specs.Letters.{Form, unknown, says, formOf}
-use Rattle.letters.specs.Values.{wroteNumbers}
-use Rattle.letters.specs.Steps.{bodyTest, valuesTest, senderIn, endIn, sideIn}
+use Rattle.letters.specs.Steps.{valuesTest, senderIn}
 
--- ---- a body's values
-counter-is : (c : ℕ) → c < 65536 → leb 1 c ≡ isCounter c
-counter-is c h = simp (le-leb c 65535 (omega arith), and-yes)
+-- ---- the values of a field that was read
+module _ (links : ℕ) (b : Body) (k side : ℕ) where
+  pub values-link : links ≤ k → false ≡ valuesTest links k side b
+  values-link h = simp (le-ltb k links h)
 
-module _ (links : ℕ) (b : Body) where
-  pub body-reply : (c : ℕ) → b ≡ Reply c → c < 65536 → leb 1 c ≡ bodyTest links b
-  body-reply c e h = counter-is c h ∙ sym (ap (bodyTest links) e)
+  pub values-side : 1 < side → false ≡ valuesTest links k side b
+  values-side h = simp (lt-leb side 1 h, and-no)
 
-  pub body-none : (s c : ℕ) → b ≡ Notice s c → links ≤ s → false ≡ bodyTest links b
-  body-none s c e h = sym (ap (bodyTest links) e ∙ simp (le-ltb s links h))
+  pub values-body : (r : Bool) → k < links → side ≤ 1 → r ≡ bodyTest links b → r ≡ valuesTest links k side b
+  values-body r h g e = e ∙ simp (lt-ltb k links h, le-leb side 1 g)
 
-  pub body-notice : (s c : ℕ) → b ≡ Notice s c → s < links → c < 65536 → leb 1 c ≡ bodyTest links b
-  body-notice s c e h g = counter-is c g ∙ sym (ap (bodyTest links) e ∙ simp (lt-ltb s links h))
-
-  module _ (k side : ℕ) where
-    pub values-link : links ≤ k → false ≡ valuesTest links k side b
-    values-link h = simp (le-ltb k links h)
-
-    pub values-side : 1 < side → false ≡ valuesTest links k side b
-    values-side h = simp (lt-leb side 1 h, and-no)
-
-    pub values-body : (r : Bool) → k < links → side ≤ 1 → r ≡ bodyTest links b → r ≡ valuesTest links k side b
-    values-body r h g e = e ∙ simp (lt-ltb k links h, le-leb side 1 g)
-
--- ---- the ends of a link
+-- ---- the end that a side names
 module _ (low high x : ℕ) where
   pub sender-low : x ≡ 0 → low ≡ senderIn low high x
   sender-low h = simp (eq-eqb x 0 h)
 
   pub sender-high : (x ≡ 0 → ⊥) → high ≡ senderIn low high x
   sender-high h = simp (ne-eqb x 0 h)
-
-  pub end-low : low ≡ x → true ≡ endIn low high x
-  end-low h = simp (eq-eqb low x h)
-
-  pub end-high : (low ≡ x → ⊥) → eqb high x ≡ endIn low high x
-  end-high h = simp (ne-eqb low x h)
-
-  pub side-low : low ≡ x → 0 ≡ sideIn low x
-  side-low h = simp (eq-eqb low x h)
-
-  pub side-high : (low ≡ x → ⊥) → 1 ≡ sideIn low x
-  side-high h = simp (ne-eqb low x h)
 
 -- ---- the field's form
 module _ (bytes : List ℕ) (tag n : ℕ) (fits : n + 3 ≤ length bytes) where
@@ -111,31 +81,3 @@ module _ (bytes : List ℕ) (tag n : ℕ) (fits : n + 3 ≤ length bytes) where
   form-notice c p q t h e =
       sym (form-is ∙ simp (ne-eqb tag 33 p, ne-eqb tag 34 q, eq-eqb tag 35 t, eq-eqb n 5 h)
       (ap₂ (λ (x y : ℕ). says (Notice x y)) (byte 2 (omega arith)) (ap₂ wide (byte 3 (omega arith)) (byte 4 (omega arith)) ∙ sym e)))
-
--- ---- a value written
-module _ (tag : ℕ) (value old : List ℕ) (small : length value ≤ 5) (n : ℕ) (s : n ≡ putSize value old) (out : List ℕ) (o : out ≡ putField tag value old) where
-  abbrev want : Writing
-  want = fitting (writeField tag value) old
-
-  pub put-none : n ≡ 0 → (wroteNumbers wrote.OutputShort ≡ writingNumbers want) × (out ≡ writingOutput want old)
-  unfolding fitting
-  put-none z = go (decLt (length old) (length value + 3))
-    where
-      go : Dec (length old < length value + 3) → (wroteNumbers wrote.OutputShort ≡ writingNumbers want) × (out ≡ writingOutput want old)
-      go (yes h) =
-          let t = lt-ltb (length old) (length (writeField tag value)) (omega (arith, length-field tag value)) in
-          (simp t, o ∙ sym (put-short tag value old h .1) ∙ simp t)
-      go (no h) = absurd (omega (arith, s, size-written tag value old (omega arith) (omega arith)))
-
-  pub put-some : (n ≡ 0 → ⊥) → (wroteNumbers (wrote.Bytes n) ≡ writingNumbers want) × (out ≡ writingOutput want old)
-  unfolding fitting
-  put-some z = go (decLt (length old) (length value + 3))
-    where
-      go : Dec (length old < length value + 3) → (wroteNumbers (wrote.Bytes n) ≡ writingNumbers want) × (out ≡ writingOutput want old)
-      go (yes h) = absurd (z (s ∙ sym (put-short tag value old h .0)))
-      go (no h) =
-          let t = le-ltb (length old) (length (writeField tag value)) (omega (arith, length-field tag value)) in
-          let e : n ≡ length (writeField tag value) = omega (arith, s, size-written tag value old (omega arith) (omega arith), length-field tag value) in (
-            ap (λ (m : ℕ). 0 ∷ m ∷ []) e ∙ simp t,
-            o ∙ put-written tag value old (omega arith) (omega arith) ∙ simp t,
-          )

@@ -1,11 +1,10 @@
--- What the private steps of the code answer. Assumes nothing.
+-- What the private steps of the code answer, here and in `letter_writing`. Assumes nothing.
 use Prim.Native.Nat.{ℕ}
-use mathlib.Core.Bool.{Bool, true, _&&_, _||_}
+use mathlib.Core.Bool.{Bool, _&&_, _||_}
 use lib.Dec.{eqb, ltb, leb}
 use Rattle.lists.specs.Lists.{if_then_else_}
 use Rattle.net.specs.declared.Body.{Body}
-use Rattle.net.specs.declared.Body.the-variants.{Request, Reply, Notice}
-use Rattle.net.specs.Letters.{isCounter}
+use Rattle.net.specs.Values.{bodyTest}
 use Rattle.letters.specs.declared.Shape.{Shape}
 use Rattle.letters.specs.declared.Shape.the-variants.{Unknown, Says}
 use Rattle.letters.specs.Letters.{Form, unknown, says}
@@ -13,12 +12,6 @@ use Rattle.letters.specs.Letters.{Form, unknown, says}
 abbrev pub formIn : Shape → Form
 formIn Unknown = unknown
 formIn (Says body) = says body
-
--- a body's values, in a network of so many links
-abbrev pub bodyTest : ℕ → Body → Bool
-bodyTest links Request = true
-bodyTest links (Reply c) = isCounter c
-bodyTest links (Notice subject c) = ltb subject links && isCounter c
 
 -- the values of a field that was read
 abbrev pub valuesTest : ℕ → ℕ → ℕ → Body → Bool

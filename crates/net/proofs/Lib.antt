@@ -1,3 +1,4 @@
 pub mod ValueLaws
+pub mod Bodies
 pub mod Sheet
 pub mod Good

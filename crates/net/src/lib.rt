@@ -1,7 +1,7 @@
 // The network and the letters that travel in it, as values, and the sheet rules: what every call that is given a network
 // tests first.
 ghost use mathlib.Core.Path.{_≡_};
-ghost use Rattle.net.specs.Values.{netHolds};
+ghost use Rattle.net.specs.Values.{netHolds, bodyTest};
 ghost use Rattle.net.specs.Steps.{follows, placeTest};
 
 // Link k has the ends low[k] and high[k]; unused room is zero.
@@ -91,4 +91,20 @@ pub fn keeps_sheet_rules(net: Net) -> bool
         b = high;
     }
     true
+}
+
+// Whether a body's subject exists, in a network of so many links, and its counter is in range.
+pub fn body_holds(links: u8, body: Body) -> bool
+    ensures { λ r. ⌜ r ≡ bodyTest links body ⌝ }
+{
+    match body {
+        Body::Request => true,
+        Body::Reply(c) => 1 <= c,
+        Body::Notice(subject, c) => {
+            if links <= subject {
+                return false;
+            }
+            1 <= c
+        }
+    }
 }

@@ -97,7 +97,7 @@ pub fn step(mut s: State, kind: u32, a: u32, b: u32) -> Stepped
     let st = s.stations[who];
     let plan = planning::plan_event(net, flying, kind, a, b, me, x, st);
     let send = plan.send;
-    let count = posting::count(send);
+    let count = letter_count::count(send);
     let leaves = takes_letter(kind);
     let left = left_of(leaves, flying);
     let answer = number_of(plan.answer, left, count);

@@ -1,5 +1,5 @@
 -- Laws of a set of links that is gone through from its lowest link on: what its links are, and what a word's trailing zeros
--- and ones say of them. Assumes nothing.
+-- say of them. Assumes nothing.
 use Prim.Native.Nat.{ℕ, _+_, _-_, _*_, _%_, _^_, _≤_, _<_}
 use mathlib.Core.Bool.{Bool, true, false, not}
 use mathlib.Core.Path.{_≡_, refl, sym, ap, _∙_, subst}
@@ -8,19 +8,17 @@ use mathlib.Core.List.{List, [], _∷_}
 use native.Mathlib.Nat.{zero-add}
 use native.Mathlib.Omega.{arith}
 use lib.Dec.{T, eqb}
-use lib.ListN.{length}
-use lib.Count.{ones, trailingZeros}
+use lib.Count.{trailingZeros}
 use lib.Pow.{ones-sub-lt}
 use borrow.Author.Tests.{eq-eqb, ne-eqb}
 use Rattle.lists.specs.Lists.{if_then_else_, keep, firstOf, below}
 use Rattle.lists.specs.Words.{inWord}
 use Rattle.lists.proofs.Tests.{is-T}
-use Rattle.lists.proofs.Numbers.{length-from, any-in, first-is, first-none}
+use Rattle.lists.proofs.Numbers.{any-in, first-is, first-none}
 use Rattle.lists.proofs.Words.{one-is-in, zero-is-out, not-at}
-use Rattle.lists.proofs.Counts.{ones-bits, Run, run}
-use Rattle.lists.proofs.Kept.{keep-le}
+use Rattle.lists.proofs.Counts.{Run, run}
 use Rattle.lists.proofs.First.{first-below}
-use Rattle.lists.proofs.Heads.{fails-still, keep-head, keep-nothing, kept-ones}
+use Rattle.lists.proofs.Heads.{fails-still, keep-head, keep-nothing}
 use Rattle.words.specs.Sets.{wordBy}
 use Rattle.words.proofs.WordLaws.{in-by, by-ext, by-none, off-fits, off-is}
 use Rattle.station.specs.Values.{membersOf}
@@ -43,20 +41,12 @@ pub no-members : (w : ℕ) → someIn w ≡ false → membersOf w ≡ []
 unfolding someIn membersOf
 no-members w e = keep-nothing (inWord w) (below 64) e
 
-pub few-members : (w : ℕ) → length (membersOf w) ≤ 64
-unfolding membersOf
-few-members w = subst (λ (n : ℕ). length (keep (inWord w) (below 64)) ≤ n) (length-from 0 64) (keep-le (inWord w) (below 64))
-
 pub lowest-lt : (w : ℕ) → lowestIn w < 64
 unfolding lowestIn
 lowest-lt w = ⊎-elim (λ q. omega (arith, q .0)) (λ q. q .under) (first-below (inWord w) 64 0)
 
 -- ---- what the code reads off a word
 module _ (w : ℕ) (h : w < 2 ^ 64) where
-  pub ones-members : ones w ≡ length (membersOf w)
-  unfolding membersOf
-  ones-members = ones-bits 64 w h ∙ kept-ones w (below 64)
-
   -- trailing zeros: the word lacks what is below them, and has what comes next
   zeros : Run 64 ((2 ^ 64 - 1) - w) (trailingZeros 64 w)
   zeros =

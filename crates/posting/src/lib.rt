@@ -1,11 +1,8 @@
 // A sending is posted letter by letter: the first letter left, and what is left after it. So the network appends the
 // letters by one flat loop, and no list of them is built before. Every public function answers every input.
 ghost use mathlib.Core.Path.{_≡_};
-ghost use Prim.Native.Nat.{ℕ};
 ghost use mathlib.Core.Bool.{not, _&&_, _||_};
-ghost use lib.ListN.{length};
 ghost use Rattle.lists.specs.Lists.{if_then_else_};
-ghost use Rattle.station.specs.Values.{membersOf, lettersOf};
 ghost use Rattle.posting.specs.Links.{someIn, lowestIn, lessLowest};
 ghost use Rattle.posting.specs.Post.{begunPost, linkBy, bodyBy, firstLeft, restLeft};
 use counters::Counters;
@@ -26,13 +23,6 @@ pub struct Post {
 }
 
 // ---- sets of links
-
-// How many links the word has.
-fn size(w: u64) -> u16
-    ensures { λ r. ⌜ r ≡ length (membersOf w) ⌝ }
-{
-    u64::count_ones(w) as u16
-}
 
 // Whether it has one.
 fn some(w: u64) -> bool
@@ -58,12 +48,6 @@ fn less_lowest(w: u64) -> u64
 }
 
 // ---- choices
-
-fn bit(on: bool) -> u16
-    ensures { λ r. ⌜ r ≡ (if on then 1 else 0) ⌝ }
-{
-    if on { 1 } else { 0 }
-}
 
 fn pick(on: bool, a: u64, b: u64) -> u64
     ensures { λ r. ⌜ r ≡ (if on then a else b) ⌝ }
@@ -147,14 +131,6 @@ pub fn begun(send: Sending) -> Post
         reply: send.reply,
         link: send.link,
     }
-}
-
-// How many letters the sending means, whoever sends it.
-pub fn count(send: Sending) -> u16
-    ensures { λ r. ⌜ ((s : ℕ) → r ≡ length (lettersOf s send)) ⌝ }
-{
-    let notices = size(send.subjects) * size(send.ways);
-    size(send.requests) + notices + bit(send.replies)
 }
 
 // The first letter left, from the station me; where none is left, any.

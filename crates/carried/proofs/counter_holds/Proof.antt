@@ -1,4 +1,4 @@
-use Rattle.carried.proofs.LetterTests.{counter-is}
+use Rattle.net.proofs.Bodies.{counter-is}
 use borrow.Author.Needs.{needs}
 use Rattle.carried.proofs.counter_holds.Statement.{statement}
 use Rattle.carried.proofs.counter_holds.Tie as tie

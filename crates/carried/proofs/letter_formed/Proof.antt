@@ -18,14 +18,14 @@ returns-2 c =
     let a = c .before .before .before .before .args in
     test-foreign (a .links) (a .low) (a .high) (a .letter) _ (c .before .ends-at .ensures) (not-true _ (c .if2 .taken))
 
-body-formed-requires : tie.Need-body-formed-requires
-body-formed-requires c κs = search needs
+body-holds-requires : tie.Need-body-holds-requires
+body-holds-requires c κs = search needs
 
 returns-3 : tie.Need-returns-3
 returns-3 c =
     let a = c .before .before .before .before .before .args in
-    test-says (a .links) (a .low) (a .high) (a .letter) _ _ (omega (arith, c .before .before .before .if1 .left)) (c .before .before .ends-at .ensures) (not-false _ (c .before .if2 .left)) (c .body-formed .ensures)
+    test-says (a .links) (a .low) (a .high) (a .letter) _ _ (omega (arith, c .before .before .before .if1 .left)) (c .before .before .ends-at .ensures) (not-false _ (c .before .if2 .left)) (c .body-holds .ensures)
 
 pub letter-formed-spec : {M : Type 1} → statement M
 letter-formed-spec =
-    tie.close (tie.spec returns ends-at-requires returns-2 body-formed-requires returns-3)
+    tie.close (tie.spec returns ends-at-requires returns-2 body-holds-requires returns-3)

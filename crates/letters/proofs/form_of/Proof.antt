@@ -7,59 +7,45 @@ use Rattle.letters.proofs.form_of.Reads as reads
 use Rattle.letters.proofs.form_of.Lts as lts
 use Rattle.letters.proofs.two_bytes.Reads as two-bytes-reads
 
--- src/lib.rt:55:13
 returns : tie.Need-returns
 returns c = let a = c .before .before .before .args in form-33 (now (a .bytes)) (a .tag) (a .n) (c .before .before .before .pre) (c .before .if1 .taken) (c .if2 .taken)
 
--- src/lib.rt:57:9
 returns-2 : tie.Need-returns-2
 returns-2 c = let a = c .before .before .before .args in form-request (now (a .bytes)) (a .tag) (a .n) (c .before .before .before .pre) (c .before .if1 .taken) (c .if2 .left)
 
--- src/lib.rt:61:13
 returns-3 : tie.Need-returns-3
 returns-3 c = let a = c .before .before .before .before .args in form-34 (now (a .bytes)) (a .tag) (a .n) (c .before .before .before .before .pre) (c .before .if3 .taken) (c .if4 .taken)
 
--- src/lib.rt:63:27
 shared-slice-read-two-bytes : tie.Need-shared-slice-read-two-bytes
 shared-slice-read-two-bytes c = search needs
 
--- src/lib.rt:63:37
 shared-slice-read-two-bytes-2 : tie.Need-shared-slice-read-two-bytes-2
 shared-slice-read-two-bytes-2 c = search needs
 
--- src/lib.rt:63:13
 two-bytes-requires : tie.Need-two-bytes-requires
 two-bytes-requires c κs = search needs
 
--- src/lib.rt:64:9
 returns-4 : tie.Need-returns-4
 returns-4 c = let a = c .before .before .before .before .before .before .before .args in form-reply (now (a .bytes)) (a .tag) (a .n) (c .before .before .before .before .before .before .before .pre) _ (c .before .before .before .before .if3 .taken) (c .before .before .before .if4 .left) (c .two-bytes .ensures)
 
--- src/lib.rt:67:9
 returns-5 : tie.Need-returns-5
 returns-5 c = let a = c .before .before .before .before .args in form-other (now (a .bytes)) (a .tag) (a .n) (c .before .before .before .before .pre) (c .before .before .if1 .left) (c .before .if3 .left) (c .if5 .taken)
 
--- src/lib.rt:70:9
 returns-6 : tie.Need-returns-6
 returns-6 c = let a = c .before .before .before .before .before .args in form-35 (now (a .bytes)) (a .tag) (a .n) (c .before .before .before .before .before .pre) (c .before .before .before .if1 .left) (c .before .before .if3 .left) (c .if6 .taken)
 
--- src/lib.rt:72:23
 shared-slice-read-two-bytes-3 : tie.Need-shared-slice-read-two-bytes-3
 shared-slice-read-two-bytes-3 c = search needs
 
--- src/lib.rt:72:33
 shared-slice-read-two-bytes-4 : tie.Need-shared-slice-read-two-bytes-4
 shared-slice-read-two-bytes-4 c = search needs
 
--- src/lib.rt:72:9
 two-bytes-requires-2 : tie.Need-two-bytes-requires-2
 two-bytes-requires-2 c κs = search needs
 
--- src/lib.rt:73:30
 shared-slice-read-t16 : tie.Need-shared-slice-read-t16
 shared-slice-read-t16 c = search needs
 
--- src/lib.rt:49:1
 returns-7 : tie.Need-returns-7
 returns-7 c = let a = c .before .before .before .before .before .before .before .before .before .args in form-notice (now (a .bytes)) (a .tag) (a .n) (c .before .before .before .before .before .before .before .before .before .pre) _ (c .before .before .before .before .before .before .before .if1 .left) (c .before .before .before .before .before .before .if3 .left) (c .before .before .before .before .before .if5 .left) (c .before .before .before .before .if6 .left) (c .before .two-bytes2 .ensures)
 

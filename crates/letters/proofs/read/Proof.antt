@@ -14,123 +14,100 @@ use Rattle.letters.proofs.sender_of.Reads as sender-of-reads
 use Rattle.letters.proofs.values_hold.Reads as values-hold-reads
 use Rattle.net.proofs.keeps_sheet_rules.Reads as keeps-sheet-rules-reads
 
--- src/lib.rt:115:9
 keeps-sheet-rules-requires : tie.Need-keeps-sheet-rules-requires
 keeps-sheet-rules-requires c κs = search needs
 
--- src/lib.rt:116:9
 returns : tie.Need-returns
 returns c = let a = c .before .before .before .args in read-bad (a .t1) (now (a .bytes)) _ (c .before .keeps-sheet-rules .ensures) (c .if1 .taken)
 
--- src/lib.rt:118:38
 cut-first-requires : tie.Need-cut-first-requires
 cut-first-requires c κs = search needs
 
--- src/lib.rt:118:22
 enum-known-tag : tie.Need-enum-known-tag
 enum-known-tag c = search needs
 
--- src/lib.rt:119:9
 enum-told : tie.Need-enum-told
 enum-told c = search needs
 
--- src/lib.rt:119:9
 returns-2 : tie.Need-returns-2
 returns-2 c =
     let a = c .before .before .before .before .before .before .args in
     let b = now (a .bytes) in
     read-short (a .t1) b _ (c .before .before .before .before .keeps-sheet-rules .ensures) (c .before .before .before .if1 .left) (short-seen b (sym (c .enum-told .given .1) ∙ c .before .before .cut-first .ensures))
 
--- src/lib.rt:121:29
 form-of-requires : tie.Need-form-of-requires
 form-of-requires c κs =
     let b = now (c .before .before .before .before .before .before .before .args .bytes) in
     whole-seen b _ _ (sym (c .before .tag .given .1) ∙ c .before .before .before .cut-first .ensures) .fits
 
--- src/lib.rt:121:21
 enum-known-body : tie.Need-enum-known-body
 enum-known-body c = search needs
 
--- src/lib.rt:122:9
 enum-told-2 : tie.Need-enum-told-2
 enum-told-2 c = search needs
 
--- src/lib.rt:122:9
 returns-3 : tie.Need-returns-3
 returns-3 c =
     let a = c .before .before .before .before .before .before .before .before .before .before .args in
     let b = now (a .bytes) in
     read-unknown (a .t1) b _ (c .before .before .before .before .before .before .before .before .keeps-sheet-rules .ensures) (c .before .before .before .before .before .before .before .if1 .left) _ _ (whole-seen b _ _ (sym (c .before .before .before .before .tag .given .1) ∙ c .before .before .before .before .before .before .cut-first .ensures)) _ (c .before .before .form-of .ensures) (c .enum-told2 .given .1)
 
--- src/lib.rt:124:16
 shared-slice-read-link : tie.Need-shared-slice-read-link
 shared-slice-read-link c =
     let a = c .before .before .before .before .before .before .before .before .before .before .before .before .args in
     let b = now (a .bytes) in
     omega (arith, read-room (a .t1) b _ (c .before .before .before .before .before .before .before .before .before .before .keeps-sheet-rules .ensures) (c .before .before .before .before .before .before .before .before .before .if1 .left) _ _ (whole-seen b _ _ (sym (c .before .before .before .before .before .before .tag .given .1) ∙ c .before .before .before .before .before .before .before .before .cut-first .ensures)) _ (c .before .before .before .before .form-of .ensures) _ (c .before .before .body .given .1))
 
--- src/lib.rt:125:16
 shared-slice-read-side : tie.Need-shared-slice-read-side
 shared-slice-read-side c =
     let a = c .before .before .before .before .before .before .before .before .before .before .before .before .before .args in
     let b = now (a .bytes) in
     omega (arith, read-room (a .t1) b _ (c .before .before .before .before .before .before .before .before .before .before .before .keeps-sheet-rules .ensures) (c .before .before .before .before .before .before .before .before .before .before .if1 .left) _ _ (whole-seen b _ _ (sym (c .before .before .before .before .before .before .before .tag .given .1) ∙ c .before .before .before .before .before .before .before .before .before .cut-first .ensures)) _ (c .before .before .before .before .before .form-of .ensures) _ (c .before .before .before .body .given .1))
 
--- src/lib.rt:126:9
 values-hold-requires : tie.Need-values-hold-requires
 values-hold-requires c κs = search needs
 
--- src/lib.rt:127:9
 returns-4 : tie.Need-returns-4
 returns-4 c =
     let a = c .before .before .before .before .before .before .before .before .before .before .before .before .before .before .before .args in
     let b = now (a .bytes) in
     read-range (a .t1) b _ (c .before .before .before .before .before .before .before .before .before .before .before .before .before .keeps-sheet-rules .ensures) (c .before .before .before .before .before .before .before .before .before .before .before .before .if1 .left) _ _ (whole-seen b _ _ (sym (c .before .before .before .before .before .before .before .before .before .tag .given .1) ∙ c .before .before .before .before .before .before .before .before .before .before .before .cut-first .ensures)) _ (c .before .before .before .before .before .before .before .form-of .ensures) _ (c .before .before .before .before .before .body .given .1) _ (c .before .values-hold .ensures) (c .if2 .taken)
 
--- src/lib.rt:129:23
 add-if3 : tie.Need-add-if3
 add-if3 c =
     let b = now (c .before .before .before .before .before .before .before .before .before .before .before .before .before .before .before .args .bytes) in
     omega (arith, whole-seen b _ _ (sym (c .before .before .before .before .before .before .before .before .before .tag .given .1) ∙ c .before .before .before .before .before .before .before .before .before .before .before .cut-first .ensures) .fits)
 
--- src/lib.rt:130:9
 returns-5 : tie.Need-returns-5
 returns-5 c =
     let a = c .before .before .before .before .before .before .before .before .before .before .before .before .before .before .before .before .args in
     let b = now (a .bytes) in
     read-more (a .t1) b _ (c .before .before .before .before .before .before .before .before .before .before .before .before .before .before .keeps-sheet-rules .ensures) (c .before .before .before .before .before .before .before .before .before .before .before .before .before .if1 .left) _ _ (whole-seen b _ _ (sym (c .before .before .before .before .before .before .before .before .before .before .tag .given .1) ∙ c .before .before .before .before .before .before .before .before .before .before .before .before .cut-first .ensures)) _ (c .before .before .before .before .before .before .before .before .form-of .ensures) _ (c .before .before .before .before .before .before .body .given .1) _ (c .before .before .values-hold .ensures) (c .before .if2 .left) (c .if3 .taken)
 
--- src/lib.rt:132:13
 cast-i : tie.Need-cast-i
 cast-i c = omega (arith, c .before .before .before .before .shared-slice-known2 .given 3)
 
--- src/lib.rt:133:28
 element-copy-out-sender-of : tie.Need-element-copy-out-sender-of
 element-copy-out-sender-of c =
     let a = c .before .before .before .before .before .before .before .before .before .before .before .before .before .before .before .before .args in
     let b = now (a .bytes) in
     place-inside (a .t1) b _ (c .before .before .before .before .before .before .before .before .before .before .before .before .before .before .keeps-sheet-rules .ensures) (c .before .before .before .before .before .before .before .before .before .before .before .before .before .if1 .left) _ _ (whole-seen b _ _ (sym (c .before .before .before .before .before .before .before .before .before .before .tag .given .1) ∙ c .before .before .before .before .before .before .before .before .before .before .before .before .cut-first .ensures)) _ (c .before .before .before .before .before .before .before .before .form-of .ensures) _ (c .before .before .before .before .before .before .body .given .1) _ (c .before .before .values-hold .ensures) (c .before .if2 .left)
 
--- src/lib.rt:133:40
 element-copy-out-sender-of-2 : tie.Need-element-copy-out-sender-of-2
 element-copy-out-sender-of-2 c =
     let a = c .before .before .before .before .before .before .before .before .before .before .before .before .before .before .before .before .before .args in
     let b = now (a .bytes) in
     place-inside (a .t1) b _ (c .before .before .before .before .before .before .before .before .before .before .before .before .before .before .before .keeps-sheet-rules .ensures) (c .before .before .before .before .before .before .before .before .before .before .before .before .before .before .if1 .left) _ _ (whole-seen b _ _ (sym (c .before .before .before .before .before .before .before .before .before .before .before .tag .given .1) ∙ c .before .before .before .before .before .before .before .before .before .before .before .before .before .cut-first .ensures)) _ (c .before .before .before .before .before .before .before .before .before .form-of .ensures) _ (c .before .before .before .before .before .before .before .body .given .1) _ (c .before .before .before .values-hold .ensures) (c .before .before .if2 .left)
 
--- src/lib.rt:133:9
 sender-of-requires : tie.Need-sender-of-requires
 sender-of-requires c κs = search needs
 
--- src/lib.rt:135:15
 cast-t26 : tie.Need-cast-t26
 cast-t26 c = omega (arith, c .before .before .before .before .before .before .before .shared-slice-known2 .given 3)
 
--- src/lib.rt:136:17
 cast-t27 : tie.Need-cast-t27
 cast-t27 c = search needs
 
--- src/lib.rt:112:1
 returns-6 : tie.Need-returns-6
 returns-6 c =
     let a = c .before .before .before .before .before .before .before .before .before .before .before .before .before .before .before .before .before .before .before .args in

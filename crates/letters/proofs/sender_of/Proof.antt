@@ -4,11 +4,9 @@ use Rattle.letters.proofs.sender_of.Tie as tie
 use Rattle.letters.proofs.sender_of.Reads as reads
 use Rattle.letters.proofs.sender_of.Lts as lts
 
--- src/lib.rt:105:1
 returns : tie.Need-returns
 returns c = let a = c .before .args in sender-low (a .low) (a .high) (a .side) (c .if1 .taken)
 
--- src/lib.rt:105:1
 returns-2 : tie.Need-returns-2
 returns-2 c = let a = c .before .args in sender-high (a .low) (a .high) (a .side) (c .if1 .left)
 

@@ -1,14 +1,12 @@
-use Rattle.letters.proofs.Steps.{side-low, side-high}
-use Rattle.letters.proofs.side_of.Statement.{statement}
-use Rattle.letters.proofs.side_of.Tie as tie
-use Rattle.letters.proofs.side_of.Reads as reads
-use Rattle.letters.proofs.side_of.Lts as lts
+use Rattle.letter_writing.proofs.Output.{side-low, side-high}
+use Rattle.letter_writing.proofs.side_of.Statement.{statement}
+use Rattle.letter_writing.proofs.side_of.Tie as tie
+use Rattle.letter_writing.proofs.side_of.Reads as reads
+use Rattle.letter_writing.proofs.side_of.Lts as lts
 
--- src/lib.rt:150:1
 returns : tie.Need-returns
 returns c = let a = c .before .args in side-low (a .low) 0 (a .sender) (c .if1 .taken)
 
--- src/lib.rt:150:1
 returns-2 : tie.Need-returns-2
 returns-2 c = let a = c .before .args in side-high (a .low) 0 (a .sender) (c .if1 .left)
 

@@ -1,8 +1,8 @@
 use native.Mathlib.Omega.{arith}
-use Rattle.posting.proofs.Made.{count-made, few, few-notices, one-reply}
+use Rattle.letter_count.proofs.Counts.{count-made, few, few-notices, one-reply}
 use borrow.Author.Needs.{needs}
-use Rattle.posting.proofs.count.Statement.{statement}
-use Rattle.posting.proofs.count.Tie as tie
+use Rattle.letter_count.proofs.count.Statement.{statement}
+use Rattle.letter_count.proofs.count.Tie as tie
 
 size-requires : tie.Need-size-requires
 size-requires c κs = search needs

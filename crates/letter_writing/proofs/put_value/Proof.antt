@@ -1,29 +1,24 @@
 use denote.Ref.{now}
-use Rattle.letters.proofs.Steps.{put-none, put-some}
+use Rattle.letter_writing.proofs.Output.{put-none, put-some}
 use borrow.Author.Needs.{needs}
-use Rattle.letters.proofs.put_value.Statement.{statement}
-use Rattle.letters.proofs.put_value.Tie as tie
-use Rattle.letters.proofs.put_value.Reads as reads
-use Rattle.letters.proofs.put_value.Lts as lts
+use Rattle.letter_writing.proofs.put_value.Statement.{statement}
+use Rattle.letter_writing.proofs.put_value.Tie as tie
+use Rattle.letter_writing.proofs.put_value.Reads as reads
+use Rattle.letter_writing.proofs.put_value.Lts as lts
 use Rattle.fields.proofs.put.Reads as put-reads
 
--- src/lib.rt:161:9
 put-requires : tie.Need-put-requires
 put-requires c κs = search needs
 
--- src/lib.rt:163:9
 same-length : tie.Need-same-length
 same-length c = search needs
 
--- src/lib.rt:163:9
 returns : tie.Need-returns
 returns c = let a = c .before .before .before .before .before .before .before .args in put-none (a .tag) (now (a .value)) (now (a .out)) (c .before .before .before .before .before .before .before .pre) _ (c .before .before .before .put .ensures .0) _ (c .before .before .before .put .ensures .1) (c .if1 .taken)
 
--- src/lib.rt:156:1
 same-length-2 : tie.Need-same-length-2
 same-length-2 c = search needs
 
--- src/lib.rt:156:1
 returns-2 : tie.Need-returns-2
 returns-2 c = let a = c .before .before .before .before .before .before .before .args in put-some (a .tag) (now (a .value)) (now (a .out)) (c .before .before .before .before .before .before .before .pre) _ (c .before .before .before .put .ensures .0) _ (c .before .before .before .put .ensures .1) (c .if1 .left)
 

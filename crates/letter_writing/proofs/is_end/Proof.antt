@@ -1,14 +1,12 @@
-use Rattle.letters.proofs.Steps.{end-low, end-high}
-use Rattle.letters.proofs.is_end.Statement.{statement}
-use Rattle.letters.proofs.is_end.Tie as tie
-use Rattle.letters.proofs.is_end.Reads as reads
-use Rattle.letters.proofs.is_end.Lts as lts
+use Rattle.letter_writing.proofs.Output.{end-low, end-high}
+use Rattle.letter_writing.proofs.is_end.Statement.{statement}
+use Rattle.letter_writing.proofs.is_end.Tie as tie
+use Rattle.letter_writing.proofs.is_end.Reads as reads
+use Rattle.letter_writing.proofs.is_end.Lts as lts
 
--- src/lib.rt:145:9
 returns : tie.Need-returns
 returns c = let a = c .before .args in end-low (a .low) (a .high) (a .sender) (c .if1 .taken)
 
--- src/lib.rt:141:1
 returns-2 : tie.Need-returns-2
 returns-2 c = let a = c .before .args in end-high (a .low) (a .high) (a .sender) (c .if1 .left)
 

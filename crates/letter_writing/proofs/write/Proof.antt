@@ -1,78 +1,62 @@
 use native.Mathlib.Omega.{arith}
 use denote.Ref.{now}
-use Rattle.letters.proofs.Against.{write-bad, write-link, write-place, write-sender, write-body, write-good}
+use Rattle.letter_writing.proofs.Output.{write-bad, write-link, write-place, write-sender, write-body, write-good}
 use borrow.Author.Needs.{needs}
-use Rattle.letters.proofs.write.Statement.{statement}
-use Rattle.letters.proofs.write.Tie as tie
-use Rattle.letters.proofs.write.Reads as reads
-use Rattle.letters.proofs.write.Lts as lts
-use Rattle.letters.proofs.body_holds.Reads as body-holds-reads
-use Rattle.letters.proofs.is_end.Reads as is-end-reads
-use Rattle.letters.proofs.put_letter.Reads as put-letter-reads
-use Rattle.letters.proofs.side_of.Reads as side-of-reads
+use Rattle.letter_writing.proofs.write.Statement.{statement}
+use Rattle.letter_writing.proofs.write.Tie as tie
+use Rattle.letter_writing.proofs.write.Reads as reads
+use Rattle.letter_writing.proofs.write.Lts as lts
+use Rattle.net.proofs.body_holds.Reads as body-holds-reads
+use Rattle.letter_writing.proofs.is_end.Reads as is-end-reads
+use Rattle.letter_writing.proofs.put_letter.Reads as put-letter-reads
+use Rattle.letter_writing.proofs.side_of.Reads as side-of-reads
 use Rattle.net.proofs.keeps_sheet_rules.Reads as keeps-sheet-rules-reads
 
--- src/lib.rt:206:9
 keeps-sheet-rules-requires : tie.Need-keeps-sheet-rules-requires
 keeps-sheet-rules-requires c κs = search needs
 
--- src/lib.rt:207:9
 returns : tie.Need-returns
 returns c = let a = c .before .before .before .args in write-bad (a .t1) (a .letter) (now (a .out)) _ (c .before .keeps-sheet-rules .ensures) (c .if1 .taken)
 
--- src/lib.rt:212:8
 cast-if2 : tie.Need-cast-if2
 cast-if2 c = search needs
 
--- src/lib.rt:213:9
 returns-2 : tie.Need-returns-2
 returns-2 c = let a = c .before .before .before .before .args in write-link (a .t1) (a .letter) (now (a .out)) _ (c .before .before .keeps-sheet-rules .ensures) (c .before .if1 .left) (c .if2 .taken)
 
--- src/lib.rt:215:13
 cast-i : tie.Need-cast-i
 cast-i c = search needs
 
--- src/lib.rt:216:15
 element-copy-out-low : tie.Need-element-copy-out-low
 element-copy-out-low c = let a = c .before .before .before .before .args in write-place (a .t1) (a .letter) (now (a .out)) _ (c .before .before .keeps-sheet-rules .ensures) (c .before .if1 .left) (c .if2 .left)
 
--- src/lib.rt:217:21
 element-copy-out-is-end : tie.Need-element-copy-out-is-end
 element-copy-out-is-end c = let a = c .before .before .before .before .before .args in write-place (a .t1) (a .letter) (now (a .out)) _ (c .before .before .before .keeps-sheet-rules .ensures) (c .before .before .if1 .left) (c .before .if2 .left)
 
--- src/lib.rt:217:9
 is-end-requires : tie.Need-is-end-requires
 is-end-requires c κs = search needs
 
--- src/lib.rt:218:9
 returns-3 : tie.Need-returns-3
 returns-3 c = let a = c .before .before .before .before .before .before .before .before .args in write-sender (a .t1) (a .letter) (now (a .out)) _ (c .before .before .before .before .before .before .keeps-sheet-rules .ensures) (c .before .before .before .before .before .if1 .left) (c .before .before .before .before .if2 .left) _ (c .before .is-end .ensures) (c .if3 .taken)
 
--- src/lib.rt:220:9
 body-holds-requires : tie.Need-body-holds-requires
 body-holds-requires c κs = search needs
 
--- src/lib.rt:221:9
 returns-4 : tie.Need-returns-4
 returns-4 c = let a = c .before .before .before .before .before .before .before .before .before .before .args in write-body (a .t1) (a .letter) (now (a .out)) _ (c .before .before .before .before .before .before .before .before .keeps-sheet-rules .ensures) (c .before .before .before .before .before .before .before .if1 .left) (c .before .before .before .before .before .before .if2 .left) _ (c .before .before .before .is-end .ensures) (c .before .before .if3 .left) _ (c .before .body-holds .ensures) (c .if4 .taken)
 
--- src/lib.rt:223:21
 cast-put-letter : tie.Need-cast-put-letter
 cast-put-letter c = let a = c .before .before .before .before .before .before .before .before .before .before .before .args in omega (arith, write-place (a .t1) (a .letter) (now (a .out)) _ (c .before .before .before .before .before .before .before .before .before .keeps-sheet-rules .ensures) (c .before .before .before .before .before .before .before .before .if1 .left) (c .before .before .before .before .before .before .before .if2 .left))
 
--- src/lib.rt:223:33
 side-of-requires : tie.Need-side-of-requires
 side-of-requires c κs = search needs
 
--- src/lib.rt:223:5
 put-letter-requires : tie.Need-put-letter-requires
 put-letter-requires c κs = search needs
 
--- src/lib.rt:202:1
 same-length : tie.Need-same-length
 same-length c = search needs
 
--- src/lib.rt:202:1
 returns-5 : tie.Need-returns-5
 returns-5 c =
     let a = c .before .before .before .before .before .before .before .before .before .before .before .before .before .before .before .args in

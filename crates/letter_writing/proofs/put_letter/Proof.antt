@@ -3,82 +3,65 @@ use mathlib.Core.List.{[], _∷_}
 use mathlib.Core.Path.{sym, ap, ap₂, _∙_}
 use denote.Ref.{now}
 use Rattle.fields.specs.Fields.{writeField}
 use Rattle.letters.specs.Letters.{bodyBytes}
-use Rattle.letters.proofs.Against.{put-as}
+use Rattle.letter_writing.proofs.Output.{put-as}
 use borrow.Author.Needs.{needs}
-use Rattle.letters.proofs.put_letter.Statement.{statement}
-use Rattle.letters.proofs.put_letter.Tie as tie
-use Rattle.letters.proofs.put_letter.Reads as reads
-use Rattle.letters.proofs.put_letter.Lts as lts
-use Rattle.letters.proofs.high_byte.Reads as high-byte-reads
-use Rattle.letters.proofs.low_byte.Reads as low-byte-reads
-use Rattle.letters.proofs.put_value.Reads as put-value-reads
+use Rattle.letter_writing.proofs.put_letter.Statement.{statement}
+use Rattle.letter_writing.proofs.put_letter.Tie as tie
+use Rattle.letter_writing.proofs.put_letter.Reads as reads
+use Rattle.letter_writing.proofs.put_letter.Lts as lts
+use Rattle.letter_writing.proofs.high_byte.Reads as high-byte-reads
+use Rattle.letter_writing.proofs.low_byte.Reads as low-byte-reads
+use Rattle.letter_writing.proofs.put_value.Reads as put-value-reads
 
--- src/lib.rt:187:17
 enum-told : tie.Need-enum-told
 enum-told c = search needs
 
--- src/lib.rt:188:32
 slice-aggregate-put-value : tie.Need-slice-aggregate-put-value
 slice-aggregate-put-value c = search needs
 
--- src/lib.rt:188:13
 put-value-requires : tie.Need-put-value-requires
 put-value-requires c κs = search needs
 
--- src/lib.rt:190:21
 enum-known-body : tie.Need-enum-known-body
 enum-known-body c = search needs
 
--- src/lib.rt:191:38
 high-byte-requires : tie.Need-high-byte-requires
 high-byte-requires c κs = search needs
 
--- src/lib.rt:191:52
 low-byte-requires : tie.Need-low-byte-requires
 low-byte-requires c κs = search needs
 
--- src/lib.rt:192:32
 slice-aggregate-put-value-2 : tie.Need-slice-aggregate-put-value-2
 slice-aggregate-put-value-2 c = search needs
 
--- src/lib.rt:192:13
 put-value-requires-2 : tie.Need-put-value-requires-2
 put-value-requires-2 c κs = search needs
 
--- src/lib.rt:194:22
 enum-known-body-2 : tie.Need-enum-known-body-2
 enum-known-body-2 c = search needs
 
--- src/lib.rt:195:47
 high-byte-requires-2 : tie.Need-high-byte-requires-2
 high-byte-requires-2 c κs = search needs
 
--- src/lib.rt:195:61
 low-byte-requires-2 : tie.Need-low-byte-requires-2
 low-byte-requires-2 c κs = search needs
 
--- src/lib.rt:196:32
 slice-aggregate-put-value-3 : tie.Need-slice-aggregate-put-value-3
 slice-aggregate-put-value-3 c = search needs
 
--- src/lib.rt:196:13
 put-value-requires-3 : tie.Need-put-value-requires-3
 put-value-requires-3 c κs = search needs
 
--- src/lib.rt:181:1
 same-length : tie.Need-same-length
 same-length c = search needs
 
--- src/lib.rt:181:1
 returns : tie.Need-returns
 returns c = let a = c .before .before .before .before .before .before .before .before .args in put-as _ _ (c .before .before .put-value .result) (now (a .out)) _ (sym (ap (bodyBytes (a .link) (a .side)) (c .before .before .before .before .before .enum-told .given .1))) (c .before .before .put-value .ensures)
 
--- src/lib.rt:181:1
 same-length-2 : tie.Need-same-length-2
 same-length-2 c = search needs
 
--- src/lib.rt:181:1
 returns-2 : tie.Need-returns-2
 returns-2 c =
     let a = c .before .before .before .before .before .before .before .before .before .before .before .args in
@@ -87,11 +70,9 @@ returns-2 c =
     (ap₂ (λ (x y : ℕ). writeField 34 (a .link ∷ a .side ∷ x ∷ y ∷ [])) (c .before .before .before .before .before .before .high-byte .ensures) (c .before .before .before .before .before .low-byte .ensures) ∙ sym (ap (bodyBytes (a .link) (a .side)) (g .1)))
     (c .before .before .put-value2 .ensures)
 
--- src/lib.rt:181:1
 same-length-3 : tie.Need-same-length-3
 same-length-3 c = search needs
 
--- src/lib.rt:181:1
 returns-3 : tie.Need-returns-3
 returns-3 c =
     let a = c .before .before .before .before .before .before .before .before .before .before .before .args in
