@@ -1,6 +1,6 @@
 // One station: what it holds, and the rules of every event and letter at it. It knows the network's links and nothing of
 // other stations. The events that only its condition or its marks answer are the crate changing's, what is allowed is the
-// crate allowing's, the ends of a test are the crate testing's, the letters the crates hearing's and receiving's. What is
+// crate allowing's, the ends of a test are the crate testing's, the letters the crates hearing's, answering's and receiving's. What is
 // said of a link that is not there is in specs/Acts.antt.
 ghost use mathlib.Core.Path.{_≡_};
 ghost use Rattle.station.specs.Holding.{isLive};

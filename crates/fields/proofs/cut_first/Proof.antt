@@ -6,35 +6,27 @@ use Rattle.fields.proofs.cut_first.Reads as reads
 use Rattle.fields.proofs.cut_first.Lts as lts
 use Rattle.fields.proofs.two_bytes.Reads as two-bytes-reads
 
--- src/lib.rt:23:9
 returns : tie.Need-returns
 returns c = cut-head _ (c .if1 .taken)
 
--- src/lib.rt:25:28
 shared-slice-read-two-bytes : tie.Need-shared-slice-read-two-bytes
 shared-slice-read-two-bytes c = search needs
 
--- src/lib.rt:25:38
 shared-slice-read-two-bytes-2 : tie.Need-shared-slice-read-two-bytes-2
 shared-slice-read-two-bytes-2 c = search needs
 
--- src/lib.rt:25:9
 two-bytes-requires : tie.Need-two-bytes-requires
 two-bytes-requires c κs = search needs
 
--- src/lib.rt:26:8
 sub-if2 : tie.Need-sub-if2
 sub-if2 c = search needs
 
--- src/lib.rt:27:9
 returns-2 : tie.Need-returns-2
 returns-2 c = cut-short _ _ (c .before .before .before .before .if1 .left) (c .before .two-bytes .ensures) (c .if2 .taken)
 
--- src/lib.rt:30:14
 shared-slice-read-t8 : tie.Need-shared-slice-read-t8
 shared-slice-read-t8 c = search needs
 
--- src/lib.rt:19:1
 returns-3 : tie.Need-returns-3
 returns-3 c = cut-whole _ _ (c .before .before .before .before .before .if1 .left) (c .before .before .two-bytes .ensures) (c .before .if2 .left)
 

@@ -17,86 +17,68 @@ Inv-loop out₀ tag value n i₀ out i = (i ≤ n) × (out ≡ paste out₀ 3 va
 abbrev μ-loop : tie.MeasureT-loop
 μ-loop out₀ tag value n i₀ out i = n - i
 
--- src/lib.rt:42:9
 returns : tie.Need-returns Inv-loop μ-loop
 returns c = let a = c .before .args in put-long (a .tag) (now (a .value)) (now (a .out)) (c .if1 .taken)
 
--- src/lib.rt:44:20
 add-if2 : tie.Need-add-if2 Inv-loop μ-loop
 add-if2 c = search needs
 
--- src/lib.rt:45:9
 returns-2 : tie.Need-returns-2 Inv-loop μ-loop
 returns-2 c = let a = c .before .before .args in put-short (a .tag) (now (a .value)) (now (a .out)) (c .if2 .taken)
 
--- src/lib.rt:47:5
 slice-write-out : tie.Need-slice-write-out Inv-loop μ-loop
 slice-write-out c = search needs
 
--- src/lib.rt:48:14
 cast-out : tie.Need-cast-out Inv-loop μ-loop
 cast-out c = search needs
 
--- src/lib.rt:48:5
 slice-write-out-2 : tie.Need-slice-write-out-2 Inv-loop μ-loop
 slice-write-out-2 c = simp length-set (omega arith)
 
--- src/lib.rt:49:14
 cast-out-2 : tie.Need-cast-out-2 Inv-loop μ-loop
 cast-out-2 c = search needs
 
--- src/lib.rt:49:5
 slice-write-out-3 : tie.Need-slice-write-out-3 Inv-loop μ-loop
 slice-write-out-3 c = simp length-set (omega arith)
 
--- src/lib.rt:51:5
 loop-holds : tie.Need-loop-holds Inv-loop μ-loop
 loop-holds c =
     let a = c .before .before .args in
     (omega arith, put-none (a .tag) (now (a .value)) (now (a .out)))
 
--- src/lib.rt:52:22
 shared-slice-read-out : tie.Need-shared-slice-read-out Inv-loop μ-loop
 shared-slice-read-out c = search needs
 
--- src/lib.rt:52:13
 add-out : tie.Need-add-out Inv-loop μ-loop
 add-out c = search needs
 
--- src/lib.rt:52:9
 slice-write-out-4 : tie.Need-slice-write-out-4 Inv-loop μ-loop
 slice-write-out-4 c =
     let a = c .before .before .before .before .before .args in
     let l = c .before .before .loop in
     omega (arith, put-length (a .tag) (now (a .value)) (now (a .out)) (l .i) (l .out) (c .before .before .before .if2 .left) (l .inv .1) (l .inv .0))
 
--- src/lib.rt:53:9
 add-i : tie.Need-add-i Inv-loop μ-loop
 add-i c = search needs
 
--- src/lib.rt:51:5
 loop-less : tie.Need-loop-less Inv-loop μ-loop
 loop-less c = search needs
 
--- src/lib.rt:51:5
 loop-again : tie.Need-loop-again Inv-loop μ-loop
 loop-again c =
     let a = c .before .before .before .before .before .args in
     let l = c .before .before .loop in
     (omega arith, put-more (a .tag) (now (a .value)) (now (a .out)) (l .i) (l .out) (c .before .before .before .if2 .left) (l .inv .1) (c .before .loop-test .taken))
 
--- src/lib.rt:55:5
 add-result : tie.Need-add-result Inv-loop μ-loop
 add-result c = search needs
 
--- src/lib.rt:36:1
 same-length : tie.Need-same-length Inv-loop μ-loop
 same-length c =
     let a = c .before .before .before .before .args in
     let l = c .before .loop in
     put-length (a .tag) (now (a .value)) (now (a .out)) (l .i) (l .out) (c .before .before .if2 .left) (l .inv .1) (l .inv .0)
 
--- src/lib.rt:36:1
 returns-3 : tie.Need-returns-3 Inv-loop μ-loop
 returns-3 c =
     let a = c .before .before .before .before .args in

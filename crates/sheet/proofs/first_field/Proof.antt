@@ -10,60 +10,50 @@ use Rattle.sheet.proofs.first_field.Reads as reads
 use Rattle.sheet.proofs.first_field.Lts as lts
 use Rattle.fields.proofs.cut_first.Reads as cut-first-reads
 
--- src/lib.rt:80:38
 cut-first-requires : tie.Need-cut-first-requires
 cut-first-requires c κs = search needs
 
--- src/lib.rt:80:22
 enum-known-tag : tie.Need-enum-known-tag
 enum-known-tag c = search needs
 
--- src/lib.rt:81:30
 enum-told : tie.Need-enum-told
 enum-told c = search needs
 
--- src/lib.rt:81:9
 returns : tie.Need-returns
 returns c =
     let b = now (c .before .before .before .before .args .bytes) in
     opened-short b (short-seen b (sym (c .enum-told .given .1) ∙ c .before .before .cut-first .ensures))
 
--- src/lib.rt:84:9
 returns-2 : tie.Need-returns-2
 returns-2 c =
     let b = now (c .before .before .before .before .before .before .args .bytes) in
     let g = c .before .before .tag .given in
     opened-tag b _ _ (whole-seen b _ _ (sym (g .1) ∙ c .before .before .before .before .cut-first .ensures)) (c .if1 .taken)
 
--- src/lib.rt:87:9
 returns-3 : tie.Need-returns-3
 returns-3 c =
     let b = now (c .before .before .before .before .before .before .before .args .bytes) in
     let g = c .before .before .before .tag .given in
     opened-length b _ _ (whole-seen b _ _ (sym (g .1) ∙ c .before .before .before .before .before .cut-first .ensures)) (c .if2 .taken)
 
--- src/lib.rt:89:13
 shared-slice-read-n : tie.Need-shared-slice-read-n
 shared-slice-read-n c =
     let b = now (c .before .before .before .before .before .before .before .before .args .bytes) in
     let g = c .before .before .before .before .tag .given in
     omega (arith, whole-seen b _ _ (sym (g .1) ∙ c .before .before .before .before .before .before .cut-first .ensures) .fits)
 
--- src/lib.rt:91:9
 returns-4 : tie.Need-returns-4
 returns-4 c =
     let b = now (c .before .before .before .before .before .before .before .before .before .args .bytes) in
     let g = c .before .before .before .before .before .tag .given in
     opened-few b _ _ (whole-seen b _ _ (sym (g .1) ∙ c .before .before .before .before .before .before .before .cut-first .ensures)) (c .before .before .before .if1 .left) (c .before .before .if2 .left) (c .if3 .taken)
 
--- src/lib.rt:94:9
 returns-5 : tie.Need-returns-5
 returns-5 c =
     let b = now (c .before .before .before .before .before .before .before .before .before .before .args .bytes) in
     let g = c .before .before .before .before .before .before .tag .given in
     opened-many b _ _ (whole-seen b _ _ (sym (g .1) ∙ c .before .before .before .before .before .before .before .before .cut-first .ensures)) (c .before .before .before .before .if1 .left) (c .before .before .before .if2 .left) (c .if4 .taken)
 
--- src/lib.rt:77:1
 returns-6 : tie.Need-returns-6
 returns-6 c =
     let b = now (c .before .before .before .before .before .before .before .before .before .before .args .bytes) in

@@ -4,37 +4,31 @@ use Rattle.sheet.proofs.link_verdict.Tie as tie
 use Rattle.sheet.proofs.link_verdict.Reads as reads
 use Rattle.sheet.proofs.link_verdict.Lts as lts
 
--- src/lib.rt:104:9
 returns : tie.Need-returns
 returns c =
     let a = c .before .args in
     verdict-ends (a .n) (a .a) (a .b) (a .low) (a .high) (c .if1 .taken)
 
--- src/lib.rt:107:9
 returns-2 : tie.Need-returns-2
 returns-2 c =
     let a = c .before .before .args in
     verdict-range (a .n) (a .a) (a .b) (a .low) (a .high) (c .if2 .taken)
 
--- src/lib.rt:110:9
 returns-3 : tie.Need-returns-3
 returns-3 c =
     let a = c .before .before .before .args in
     verdict-above (a .n) (a .a) (a .b) (a .low) (a .high) (c .before .before .if1 .left) (c .before .if2 .left) (c .if3 .taken)
 
--- src/lib.rt:113:9
 returns-4 : tie.Need-returns-4
 returns-4 c =
     let a = c .before .before .before .before .args in
     verdict-below (a .n) (a .a) (a .b) (a .low) (a .high) (c .before .before .before .if1 .left) (c .before .before .if2 .left) (c .before .if3 .left) (c .if4 .taken)
 
--- src/lib.rt:116:9
 returns-5 : tie.Need-returns-5
 returns-5 c =
     let a = c .before .before .before .before .before .args in
     verdict-after (a .n) (a .a) (a .b) (a .low) (a .high) (c .before .before .before .before .if1 .left) (c .before .before .before .if2 .left) (c .before .before .if3 .left) (c .before .if4 .left) (c .if5 .taken)
 
--- src/lib.rt:100:1
 returns-6 : tie.Need-returns-6
 returns-6 c =
     let a = c .before .before .before .before .before .args in

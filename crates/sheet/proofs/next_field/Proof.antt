@@ -11,26 +11,21 @@ use Rattle.sheet.proofs.next_field.Lts as lts
 use Rattle.fields.proofs.cut_first.Reads as cut-first-reads
 use Rattle.sheet.proofs.link_verdict.Reads as link-verdict-reads
 
--- src/lib.rt:125:38
 cut-first-requires : tie.Need-cut-first-requires
 cut-first-requires c κs = search needs
 
--- src/lib.rt:125:22
 enum-known-tag : tie.Need-enum-known-tag
 enum-known-tag c = search needs
 
--- src/lib.rt:126:28
 enum-told : tie.Need-enum-told
 enum-told c = search needs
 
--- src/lib.rt:126:9
 returns : tie.Need-returns
 returns c =
     let a = c .before .before .before .before .args in
     let b = now (a .bytes) in
     judged-short b (a .n) (a .a) (a .b) (short-seen b (sym (c .enum-told .given .1) ∙ c .before .before .cut-first .ensures))
 
--- src/lib.rt:130:13
 returns-2 : tie.Need-returns-2
 returns-2 c =
     let a = c .before .before .before .before .before .before .before .args in
@@ -38,7 +33,6 @@ returns-2 c =
     let s = whole-seen b _ _ (sym (c .before .before .before .tag .given .1) ∙ c .before .before .before .before .before .cut-first .ensures) in
     judged-size b (a .n) (a .a) (a .b) _ _ s (c .before .if1 .taken) (c .if2 .taken)
 
--- src/lib.rt:132:38
 shared-slice-read-link-verdict : tie.Need-shared-slice-read-link-verdict
 shared-slice-read-link-verdict c =
     let a = c .before .before .before .before .before .before .before .before .args in
@@ -46,7 +40,6 @@ shared-slice-read-link-verdict c =
     let s = whole-seen b _ _ (sym (c .before .before .before .before .tag .given .1) ∙ c .before .before .before .before .before .before .cut-first .ensures) in
     omega (arith, s .fits)
 
--- src/lib.rt:132:48
 shared-slice-read-link-verdict-2 : tie.Need-shared-slice-read-link-verdict-2
 shared-slice-read-link-verdict-2 c =
     let a = c .before .before .before .before .before .before .before .before .before .args in
@@ -54,11 +47,9 @@ shared-slice-read-link-verdict-2 c =
     let s = whole-seen b _ _ (sym (c .before .before .before .before .before .tag .given .1) ∙ c .before .before .before .before .before .before .before .cut-first .ensures) in
     omega (arith, s .fits)
 
--- src/lib.rt:132:9
 link-verdict-requires : tie.Need-link-verdict-requires
 link-verdict-requires c κs = search needs
 
--- src/lib.rt:132:9
 returns-3 : tie.Need-returns-3
 returns-3 c =
     let a = c .before .before .before .before .before .before .before .before .before .before .args in
@@ -66,7 +57,6 @@ returns-3 c =
     let s = whole-seen b _ _ (sym (c .before .before .before .before .before .before .tag .given .1) ∙ c .before .before .before .before .before .before .before .before .cut-first .ensures) in
     judged-link b (a .n) (a .a) (a .b) _ _ s _ (c .before .before .before .before .if1 .taken) (c .before .before .before .if2 .left) (c .link-verdict .ensures)
 
--- src/lib.rt:135:9
 returns-4 : tie.Need-returns-4
 returns-4 c =
     let a = c .before .before .before .before .before .before .before .args in
@@ -74,7 +64,6 @@ returns-4 c =
     let s = whole-seen b _ _ (sym (c .before .before .before .tag .given .1) ∙ c .before .before .before .before .before .cut-first .ensures) in
     judged-tag b (a .n) (a .a) (a .b) _ _ s (c .before .if1 .left) (c .if3 .taken)
 
--- src/lib.rt:138:9
 returns-5 : tie.Need-returns-5
 returns-5 c =
     let a = c .before .before .before .before .before .before .before .before .args in
@@ -82,7 +71,6 @@ returns-5 c =
     let s = whole-seen b _ _ (sym (c .before .before .before .before .tag .given .1) ∙ c .before .before .before .before .before .before .cut-first .ensures) in
     judged-length b (a .n) (a .a) (a .b) _ _ s (c .before .before .if1 .left) (c .if4 .taken)
 
--- src/lib.rt:141:9
 returns-6 : tie.Need-returns-6
 returns-6 c =
     let a = c .before .before .before .before .before .before .before .before .before .args in
@@ -90,7 +78,6 @@ returns-6 c =
     let s = whole-seen b _ _ (sym (c .before .before .before .before .before .tag .given .1) ∙ c .before .before .before .before .before .before .before .cut-first .ensures) in
     judged-more b (a .n) (a .a) (a .b) _ _ s (c .before .before .before .if1 .left) (c .before .before .if3 .left) (c .before .if4 .left) (c .if5 .taken)
 
--- src/lib.rt:122:1
 returns-7 : tie.Need-returns-7
 returns-7 c =
     let a = c .before .before .before .before .before .before .before .before .before .args in

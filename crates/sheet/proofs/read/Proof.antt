@@ -12,35 +12,28 @@ use Rattle.sheet.proofs.first_field.Reads as first-field-reads
 use Rattle.sheet.proofs.read_links.Reads as read-links-reads
 use Rattle.sheet.proofs.refusal.Reads as refusal-reads
 
--- src/lib.rt:193:11
 first-field-requires : tie.Need-first-field-requires
 first-field-requires c κs = search needs
 
--- src/lib.rt:194:23
 enum-known-answer : tie.Need-enum-known-answer
 enum-known-answer c = search needs
 
--- src/lib.rt:194:34
 refusal-requires : tie.Need-refusal-requires
 refusal-requires c κs = search needs
 
--- src/lib.rt:195:25
 enum-known-n : tie.Need-enum-known-n
 enum-known-n c = search needs
 
--- src/lib.rt:195:31
 read-links-requires : tie.Need-read-links-requires
 read-links-requires c κs =
     let b = now (c .before .before .before .before .before .args .bytes) in
     read-room b _ (sym (ap (openingOf b) (c .before .n .given .1)) ∙ c .before .before .before .first-field .ensures)
 
--- src/lib.rt:190:1
 returns : tie.Need-returns
 returns c =
     let b = now (c .before .before .before .before .before .before .args .bytes) in
     read-faulty b _ _ (sym (ap (openingOf b) (c .before .before .answer .given .1)) ∙ c .before .before .before .before .first-field .ensures) (c .refusal .ensures)
 
--- src/lib.rt:190:1
 returns-2 : tie.Need-returns-2
 returns-2 c =
     let b = now (c .before .before .before .before .before .before .args .bytes) in

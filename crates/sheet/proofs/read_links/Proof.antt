@@ -17,100 +17,78 @@ Inv-loop bytes n low₀ high₀ a₀ b₀ k₀ at₀ low high a b k at = Standin
 abbrev μ-loop : tie.MeasureT-loop
 μ-loop bytes n low₀ high₀ a₀ b₀ k₀ at₀ low high a b k at = 64 - k
 
--- src/lib.rt:151:19
 zeros-requires : tie.Need-zeros-requires Inv-loop μ-loop
 zeros-requires c κs = search needs
 
--- src/lib.rt:152:20
 zeros-requires-2 : tie.Need-zeros-requires-2 Inv-loop μ-loop
 zeros-requires-2 c κs = search needs
 
--- src/lib.rt:157:5
 loop-holds : tie.Need-loop-holds Inv-loop μ-loop
 loop-holds c = standing-first _ _ _ _ (c .before .before .before .pre) (c .before .zeros .ensures) (c .zeros2 .ensures)
 
--- src/lib.rt:158:26
 sub-next-field : tie.Need-sub-next-field Inv-loop μ-loop
 sub-next-field c = search needs
 
--- src/lib.rt:158:26
 part-next-field-start : tie.Need-part-next-field-start Inv-loop μ-loop
 part-next-field-start c = search needs
 
--- src/lib.rt:158:26
 part-next-field-end : tie.Need-part-next-field-end Inv-loop μ-loop
 part-next-field-end c = search needs
 
--- src/lib.rt:158:15
 next-field-requires : tie.Need-next-field-requires Inv-loop μ-loop
 next-field-requires c κs = search needs
 
--- src/lib.rt:159:25
 enum-known-answer : tie.Need-enum-known-answer Inv-loop μ-loop
 enum-known-answer c = search needs
 
--- src/lib.rt:160:17
 refusal-requires : tie.Need-refusal-requires Inv-loop μ-loop
 refusal-requires c κs = search needs
 
--- src/lib.rt:160:17
 returns : tie.Need-returns Inv-loop μ-loop
 returns c =
     let l = c .before .before .before .before .before .before .loop in
     let a = c .before .before .before .before .before .before .before .before .before .before .args in
     standing-wrong (linksOf (a .n) (now (a .bytes))) (a .n) (now (a .bytes)) (l .low) (l .high) (l .a) (l .b) (l .k) (l .at) (l .inv) _ (c .before .before .before .before .next-field .ensures) _ _ (c .before .before .answer .given .1) (c .refusal .ensures)
 
--- src/lib.rt:164:29
 enum-told : tie.Need-enum-told Inv-loop μ-loop
 enum-told c = search needs
 
--- src/lib.rt:163:17
 returns-2 : tie.Need-returns-2 Inv-loop μ-loop
 returns-2 c =
     let l = c .before .before .before .before .loop in
     let a = c .before .before .before .before .before .before .before .before .args in
     standing-last (linksOf (a .n) (now (a .bytes))) (a .n) (now (a .bytes)) (l .low) (l .high) (l .a) (l .b) (l .k) (l .at) (l .inv) _ (c .before .before .next-field .ensures) (c .enum-told .given .1)
 
--- src/lib.rt:173:24
 enum-known-l : tie.Need-enum-known-l Inv-loop μ-loop
 enum-known-l c = search needs
 
--- src/lib.rt:175:21
 refusal-requires-2 : tie.Need-refusal-requires-2 Inv-loop μ-loop
 refusal-requires-2 c κs = search needs
 
--- src/lib.rt:175:21
 returns-3 : tie.Need-returns-3 Inv-loop μ-loop
 returns-3 c =
     let l = c .before .before .before .before .before .before .before .loop in
     let a = c .before .before .before .before .before .before .before .before .before .before .before .args in
     standing-full (linksOf (a .n) (now (a .bytes))) (a .n) (now (a .bytes)) (l .low) (l .high) (l .a) (l .b) (l .k) (l .at) (l .inv) _ (c .before .before .before .before .before .next-field .ensures) _ _ (c .before .before .before .l .given .1) _ (c .before .if1 .taken) (c .refusal2 .ensures)
 
--- src/lib.rt:177:25
 cast-i : tie.Need-cast-i Inv-loop μ-loop
 cast-i c = search needs
 
--- src/lib.rt:178:17
 array-write-low : tie.Need-array-write-low Inv-loop μ-loop
 array-write-low c = search needs
 
--- src/lib.rt:179:17
 array-write-high : tie.Need-array-write-high Inv-loop μ-loop
 array-write-high c = search needs
 
--- src/lib.rt:182:17
 add-k : tie.Need-add-k Inv-loop μ-loop
 add-k c = search needs
 
--- src/lib.rt:183:17
 add-at : tie.Need-add-at Inv-loop μ-loop
 add-at c = search needs
 
--- src/lib.rt:157:5
 loop-less : tie.Need-loop-less Inv-loop μ-loop
 loop-less c = search needs
 
--- src/lib.rt:157:5
 loop-again : tie.Need-loop-again Inv-loop μ-loop
 loop-again c =
     let l = c .before .before .before .before .before .before .loop in

@@ -5,15 +5,12 @@ use Rattle.sheet.proofs.refusal.Reads as reads
 use Rattle.sheet.proofs.refusal.Lts as lts
 use Rattle.sheet.proofs.zeros.Reads as zeros-reads
 
--- src/lib.rt:63:9
 zeros-requires : tie.Need-zeros-requires
 zeros-requires c κs = search needs
 
--- src/lib.rt:64:9
 zeros-requires-2 : tie.Need-zeros-requires-2
 zeros-requires-2 c κs = search needs
 
--- src/lib.rt:60:1
 returns : tie.Need-returns
 returns c = λ i. record { answer = c .before .before .args .answer; net = record { stations = 0; links = 0; low = c .before .zeros .ensures i; high = c .zeros2 .ensures i } }
 

@@ -4,7 +4,6 @@ use Rattle.sheet.proofs.zeros.Tie as tie
 use Rattle.sheet.proofs.zeros.Reads as reads
 use Rattle.sheet.proofs.zeros.Lts as lts
 
--- src/lib.rt:54:1
 returns : tie.Need-returns
 returns c = zeros-room
 

@@ -20,47 +20,36 @@ Inv-loop out₀ m low high i₀ out i = (i ≤ m) × (length out ≡ length out�
 abbrev μ-loop : tie.MeasureT-loop
 μ-loop out₀ m low high i₀ out i = m - i
 
--- src/lib.rt:227:5
 loop-holds : tie.Need-loop-holds Inv-loop μ-loop
 loop-holds c = let a = c .before .args in (omega arith, refl, none-written (a .t2) (a .t3) (now (a .out)))
 
--- src/lib.rt:228:18
 mul-at : tie.Need-mul-at Inv-loop μ-loop
 mul-at c = search needs
 
--- src/lib.rt:229:18
 sub-put-link : tie.Need-sub-put-link Inv-loop μ-loop
 sub-put-link c = search needs
 
--- src/lib.rt:229:18
 part-put-link-start : tie.Need-part-put-link-start Inv-loop μ-loop
 part-put-link-start c = search needs
 
--- src/lib.rt:229:18
 part-put-link-end : tie.Need-part-put-link-end Inv-loop μ-loop
 part-put-link-end c = search needs
 
--- src/lib.rt:229:34
 array-read-put-link : tie.Need-array-read-put-link Inv-loop μ-loop
 array-read-put-link c = search needs
 
--- src/lib.rt:229:42
 array-read-put-link-2 : tie.Need-array-read-put-link-2 Inv-loop μ-loop
 array-read-put-link-2 c = search needs
 
--- src/lib.rt:229:9
 put-link-requires : tie.Need-put-link-requires Inv-loop μ-loop
 put-link-requires c κs = search needs
 
--- src/lib.rt:227:9
 add-i : tie.Need-add-i Inv-loop μ-loop
 add-i c = search needs
 
--- src/lib.rt:227:5
 loop-less : tie.Need-loop-less Inv-loop μ-loop
 loop-less c = search needs
 
--- src/lib.rt:227:5
 loop-again : tie.Need-loop-again Inv-loop μ-loop
 loop-again c =
     let a = c .before .before .before .before .before .before .before .args in
@@ -68,11 +57,9 @@ loop-again c =
     let w = link-written (a .t2) (a .t3) (l .i) (now (a .out)) (l .out) (c .before .before .put-link .last .0) (l .inv .2) (c .before .before .put-link .ensures) in
     (omega arith, ap length w ∙ links-fit (a .t2) (a .t3) (l .i + 1) (now (a .out)) (omega (arith, c .before .before .before .before .before .before .before .pre)), w)
 
--- src/lib.rt:223:1
 same-length : tie.Need-same-length Inv-loop μ-loop
 same-length c = search needs
 
--- src/lib.rt:223:1
 returns : tie.Need-returns Inv-loop μ-loop
 returns c =
     let a = c .before .before .before .args in

@@ -11,51 +11,39 @@ use Rattle.sheet_writing.proofs.put_last.Reads as put-last-reads
 use Rattle.sheet_writing.proofs.put_links.Reads as put-links-reads
 use Rattle.sheet_writing.proofs.put_stations.Reads as put-stations-reads
 
--- src/lib.rt:238:9
 keeps-sheet-rules-requires : tie.Need-keeps-sheet-rules-requires
 keeps-sheet-rules-requires c κs = search needs
 
--- src/lib.rt:239:9
 returns : tie.Need-returns
 returns c = write-bad _ _ (c .before .keeps-sheet-rules .ensures) _ (c .if1 .taken)
 
--- src/lib.rt:241:13
 cast-m : tie.Need-cast-m
 cast-m c = search needs
 
--- src/lib.rt:242:19
 mul-end : tie.Need-mul-end
 mul-end c = search needs
 
--- src/lib.rt:242:15
 add-end : tie.Need-add-end
 add-end c = search needs
 
--- src/lib.rt:243:16
 add-size : tie.Need-add-size
 add-size c = search needs
 
--- src/lib.rt:245:9
 returns-2 : tie.Need-returns-2
 returns-2 c = write-short _ _ (c .before .before .before .keeps-sheet-rules .ensures) (c .before .before .if1 .left) _ (c .if2 .taken)
 
--- src/lib.rt:247:5
 put-stations-requires : tie.Need-put-stations-requires
 put-stations-requires c κs = search needs
 
--- src/lib.rt:250:15
 sub-put-links : tie.Need-sub-put-links
 sub-put-links c = search needs
 
--- src/lib.rt:250:15
 part-put-links-start : tie.Need-part-put-links-start
 part-put-links-start c = search needs
 
--- src/lib.rt:250:15
 part-put-links-end : tie.Need-part-put-links-end
 part-put-links-end c = search needs
 
--- src/lib.rt:250:5
 put-links-requires : tie.Need-put-links-requires
 put-links-requires c κs =
     let a = c .before .before .before .before .before .before .before .before .before .before .before .before .args in
@@ -63,27 +51,21 @@ put-links-requires c κs =
     let h = c .before .before .before .before .before .before .before .before .before .if1 .left in
     (few-links (a .net) _ e h, links-room (a .net) _ e h (now (a .out)) (c .before .before .before .before .before .before .before .if2 .left) _ (c .before .before .before .before .before .put-stations .ensures))
 
--- src/lib.rt:251:14
 sub-put-last : tie.Need-sub-put-last
 sub-put-last c = search needs
 
--- src/lib.rt:251:14
 part-put-last-start : tie.Need-part-put-last-start
 part-put-last-start c = search needs
 
--- src/lib.rt:251:14
 part-put-last-end : tie.Need-part-put-last-end
 part-put-last-end c = search needs
 
--- src/lib.rt:251:5
 put-last-requires : tie.Need-put-last-requires
 put-last-requires c κs = search needs
 
--- src/lib.rt:234:1
 same-length : tie.Need-same-length
 same-length c = search needs
 
--- src/lib.rt:234:1
 returns-3 : tie.Need-returns-3
 returns-3 c =
     let a = c .before .before .before .before .before .before .before .before .before .before .before .before .before .before .before .before .before .before .before .args in
