@@ -1,7 +1,7 @@
 // One station's part of the page, on bytes and small values alone: its own line, and under a live one a line for each station and
 // each link as the report shows them.
 ghost use mathlib.Core.Path.{_≡_};
-ghost use Prim.Native.Nat.{_+_, _*_, _≤_, min};
+ghost use Prim.Native.Nat.{_+_, _*_, _≤_};
 ghost use lib.ListN.{length, getD};
 ghost use Rattle.lists.specs.Lists.{if_then_else_, below};
 ghost use Rattle.lists.specs.Places.{collect};
@@ -141,12 +141,6 @@ fn put_links_seen(
     to
 }
 
-fn at_most(n: u8, most: u8) -> u8
-    ensures { λ r. ⌜ r ≡ min n most ⌝ }
-{
-    if n < most { n } else { most }
-}
-
 fn is_there(number: u8) -> bool
     ensures { λ r. ⌜ r ≡ isThere number ⌝ }
 {
@@ -190,8 +184,8 @@ pub fn put_part(
             written: put_still(out, s, waiting),
         };
     }
-    let n = at_most(net.stations, 32);
-    let m = at_most(net.links, 64);
+    let n = bits::at_most(net.stations, 32);
+    let m = bits::at_most(net.links, 64);
     let low = net.low;
     let high = net.high;
     let a = put_reach(out, s, ones, n);

@@ -1,7 +1,7 @@
 // The reach report of a live station, as bytes. The call reads the state it is given and changes nothing of it. Only the public
 // function holds a state: what answers for it takes the network and one table.
 ghost use mathlib.Core.Path.{_≡_};
-ghost use Prim.Native.Nat.{_+_, _<_, _≤_, min};
+ghost use Prim.Native.Nat.{_+_, _<_, _≤_};
 ghost use lib.ListN.{length};
 ghost use Rattle.lists.specs.Lists.{filled};
 ghost use Rattle.lists.specs.Words.{bitAt};
@@ -10,12 +10,6 @@ ghost use Rattle.reports.specs.Steps.{reportIn, linkShown};
 use counters::Counters;
 use net::Net;
 use state::State;
-
-fn at_most(x: u8, most: u8) -> u8
-    ensures { λ r. ⌜ r ≡ min x most ⌝ }
-{
-    if x < most { x } else { most }
-}
 
 // 1 for a station that the word has, 0 for one that it lacks.
 fn station_shown(word: u32, t: u8) -> u8
@@ -53,8 +47,8 @@ fn written(number: u8, net: Net, counters: Counters, me: u8, out: &mut [u8]) -> 
     if number != 0 {
         return number;
     }
-    let n = at_most(net.stations, 32);
-    let m = at_most(net.links, 64);
+    let n = bits::at_most(net.stations, 32);
+    let m = bits::at_most(net.links, 64);
     let from = n as usize;
     let size = from + m as usize;
     if out.len() < size {

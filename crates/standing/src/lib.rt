@@ -1,19 +1,13 @@
 // Where the stations stand at the end of the event program: each station's counters, on bytes and values alone. Nothing here reads
 // or writes.
 ghost use mathlib.Core.Path.{_≡_};
-ghost use Prim.Native.Nat.{_+_, _≤_, min};
+ghost use Prim.Native.Nat.{_+_, _≤_};
 ghost use lib.Dec.{leb};
 ghost use lib.ListN.{length, take};
 ghost use Rattle.console.specs.Outputs.{Counts, wroteBy, outputBy, Put};
 ghost use Rattle.standing.specs.Stations.{stationText, stationsText};
 use console::Wrote;
 use state::State;
-
-fn at_most(n: u8, most: u8) -> u8
-    ensures { λ r. ⌜ r ≡ min n most ⌝ }
-{
-    if n < most { n } else { most }
-}
 
 // A station's number and its counters by link.
 fn put_station(out: &mut [u8], at: usize, i: u8, links: u8, counters: [u16; 64]) -> usize
@@ -42,8 +36,8 @@ pub fn put_stations(s: State, out: &mut [u8]) -> Wrote
             written: 0,
         };
     }
-    let n = at_most(s.net.stations, 32);
-    let m = at_most(s.net.links, 64);
+    let n = bits::at_most(s.net.stations, 32);
+    let m = bits::at_most(s.net.links, 64);
     let mut at: usize = 0;
     for i in 0..n {
         let here = i as usize;
