@@ -2,8 +2,8 @@
 use Prim.Native.Nat.{ℕ, _+_, _%_, _≤_, _<_, max}
 use mathlib.Core.Bool.{true, false}
 use mathlib.Core.Path.{_≡_}
-use mathlib.Core.List.{[], _∷_}
 use borrow.Author.Tests.{eq-eqb, ne-eqb, eqb-true, eqb-false, le-ltb, lt-ltb}
+use Rattle.counters.specs.declared.Healed.the-variants.{To, TooHigh}
 use Rattle.counters.specs.Counters.{even, healed, healing, timedOut}
 
 pub even-is : (c : ℕ) → even c ≡ true → c % 2 ≡ 0
@@ -26,10 +26,10 @@ pub healed-odd : (own carried : ℕ) → (max own carried % 2 ≡ 0 → ⊥) →
 unfolding healed
 healed-odd own carried h = simp (ne-eqb _ _ h)
 
-pub healing-fits : (own carried m : ℕ) → healed own carried ≡ m → m ≤ 65535 → 0 ∷ m ∷ [] ≡ healing own carried
+pub healing-fits : (own carried m : ℕ) → healed own carried ≡ m → m ≤ 65535 → To m ≡ healing own carried
 unfolding healing
 healing-fits own carried m e h = simp (e, le-ltb 65535 m h)
 
-pub healing-over : (own carried m : ℕ) → healed own carried ≡ m → 65535 < m → 8 ∷ [] ≡ healing own carried
+pub healing-over : (own carried m : ℕ) → healed own carried ≡ m → 65535 < m → TooHigh ≡ healing own carried
 unfolding healing
 healing-over own carried m e h = simp (e, lt-ltb 65535 m h)

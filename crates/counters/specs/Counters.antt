@@ -21,11 +21,11 @@ timedOut c = if even c then c + 1 else c
 unfoldable pub healed : ℕ → ℕ → ℕ
 healed own carried = if even (max own carried) then max own carried else max own carried + 1
 
--- a reply's new counter, or 8 where it would be 65,536
-unfoldable pub healing : ℕ → ℕ → List ℕ
-healing own carried = if ltb 65535 (healed own carried) then (8 ∷ []) else (0 ∷ healed own carried ∷ [])
+-- a reply's new counter, or that it would be 65,536
+unfoldable pub healing : ℕ → ℕ → Healed
+healing own carried = if ltb 65535 (healed own carried) then TooHigh else To (healed own carried)
 
--- the number and values of the answer
+-- the paper's number and values of that answer
 abbrev pub healedNumbers : Healed → List ℕ
 healedNumbers (To c) = 0 ∷ c ∷ []
 healedNumbers TooHigh = 8 ∷ []

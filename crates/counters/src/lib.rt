@@ -1,7 +1,7 @@
 // A link's counter, and the rules for it that stand alone. Every public function answers every number.
 ghost use mathlib.Core.Path.{_≡_};
 ghost use Prim.Native.Nat.{max};
-ghost use Rattle.counters.specs.Counters.{even, timedOut, healing, healedNumbers, newer};
+ghost use Rattle.counters.specs.Counters.{even, timedOut, healing, newer};
 
 // A station's table: the counter of link k at place k.
 pub type Counters = [u16; 64];
@@ -28,7 +28,7 @@ pub fn timed_out(own: u16) -> u16
 
 // The counter after a reply: even again, and never below the larger of the two.
 pub fn heal(own: u16, carried: u16) -> Healed
-    ensures { λ r. ⌜ healedNumbers r ≡ healing own carried ⌝ }
+    ensures { λ r. ⌜ r ≡ healing own carried ⌝ }
 {
     let larger = larger_of(own, carried);
     if larger % 2 == 0 {

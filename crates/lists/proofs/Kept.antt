@@ -1,7 +1,7 @@
 -- Laws of a test over a whole list: how it passes to what is kept, mapped and joined; and how many are kept. Assumes nothing.
 use Prim.Native.Nat.{ℕ, zero, suc, _+_, _-_, _≤_, _<_}
 use mathlib.Core.Bool.{Bool, true, false, not, _&&_}
-use mathlib.Core.Path.{_≡_, subst⁻¹}
+use mathlib.Core.Path.{_≡_, refl, ap, subst⁻¹}
 use mathlib.Core.Logic.{⊎-elim}
 use mathlib.Core.List.{List, [], _∷_, _++_, map, List·Memᴰ, List·Memᴰ·not-nil, List·Memᴰ·cases-cons}
 use native.Mathlib.Decide.{ℕ-discrete}
@@ -61,6 +61,16 @@ module _ {ℓ} {A : Type ℓ} where
       go true false g h = absurd (g tt)
       go false true g h = omega arith
       go false false g h = h
+
+  -- what is kept of what is kept
+  pub keep-keep : (p q : A → Bool) (xs : List A) → keep q (keep p xs) ≡ keep (λ x. p x && q x) xs
+  keep-keep p q [] = refl
+  keep-keep p q (x ∷ xs) = go (p x) (keep-keep p q xs)
+    where
+      go : (b : Bool) → keep q (keep p xs) ≡ keep (λ y. p y && q y) xs
+          → keep q (if b then (x ∷ keep p xs) else keep p xs) ≡ (if b && q x then (x ∷ keep (λ y. p y && q y) xs) else keep (λ y. p y && q y) xs)
+      go true e = ap (λ (l : List A). if q x then (x ∷ l) else l) e
+      go false e = e
 
 module _ {ℓ κ} {A : Type ℓ} {B : Type κ} where
   pub every-map : (p : B → Bool) (f : A → B) (xs : List A) → T (every (λ x. p (f x)) xs) → T (every p (map f xs))

@@ -22,20 +22,21 @@ module _ (net : Net) (cs : List ℕ) where
   abbrev pub purgedAt : ℕ → ℕ → ℕ
   purgedAt w k = purgedTo (getD (net .low) k 0) (getD (net .high) k 0) (getD cs k 0) w
 
-  pub purge-filled : (s w : ℕ) → length cs ≡ 64 → w ≡ wordOf (reachOf net cs s) → filled (purgedAt w) cs (linkCount net) ≡ purgedOf net cs s
+  pub purge-filled : (works : ℕ → Bool) (s w : ℕ) → length cs ≡ 64 → w ≡ wordOf (reachOf net works s)
+      → filled (purgedAt w) cs (linkCount net) ≡ purgedOf net works cs s
   unfolding purgedOf purge
-  purge-filled s w size e =
+  purge-filled works s w size e =
       ap (λ (l : List ℕ). l ++ drop (linkCount net) cs)
       (map-below-same (purgedAt w) kept (linkCount net) one ∙ ap (λ (n : ℕ). map kept (below n)) (sym (links-of net)))
     where
       kept : ℕ → ℕ
-      kept k = if near (networkOf net) (has (reachOf net cs s)) k then counterIn (tableOf net cs) k else 1
+      kept k = if near (networkOf net) (has (reachOf net works s)) k then counterIn (tableOf net cs) k else 1
 
-      seen : (t : ℕ) → inWord w t ≡ has (reachOf net cs s) t
-      seen t = ap (λ (x : ℕ). inWord x t) e ∙ in-wordOf (reachOf net cs s) t
+      seen : (t : ℕ) → inWord w t ≡ has (reachOf net works s) t
+      seen t = ap (λ (x : ℕ). inWord x t) e ∙ in-wordOf (reachOf net works s) t
 
       one : (k : ℕ) → k < linkCount net → purgedAt w k ≡ kept k
       one k h =
           ap₂ (λ (x y : Bool). if x || y then getD cs k 0 else 1) (seen (getD (net .low) k 0)) (seen (getD (net .high) k 0))
-          ∙ ap₂ (λ (x : Ends) (c : ℕ). if has (reachOf net cs s) (x .low) || has (reachOf net cs s) (x .high) then c else 1)
+          ∙ ap₂ (λ (x : Ends) (c : ℕ). if has (reachOf net works s) (x .low) || has (reachOf net works s) (x .high) then c else 1)
           (sym (ends-of net k h)) (sym (counter-of net cs k size h))

@@ -1,6 +1,7 @@
 // Purge: what a station forgets of links that it doesn't reach. Every public function answers every input;
 // what a bad network or a station that is not there gives is said in reach/specs/Values.antt.
 ghost use mathlib.Core.Path.{_≡_};
+ghost use Rattle.lists.specs.Words.{inWord};
 ghost use Rattle.reach.specs.Values.{purgedOf};
 ghost use Rattle.purging.specs.Steps.{purgedTo};
 use counters::Counters;
@@ -13,12 +14,12 @@ fn purge_one(a: u8, b: u8, counter: u16, w: u32) -> u16
     if bits::has_end(a, b, w) { counter } else { 1 }
 }
 
-// The counters after a purge at s: 1 for each link neither of whose ends s reaches.
-pub fn purged(net: Net, counters: Counters, s: u8) -> Counters
-    ensures { λ r. ⌜ r ≡ purgedOf net counters s ⌝ }
+// The counters after a purge at s: 1 for each link neither of whose ends s reaches over the working links.
+pub fn purged(net: Net, working: u64, counters: Counters, s: u8) -> Counters
+    ensures { λ r. ⌜ r ≡ purgedOf net (inWord working) counters s ⌝ }
 {
     let m = bits::at_most(net.links, 64);
-    let w = reach::reach_word(net, counters, s);
+    let w = reach::reach_word(net, working, s);
     let mut next = counters;
     for k in 0..m {
         let i = k as usize;

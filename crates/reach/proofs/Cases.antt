@@ -3,7 +3,7 @@ use Prim.Native.Nat.{ℕ}
 use mathlib.Core.Path.{_≡_, refl}
 use mathlib.Core.List.{List, [], _∷_, _++_, map}
 use Rattle.net.specs.Network.{Network}
-use Rattle.reach.specs.Reach.{report}
+use Rattle.reach.specs.Reach.{worksIn, report}
 
 pub record Case : Type 0 where
   pub number : ℕ
@@ -17,8 +17,8 @@ line = record { stations = 3; links = record { low = 0; high = 1 } ∷ record { 
 pub table : List Case
 unfolding line report
 table =
-    record { number = 11; got = report line 0 (2 ∷ 1 ∷ []); want = (1 ∷ 1 ∷ 0 ∷ []) ++ (1 ∷ 2 ∷ []) }
-    ∷ record { number = 12; got = report line 0 (1 ∷ 2 ∷ []); want = (1 ∷ 0 ∷ 0 ∷ []) ++ (2 ∷ 0 ∷ []) }
+    record { number = 11; got = report line (worksIn (2 ∷ 1 ∷ [])) 0; want = (1 ∷ 1 ∷ 0 ∷ []) ++ (1 ∷ 2 ∷ []) }
+    ∷ record { number = 12; got = report line (worksIn (1 ∷ 2 ∷ [])) 0; want = (1 ∷ 0 ∷ 0 ∷ []) ++ (2 ∷ 0 ∷ []) }
     ∷ []
 
 pub cases-hold : map (λ c. c .got) table ≡ map (λ c. c .want) table

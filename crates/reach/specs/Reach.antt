@@ -72,25 +72,24 @@ countOf set = sumOf bit set
 abbrev pub lowestOf : List Bool → ℕ
 lowestOf set = firstOf (λ t. not (has set t)) (below (length set)) 255
 
--- ---- purge and the report, at the station s with its table
+-- ---- purge and the report, at the station s
 
 -- an end of the link k is a member
 abbrev pub near : Network → (ℕ → Bool) → ℕ → Bool
 near net member k = member (ends net k .low) || member (ends net k .high)
 
--- every link neither of whose ends s reaches gets counter 1
-unfoldable pub purge : Network → ℕ → List ℕ → List ℕ
+-- in s's table every link neither of whose ends s reaches gets counter 1
+unfoldable pub purge : Network → (ℕ → Bool) → ℕ → List ℕ → List ℕ
 unfolding reach
-purge net s table =
-    map (λ k. if near net (has (reach net (worksIn table) s)) k then counterIn table k else 1) (linkNumbers net)
+purge net works s table = map (λ k. if near net (has (reach net works s)) k then counterIn table k else 1) (linkNumbers net)
 
--- a link in the report: 0 perceived unreachable, neither end reached; 1 working, even; 2 unresponsive, odd
-abbrev pub linkValue : Bool → ℕ → ℕ
-linkValue reached c = if reached then (if even c then 1 else 2) else 0
+-- a link in the report: 0 perceived unreachable, neither end reached; 1 working; 2 unresponsive
+abbrev pub linkValue : Bool → Bool → ℕ
+linkValue reached works = if reached then (if works then 1 else 2) else 0
 
 -- one for each station, 1 working and 0 unreachable, then one for each link
-unfoldable pub report : Network → ℕ → List ℕ → List ℕ
+unfoldable pub report : Network → (ℕ → Bool) → ℕ → List ℕ
 unfolding reach
-report net s table =
-    map (λ t. bit (has (reach net (worksIn table) s) t)) (below (net .stations))
-    ++ map (λ k. linkValue (near net (has (reach net (worksIn table) s)) k) (counterIn table k)) (linkNumbers net)
+report net works s =
+    map (λ t. bit (has (reach net works s) t)) (below (net .stations))
+    ++ map (λ k. linkValue (near net (has (reach net works s)) k) (works k)) (linkNumbers net)

@@ -5,11 +5,10 @@ use mathlib.Core.Logic.{_⊎_}
 use mathlib.Core.Bool.{Bool, not, _&&_}
 use lib.Dec.{eqb, ltb}
 use Rattle.lists.specs.Words.{bitAt}
-use Rattle.counters.specs.Counters.{even}
 
--- an even link between two of the n stations, of which the word has one and lacks the other
-abbrev pub crosses : ℕ → ℕ → ℕ → ℕ → ℕ → Bool
-crosses n a b c w = even c && (ltb a n && (ltb b n && not (eqb (bitAt w a) (bitAt w b))))
+-- a working link between two of the n stations, of which the word has one and lacks the other
+abbrev pub crosses : ℕ → ℕ → ℕ → Bool → ℕ → Bool
+crosses n a b works w = works && (ltb a n && (ltb b n && not (eqb (bitAt w a) (bitAt w b))))
 
 -- r is the word w with one bit more: that of one of two ends of which w has the other
 pub record Apart (a b w r : ℕ) : Type 0 where

@@ -1,9 +1,9 @@
-// Who reaches whom, by a station's own counters, and the laws of it. Every input is answered;
+// Who reaches whom over the links that work, which of them work by a station's counters, and the laws of it. Every input is answered;
 // what a bad network or a station that is not there gives is said in specs/Values.antt.
 ghost use mathlib.Core.Path.{_≡_};
 ghost use Prim.Native.Nat.{_+_, _<_, _^_};
-ghost use Rattle.lists.specs.Words.{bitAt, wordOf};
-ghost use Rattle.reach.specs.Values.{reachOf};
+ghost use Rattle.lists.specs.Words.{bitAt, inWord, wordOf};
+ghost use Rattle.reach.specs.Values.{reachOf, workingOf};
 ghost use Rattle.reach.specs.Steps.{crosses, Apart};
 use counters::Counters;
 use net::Net;
@@ -16,11 +16,11 @@ fn with_bit(w: u32, t: u8) -> u32
     w + (1u32 << t)
 }
 
-// Whether a link with the ends a and b and the counter c works and joins a reached station to an unreached one.
-fn joins(n: u8, a: u8, b: u8, c: u16, w: u32) -> bool
-    ensures { λ r. ⌜ r ≡ crosses n a b c w ⌝ }
+// Whether a link with the ends a and b works and joins a reached station to an unreached one.
+fn joins(n: u8, a: u8, b: u8, works: bool, w: u32) -> bool
+    ensures { λ r. ⌜ r ≡ crosses n a b works w ⌝ }
 {
-    if !counters::is_even(c) {
+    if !works {
         return false;
     }
     if n <= a {
@@ -44,10 +44,23 @@ fn grown(a: u8, b: u8, w: u32) -> u32
     }
 }
 
-// The stations that s reaches by the counters, as a word: from s on, take the first link, by number, that joins a
+// The links that are there and work by the counters, as a word: bit k for link k.
+pub fn working_links(links: u8, counters: Counters) -> u64
+    ensures { λ r. ⌜ r ≡ workingOf links counters ⌝ }
+{
+    let m = bits::at_most(links, 64);
+    let mut working: u64 = 0;
+    for k in 0..m {
+        let i = k as usize;
+        working = words::put(working, k, counters::is_even(counters[i]));
+    }
+    working
+}
+
+// The stations that s reaches over the working links, as a word: from s on, take the first link, by number, that joins a
 // reached station to an unreached one and works, until none is left. A station that is not there reaches nothing.
-pub fn reach_word(net: Net, counters: Counters, s: u8) -> u32
-    ensures { λ r. ⌜ r ≡ wordOf (reachOf net counters s) ⌝ }
+pub fn reach_word(net: Net, working: u64, s: u8) -> u32
+    ensures { λ r. ⌜ r ≡ wordOf (reachOf net (inWord working) s) ⌝ }
 {
     let n = bits::at_most(net.stations, 32);
     let m = bits::at_most(net.links, 64);
@@ -63,7 +76,7 @@ pub fn reach_word(net: Net, counters: Counters, s: u8) -> u32
                 break 'grow;
             }
             let i = k as usize;
-            if joins(n, net.low[i], net.high[i], counters[i], w) {
+            if joins(n, net.low[i], net.high[i], words::has(working, k), w) {
                 break 'search k;
             }
             k += 1;

@@ -65,12 +65,12 @@ fn print_counters(counters: Counters, links: u8)
     }
 }
 
-fn print_links(net: Net, counters: Counters, word: u32, links: u8)
+fn print_links(net: Net, working: u64, word: u32, links: u8)
     requires { ⌜ links ≤ 64 ⌝ }
 {
     for k in 0..links {
         let i = k as usize;
-        let shown = showing::link_shown(net.low[i], net.high[i], counters[i], word);
+        let shown = showing::link_shown(net.low[i], net.high[i], words::has(working, k), word);
         print(shown as u64);
     }
 }
@@ -83,20 +83,21 @@ fn run(case: &[u8])
     let s = case[258];
     let links = shown_links(net.links);
     io::write_all(1, b"rules");
-    if net::keeps_sheet_rules(net) {
+    if sheet_rules::keeps_sheet_rules(net) {
         io::write_all(1, b" kept");
     } else {
         io::write_all(1, b" broken");
     }
-    let got = showing::reach_of(net, counters, s);
+    let working = reach::working_links(net.links, counters);
+    let got = showing::reach_of(net, working, s);
     io::write_all(1, b"\nreach");
     print(got.word as u64);
     print(got.ones as u64);
     print(got.lowest as u64);
     io::write_all(1, b"\npurged");
-    print_counters(purging::purged(net, counters, s), links);
+    print_counters(purging::purged(net, working, counters, s), links);
     io::write_all(1, b"\nlinks");
-    print_links(net, counters, got.word, links);
+    print_links(net, working, got.word, links);
     io::write_all(1, b"\n");
 }
 

@@ -2,7 +2,6 @@
 use Prim.Native.Nat.{ℕ, _≤_, _<_, min}
 use mathlib.Core.Bool.{Bool, not}
 use mathlib.Core.Path.{_≡_, sym, ap, _∙_, fun-ext}
-use mathlib.Core.List.{List}
 use native.Mathlib.Omega.{arith}
 use Rattle.lists.specs.Lists.{below, firstOf}
 use Rattle.lists.specs.Words.{inWord, wordOf}
@@ -18,22 +17,22 @@ use Rattle.reach.proofs.Word.{word-fits}
 use Rattle.showing.specs.declared.Reached.{Reached}
 use Rattle.showing.specs.Values.{reachedOf, onesOf, lowestMissing}
 
-module _ (net : Net) (counters : List ℕ) (s : ℕ) where
-  pub ones-of-reach : onesOf (wordOf (reachOf net counters s)) ≡ countOf (reachOf net counters s)
+module _ (net : Net) (works : ℕ → Bool) (s : ℕ) where
+  pub ones-of-reach : onesOf (wordOf (reachOf net works s)) ≡ countOf (reachOf net works s)
   unfolding onesOf
-  ones-of-reach = sym (ones-bits 32 (wordOf (reachOf net counters s)) (word-fits net counters s)) ∙ ones-wordOf (reachOf net counters s)
+  ones-of-reach = sym (ones-bits 32 (wordOf (reachOf net works s)) (word-fits net works s)) ∙ ones-wordOf (reachOf net works s)
 
-  pub lowest-of-reach : lowestMissing (wordOf (reachOf net counters s)) (net .stations) ≡ lowestOf (reachOf net counters s)
+  pub lowest-of-reach : lowestMissing (wordOf (reachOf net works s)) (net .stations) ≡ lowestOf (reachOf net works s)
   unfolding lowestMissing
   lowest-of-reach =
-      ap (λ (p : ℕ → Bool). firstOf p (below (min (net .stations) 32)) 255) (fun-ext (λ t. ap not (in-wordOf (reachOf net counters s) t)))
-      ∙ ap (λ (n : ℕ). firstOf (λ t. not (has (reachOf net counters s) t)) (below n) 255) (sym (reach-length _ _ s ∙ stations-of net))
+      ap (λ (p : ℕ → Bool). firstOf p (below (min (net .stations) 32)) 255) (fun-ext (λ t. ap not (in-wordOf (reachOf net works s) t)))
+      ∙ ap (λ (n : ℕ). firstOf (λ t. not (has (reachOf net works s) t)) (below n) 255) (sym (reach-length _ _ s ∙ stations-of net))
 
-pub reached-is : (net : Net) (counters : List ℕ) (s word ones lowest : ℕ) → word ≡ wordOf (reachOf net counters s) → ones ≡ onesOf word
-    → lowest ≡ lowestMissing word (net .stations) → _≡_ {A = Reached} (record { word = word; ones = ones; lowest = lowest }) (reachedOf net counters s)
-reached-is net counters s word ones lowest p q r =
-    let q′ = q ∙ ap onesOf p ∙ ones-of-reach net counters s in
-    let r′ = r ∙ ap (λ (w : ℕ). lowestMissing w (net .stations)) p ∙ lowest-of-reach net counters s in
+pub reached-is : (net : Net) (works : ℕ → Bool) (s word ones lowest : ℕ) → word ≡ wordOf (reachOf net works s) → ones ≡ onesOf word
+    → lowest ≡ lowestMissing word (net .stations) → _≡_ {A = Reached} (record { word = word; ones = ones; lowest = lowest }) (reachedOf net works s)
+reached-is net works s word ones lowest p q r =
+    let q′ = q ∙ ap onesOf p ∙ ones-of-reach net works s in
+    let r′ = r ∙ ap (λ (w : ℕ). lowestMissing w (net .stations)) p ∙ lowest-of-reach net works s in
     λ i. record { word = p i; ones = q′ i; lowest = r′ i }
 
 -- the lowest bit that a word lacks, by the trailing zeros of its complement

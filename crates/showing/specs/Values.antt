@@ -1,7 +1,6 @@
 -- What the public functions answer, in the words of reach. Assumes nothing.
 use Prim.Native.Nat.{ℕ, min}
-use mathlib.Core.Bool.{not}
-use mathlib.Core.List.{List}
+use mathlib.Core.Bool.{Bool, not}
 use Rattle.lists.specs.Lists.{below, sumOf, firstOf}
 use Rattle.lists.specs.Words.{bitAt, inWord, wordOf}
 use Rattle.net.specs.declared.Net.{Net}
@@ -10,9 +9,9 @@ use Rattle.reach.specs.Values.{reachOf}
 use Rattle.showing.specs.declared.Reached.{Reached}
 
 -- the stations that s reaches as a word, with how many there are and the lowest that is not among them
-abbrev pub reachedOf : Net → List ℕ → ℕ → Reached
-reachedOf net counters s =
-    record { word = wordOf (reachOf net counters s); ones = countOf (reachOf net counters s); lowest = lowestOf (reachOf net counters s) }
+abbrev pub reachedOf : Net → (ℕ → Bool) → ℕ → Reached
+reachedOf net works s =
+    record { word = wordOf (reachOf net works s); ones = countOf (reachOf net works s); lowest = lowestOf (reachOf net works s) }
 
 -- how many bits of a 32-bit word are set
 unfoldable pub onesOf : ℕ → ℕ

@@ -5,7 +5,6 @@ ghost use mathlib.Core.Bool.{_||_};
 ghost use Rattle.lists.specs.Words.{inWord};
 ghost use Rattle.reach.specs.Reach.{linkValue};
 ghost use Rattle.showing.specs.Values.{reachedOf, onesOf, lowestMissing};
-use counters::Counters;
 use net::Net;
 
 // A reach: bit t of the word for station t, how many bits are set, and the lowest station not reached or 255.
@@ -32,21 +31,21 @@ pub fn lowest_missing(word: u32, stations: u8) -> u8
 }
 
 // The reach word with its two numbers.
-pub fn reach_of(net: Net, counters: Counters, s: u8) -> Reached
-    ensures { λ r. ⌜ r ≡ reachedOf net counters s ⌝ }
+pub fn reach_of(net: Net, working: u64, s: u8) -> Reached
+    ensures { λ r. ⌜ r ≡ reachedOf net (inWord working) s ⌝ }
 {
-    let word = reach::reach_word(net, counters, s);
+    let word = reach::reach_word(net, working, s);
     let ones = count_ones(word);
     let lowest = lowest_missing(word, net.stations);
     Reached { word, ones, lowest }
 }
 
-// How the report shows a link with the ends low and high to the station whose counter and reach word these are.
-pub fn link_shown(low: u8, high: u8, counter: u16, word: u32) -> u8
-    ensures { λ r. ⌜ r ≡ linkValue (inWord word low || inWord word high) counter ⌝ }
+// How the report shows a link with the ends low and high, which works or not, to the station whose reach word this is.
+pub fn link_shown(low: u8, high: u8, works: bool, word: u32) -> u8
+    ensures { λ r. ⌜ r ≡ linkValue (inWord word low || inWord word high) works ⌝ }
 {
     if bits::has_end(low, high, word) {
-        if counters::is_even(counter) { 1 } else { 2 }
+        if works { 1 } else { 2 }
     } else {
         0
     }

@@ -42,6 +42,10 @@ by-same f g e = by-ext (wordBy f) g (by-lt f) (λ t h. in-by f t h ∙ e t h)
 pub by-none : (f : ℕ → Bool) → ((t : ℕ) → t < 64 → f t ≡ false) → 0 ≡ wordBy f
 by-none f e = by-ext 0 f (pow-pos 64) (λ t h. zero-is-out 0 t (none-in t) ∙ sym (e t h))
 
+-- the largest word has every place
+pub all-in : (t : ℕ) → t < 64 → inWord 18446744073709551615 t ≡ true
+all-in t h = one-is-in 18446744073709551615 t (not-at 64 0 t h (pow-pos 64) ∙ ap (λ (n : ℕ). 1 - n) (none-in t))
+
 -- ---- one place put in or taken off
 module _ (w k : ℕ) (h : w < 2 ^ 64) where
   abbrev pub putAt : Bool → ℕ → Bool

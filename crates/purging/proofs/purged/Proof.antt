@@ -6,16 +6,17 @@ use Prim.Native.Nat.{ℕ, _≤_, _-_}
 use native.Mathlib.Omega.{arith}
 use borrow.Author.Needs.{needs}
 use Rattle.lists.specs.Lists.{filled}
+use Rattle.lists.specs.Words.{inWord}
 use Rattle.lists.proofs.Fill.{filled-more}
 use Rattle.purging.proofs.Tables.{purgedAt, purge-filled}
 use Rattle.purging.proofs.purged.Statement.{statement}
 use Rattle.purging.proofs.purged.Tie as tie
 
 abbrev Inv-loop : tie.InvT-loop
-Inv-loop s net counters m w next₀ k₀ next k = (next ≡ filled (purgedAt net counters w) counters k) × (k ≤ m)
+Inv-loop working s net counters m w next₀ k₀ next k = (next ≡ filled (purgedAt net counters w) counters k) × (k ≤ m)
 
 abbrev μ-loop : tie.MeasureT-loop
-μ-loop s net counters m w next₀ k₀ next k = m - k
+μ-loop working s net counters m w next₀ k₀ next k = m - k
 
 at-most-requires : tie.Need-at-most-requires Inv-loop μ-loop
 at-most-requires c κs = search needs
@@ -62,7 +63,7 @@ loop-again c =
     let l = c .before .before .before .before .loop in
     let w = c .before .before .before .before .before .reach-word .result in (
       ap₂ (λ (xs : List ℕ) (v : ℕ). set xs (l .k) v) (l .inv .0) (c .purge-one .ensures)
-          ∙ filled-more (purgedAt (a .t1) (a .t2) w) (a .t2) (l .k) (search needs),
+          ∙ filled-more (purgedAt (a .t1) (a .t3) w) (a .t3) (l .k) (search needs),
       omega arith,
     )
 
@@ -71,8 +72,8 @@ returns c =
     let a = c .before .before .before .before .args in
     let l = c .before .loop in
     let e : l .k ≡ linkCount (a .t1) = omega (arith, c .before .before .before .at-most .ensures) in
-    l .inv .0 ∙ ap (filled (purgedAt (a .t1) (a .t2) (c .before .before .reach-word .result)) (a .t2)) e
-    ∙ purge-filled (a .t1) (a .t2) (a .s) _ (search needs) (c .before .before .reach-word .ensures)
+    l .inv .0 ∙ ap (filled (purgedAt (a .t1) (a .t3) (c .before .before .reach-word .result)) (a .t3)) e
+    ∙ purge-filled (a .t1) (a .t3) (inWord (a .working)) (a .s) _ (search needs) (c .before .before .reach-word .ensures)
 
 pub purged-spec : {M : Type 1} → statement M
 purged-spec =

@@ -5,10 +5,10 @@ use Rattle.reach_cases.proofs.print_links.Statement.{statement}
 use Rattle.reach_cases.proofs.print_links.Tie as tie
 
 abbrev Inv-loop : tie.InvT-loop
-Inv-loop word links net counters k₀ k = k ≤ links
+Inv-loop working word links net k₀ k = k ≤ links
 
 abbrev μ-loop : tie.MeasureT-loop
-μ-loop word links net counters k₀ k = links - k
+μ-loop working word links net k₀ k = links - k
 
 loop-holds : tie.Need-loop-holds Inv-loop μ-loop
 loop-holds c = omega arith
@@ -22,11 +22,8 @@ element-copy-out-link-shown c = omega arith
 element-copy-out-link-shown-2 : tie.Need-element-copy-out-link-shown-2 Inv-loop μ-loop
 element-copy-out-link-shown-2 c = omega arith
 
-mul-link-shown : tie.Need-mul-link-shown Inv-loop μ-loop
-mul-link-shown c = omega arith
-
-array-read-link-shown : tie.Need-array-read-link-shown Inv-loop μ-loop
-array-read-link-shown c = omega arith
+has-requires : tie.Need-has-requires Inv-loop μ-loop
+has-requires c κs = search needs
 
 link-shown-requires : tie.Need-link-shown-requires Inv-loop μ-loop
 link-shown-requires c κs = search needs
@@ -59,8 +56,7 @@ print-links-spec =
     cast-i
     element-copy-out-link-shown
     element-copy-out-link-shown-2
-    mul-link-shown
-    array-read-link-shown
+    has-requires
     link-shown-requires
     cast-print
     print-requires
