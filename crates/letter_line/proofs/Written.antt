@@ -15,7 +15,8 @@ use Rattle.net.specs.declared.Body.the-variants.{Request, Reply, Notice}
 use Rattle.net.specs.declared.Letter.{Letter}
 use Rattle.net.specs.declared.Net.{Net}
 use Rattle.net.specs.Network.{Network}
-use Rattle.net.specs.Values.{networkOf, netHolds}
+use Rattle.net.specs.Values.{networkOf}
+use Rattle.sheet_rules.specs.Values.{netHolds}
 use Rattle.net.specs.Letters.{letterHolds}
 use Rattle.letters.specs.Letters.{letter, readLetter, bodyBytes, sideOf, writeLetter}
 use Rattle.letters.specs.Letters as L

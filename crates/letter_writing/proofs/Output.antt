@@ -17,8 +17,9 @@ use Rattle.net.specs.declared.Net.{Net}
 use Rattle.net.specs.declared.Letter.{Letter}
 use Rattle.net.specs.Network.{Ends, Network, isEnd}
 use Rattle.net.specs.Letters.{bodyHolds, letterHolds}
-use Rattle.net.specs.Values.{networkOf, netHolds, bodyTest}
-use Rattle.net.proofs.Good.{few-places, links-are, ends-are, bodies-are}
+use Rattle.net.specs.Values.{networkOf, bodyTest}
+use Rattle.sheet_rules.specs.Values.{netHolds}
+use Rattle.sheet_rules.proofs.Good.{few-places, links-are, ends-are, bodies-are}
 use Rattle.letters.specs.declared.Wrote.{Wrote}
 use Rattle.letters.specs.declared.Wrote.the-variants as wrote
 use Rattle.letters.specs.Letters.{sideOf, bodyBytes, writeLetter}

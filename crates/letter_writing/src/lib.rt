@@ -77,7 +77,7 @@ pub fn write(net: Net, letter: Letter, out: &mut [u8]) -> Wrote
     ensures answer { λ r. ⌜ wroteNumbers r ≡ writingNumbers (writing net letter (now (out .entry))) ⌝ }
     ensures output { λ r. ⌜ now (out .exit) ≡ writingOutput (writing net letter (now (out .entry))) (now (out .entry)) ⌝ }
 {
-    if !net::keeps_sheet_rules(net) {
+    if !sheet_rules::keeps_sheet_rules(net) {
         return Wrote::BadNetwork;
     }
     let link = letter.link;

@@ -13,12 +13,13 @@ use Rattle.fields.proofs.Seen.{Seen, value-at}
 use Rattle.net.specs.declared.Net.{Net}
 use Rattle.net.specs.declared.Body.{Body}
 use Rattle.net.specs.Network.{Ends, Network}
-use Rattle.net.specs.Values.{networkOf, netHolds}
+use Rattle.net.specs.Values.{networkOf}
+use Rattle.sheet_rules.specs.Values.{netHolds}
 use Rattle.letters.specs.declared.Shape.{Shape}
 use Rattle.letters.specs.declared.Shape.the-variants.{Unknown, Says}
 use Rattle.letters.specs.Letters.{refused, letter, Form, says, formOf, senderOf, valuesHold, judged, letterFrom, readLetter}
 use Rattle.letters.specs.Values.{reading}
-use Rattle.net.proofs.Good.{few-places, links-are, ends-are, bodies-are}
+use Rattle.sheet_rules.proofs.Good.{few-places, links-are, ends-are, bodies-are}
 use Rattle.letters.proofs.Forms.{IsForm, is-form}
 use Rattle.letters.specs.Steps.{formIn, valuesTest, senderIn}
 

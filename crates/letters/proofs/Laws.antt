@@ -11,19 +11,22 @@ use lib.ListN.{length, getD}
 use borrow.Author.Tests.{ne-eqb, eqb-true}
 use Rattle.lists.specs.Lists.{if_then_else_}
 use Rattle.lists.proofs.Tests.{and-l, and-r, and-i, or-left, or-right, T-is, is-T, if-elim}
-use Rattle.lists.proofs.Numbers.{below-at}
 use Rattle.fields.specs.Fields.{Field, short, field, firstField, writeField, isEmpty, areBytes}
 use Rattle.fields.proofs.Law.{cut-written, written-cut, parts-bytes, field-bytes}
 use Rattle.net.specs.declared.Body.{Body}
 use Rattle.net.specs.declared.Body.the-variants.{Request, Reply, Notice}
 use Rattle.net.specs.declared.Letter.{Letter}
-use Rattle.net.specs.Network.{Network, ends, isEnd, endsHold, linkHolds, sheetHolds}
+use Rattle.net.specs.Network.{Network, ends, isEnd}
+use Rattle.sheet_rules.specs.Rules.{sheetHolds}
 use Rattle.net.specs.declared.Net.{Net}
-use Rattle.net.specs.Values.{networkOf, netHolds}
+use Rattle.net.specs.Values.{networkOf}
+use Rattle.sheet_rules.specs.Values.{netHolds}
 use Rattle.net.specs.Letters.{isCounter, bodyHolds, letterHolds}
 use Rattle.letters.specs.Letters.{refused, letter, Form, unknown, says, formOf, senderOf, sideOf, valuesHold, judged, letterFrom, readLetter, bodyBytes, writeLetter}
 use Rattle.letters.specs.Values.{reading}
-use Rattle.net.proofs.Good.{sheet-good}
+use Rattle.sheet_rules.proofs.Rules.{rules-of}
+use Rattle.sheet_rules.proofs.Ends.{ends-rise}
+use Rattle.sheet_rules.proofs.Good.{sheet-good}
 use Rattle.letters.proofs.Forms.{tagOf, payload, bytes-are, is-form}
 
 -- ---- side and sender
@@ -57,21 +60,6 @@ module _ (net : Network) (k : ℕ) where
       go zero l = ap (λ (b : Bool). if b then 0 else 1) (T-is (eqb (ends net k .low) (ends net k .low)) (eqb-refl (ends net k .low)))
       go (suc zero) l = ap (λ (b : Bool). if b then 0 else 1) (ne-eqb (ends net k .low) (ends net k .high) differ)
       go (suc (suc x)) l = absurd (omega arith)
-
-link-ends : (net : Network) (k : ℕ) → T (sheetHolds net) → k < length (net .links) → ends net k .low < ends net k .high
-unfolding sheetHolds
-link-ends net k t h =
-    let n = net .stations in
-    let m = length (net .links) in
-    let l = below-at (linkHolds net) m (and-r (leb 1 n && leb n 32 && leb m 64) _ t) k h in
-    ltb→lt (ends net k .low) (ends net k .high) (and-l (ltb (ends net k .low) (ends net k .high)) _ (and-l (endsHold n (ends net k)) _ l))
-
-few-links : (net : Network) → T (sheetHolds net) → length (net .links) ≤ 64
-unfolding sheetHolds
-few-links net t =
-    let n = net .stations in
-    let m = length (net .links) in
-    leb→le m 64 (and-r (leb 1 n && leb n 32) _ (and-l (leb 1 n && leb n 32 && leb m 64) _ t))
 
 -- ---- what was written reads back
 form-back : (k side : ℕ) (b : Body) → formOf (tagOf b) (k ∷ side ∷ payload b) ≡ says b
@@ -167,7 +155,7 @@ one-writing net bytes x good t e =
     let u = and-l (a && leb side 1) _ (w .holds) in
     let f = is-form (w .tag) v (x .body) (w .form) in
     let split : bytes ≡ writeField (w .tag) v ++ [] = written-cut bytes (w .tag) v [] t (w .cut) in
-    let ends-differ = link-ends net k good (ltb→lt k (length (net .links)) (and-l a _ u)) in
+    let ends-differ = ends-rise net good k (ltb→lt k (length (net .links)) (and-l a _ u)) in
     let sides : side ≡ sideOf net k (x .sender) = sym (ap (sideOf net k) (w .sender) ∙ side-back net k side (and-r a _ u) ends-differ) in
     split ∙ append-nil (writeField (w .tag) v)
     ∙ ap₂ writeField (f .tag) (f .value (value-bytes (w .tag) v (subst (λ (l : List ℕ). T (areBytes l)) (split ∙ append-nil (writeField (w .tag) v)) t)))
@@ -208,7 +196,7 @@ writes-bytes net x good t =
     u = and-l (a && e) (bodyHolds net (x .body)) t
 
     few : m ≤ 64
-    few = few-links net good
+    few = rules-of net good .few-links
 
     tag-small : (b : Body) → tagOf b < 256
     tag-small Request = omega arith

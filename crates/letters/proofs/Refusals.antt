@@ -17,7 +17,8 @@ use Rattle.net.specs.declared.Body.{Body}
 use Rattle.net.specs.declared.Body.the-variants.{Request, Reply, Notice}
 use Rattle.net.specs.declared.Letter.{Letter}
 use Rattle.net.specs.Network.{Network}
-use Rattle.net.specs.Values.{networkOf, netHolds}
+use Rattle.net.specs.Values.{networkOf}
+use Rattle.sheet_rules.specs.Values.{netHolds}
 use Rattle.net.specs.Letters.{letterHolds}
 use Rattle.letters.specs.declared.Answer.{Answer}
 use Rattle.letters.specs.declared.Answer.the-variants as answer

@@ -7,7 +7,8 @@ use Rattle.lists.specs.Lists.{if_then_else_}
 use Rattle.fields.specs.Output.{Writing, denied, fitting}
 use Rattle.net.specs.declared.Net.{Net}
 use Rattle.net.specs.declared.Letter.{Letter}
-use Rattle.net.specs.Values.{networkOf, netHolds}
+use Rattle.net.specs.Values.{networkOf}
+use Rattle.sheet_rules.specs.Values.{netHolds}
 use Rattle.net.specs.Letters.{letterHolds}
 use Rattle.letters.specs.declared.Answer.{Answer}
 use Rattle.letters.specs.declared.Answer.the-variants.{Good, Short, Malformed, OutOfRange, BadNetwork}

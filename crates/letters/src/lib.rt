@@ -96,7 +96,7 @@ fn sender_of(low: u8, high: u8, side: u8) -> u8
 pub fn read(net: Net, bytes: &[u8]) -> Answer
     ensures { λ r. ⌜ lettersOf r ≡ reading net (now (bytes .entry)) ⌝ }
 {
-    if !net::keeps_sheet_rules(net) {
+    if !sheet_rules::keeps_sheet_rules(net) {
         return Answer::BadNetwork;
     }
     let Cut::Whole { tag, length } = fields::cut_first(bytes) else {

@@ -1,4 +1,2 @@
 pub mod ValueLaws
 pub mod Bodies
-pub mod Sheet
-pub mod Good

@@ -1,4 +1,3 @@
 pub mod Network
 pub mod Letters
 pub mod Values
-pub mod Steps

@@ -1,15 +1,15 @@
--- What a network value means, the sheet rules for one, and what a letter may say in one.
+-- What a network value means, and what a letter may say in one.
 -- A value that breaks the rules has a meaning too: stations beyond 32 and links beyond 64 are not there. Assumes nothing.
 use Prim.Native.Nat.{ℕ, min}
 use mathlib.Core.Bool.{Bool, true, _&&_}
 use mathlib.Core.List.{map}
-use lib.Dec.{eqb, leb, ltb}
-use lib.ListN.{getD, drop}
-use Rattle.lists.specs.Lists.{every, below}
+use lib.Dec.{eqb, ltb}
+use lib.ListN.{getD}
+use Rattle.lists.specs.Lists.{below}
 use Rattle.net.specs.declared.Net.{Net}
 use Rattle.net.specs.declared.Body.{Body}
 use Rattle.net.specs.declared.Body.the-variants.{Request, Reply, Notice}
-use Rattle.net.specs.Network.{Ends, Network, sheetHolds}
+use Rattle.net.specs.Network.{Ends, Network}
 use Rattle.net.specs.Letters.{isCounter}
 
 abbrev pub placeEnds : Net → ℕ → Ends
@@ -23,12 +23,6 @@ networkOf net = record { stations = min (net .stations) 32; links = map (placeEn
 
 abbrev pub isZero : ℕ → Bool
 isZero x = eqb x 0
-
--- the sheet rules hold, and the unused room is zero
-unfoldable pub netHolds : Net → Bool
-netHolds net =
-    leb (net .stations) 32 && leb (net .links) 64 && sheetHolds (networkOf net)
-    && every isZero (drop (linkCount net) (net .low)) && every isZero (drop (linkCount net) (net .high))
 
 -- what a letter says, in a network of so many links; that this is `bodyHolds`: proofs/Bodies.antt
 abbrev pub bodyTest : ℕ → Body → Bool

@@ -8,7 +8,8 @@ use lib.Dec.{T, eqb, eqb→eq}
 use lib.ListN.{length, getD}
 use Rattle.lists.proofs.Tests.{and-l, and-r, if-elim}
 use Rattle.fields.specs.Fields.{Field, short, field, isField, isEmpty}
-use Rattle.net.specs.Network.{Ends, precedes, endsHold}
+use Rattle.net.specs.Network.{Ends}
+use Rattle.sheet_rules.specs.Rules.{precedes, endsHold}
 use Rattle.sheet.specs.Sheet.{refused, sheet, Opening, stations, stationsHold, opened, Verdict, wrong, link, last, linkOf, judged, readLinks}
 
 not-not : (b : Bool) → T (not (not b)) → T b

@@ -5,14 +5,16 @@ use mathlib.Core.Bool.{_&&_}
 use mathlib.Core.Path.{_≡_, refl, sym, ap, _∙_, subst, subst⁻¹}
 use mathlib.Core.List.{List, [], _∷_, _++_, append-nil, append-assoc}
 use native.Mathlib.Omega.{arith}
-use lib.Dec.{T, leb, ltb, ltb→lt, lt→ltb, leb→le}
+use lib.Dec.{T, ltb, lt→ltb}
 use lib.ListN.{length, getD}
 use Rattle.lists.proofs.Tests.{and-l, and-r, and-i, T-is}
 use Rattle.fields.specs.Fields.{firstField, writeField, areBytes}
 use Rattle.fields.proofs.Law.{cut-written, written-cut, parts-bytes, bytes-append, field-bytes}
-use Rattle.net.specs.Network.{Ends, Network, precedes, endsHold, sheetHolds}
+use Rattle.net.specs.Network.{Ends, Network}
+use Rattle.sheet_rules.specs.Rules.{precedes, endsHold, sheetHolds}
+use Rattle.sheet_rules.proofs.Rules.{lower-first, higher-there, rules-of}
 use Rattle.sheet.specs.Sheet.{sheet, Opening, faulty, stations, stationsHold, opened, Verdict, wrong, link, last, noLink, judged, readLinks, readOpened, readSheet, linkBytes, writeLinks, writeSheet}
-use Rattle.sheet.proofs.Rising.{rising, Rules, rules-of, of-rules}
+use Rattle.sheet.proofs.Rising.{rising, Risen, risen-of, of-risen}
 use Rattle.sheet.proofs.Judged.{is-stations, is-link, is-last, last-read}
 
 -- ---- what was written is judged good
@@ -54,7 +56,7 @@ links-pass (e ∷ es) left n prev so rest t =
     ∙ ap (λ (l : List Ends). readLinks left n l (judged n (lastOf e es) (firstField rest))) (append-assoc so (e ∷ []) es))
 
 -- a sheet that begins with a good first field and good links
-pub reads-on : (net : Network) (rest : List ℕ) → Rules net
+pub reads-on : (net : Network) (rest : List ℕ) → Risen net
     → readSheet (writeField 1 (net .stations ∷ []) ++ writeLinks (net .links) ++ rest)
     ≡ readLinks (64 - length (net .links)) (net .stations) (net .links) (judged (net .stations) (lastOf noLink (net .links)) (firstField rest))
 unfolding readSheet
@@ -71,7 +73,7 @@ reads-on net rest r =
 pub reads-back : (net : Network) → T (sheetHolds net) → readSheet (writeSheet net) ≡ sheet net
 unfolding writeSheet
 reads-back net t =
-    reads-on net (writeField 15 []) (rules-of net t)
+    reads-on net (writeField 15 []) (risen-of net t)
     ∙ ap (readLinks (64 - length (net .links)) (net .stations) (net .links)) (judge-last (net .stations) (lastOf noLink (net .links)))
     ∙ last-read (64 - length (net .links)) (net .stations) (net .links)
 
@@ -158,7 +160,7 @@ ended (suc room) n prev so bytes net e = go (judged n prev (firstField bytes)) r
 
 -- what reading a sheet shows of its bytes and of the network
 record Whole (bytes : List ℕ) (net : Network) : Type 0 where
-  pub rules : Rules net
+  pub rules : Risen net
   pub wrote : T (areBytes bytes) → bytes ≡ writeSheet net
 
 whole : (bytes : List ℕ) (net : Network) → readSheet bytes ≡ sheet net → Whole bytes net
@@ -180,7 +182,7 @@ whole bytes net e = go (opened (firstField bytes)) refl e
 
 -- what is read keeps the sheet rules
 pub read-holds : (bytes : List ℕ) (net : Network) → readSheet bytes ≡ sheet net → T (sheetHolds net)
-read-holds bytes net e = of-rules net (whole bytes net e .rules)
+read-holds bytes net e = of-risen net (whole bytes net e .rules)
 
 -- one writing: bytes that read to a network are exactly what writing that network gives
 pub one-writing : (bytes : List ℕ) (net : Network) → T (areBytes bytes) → readSheet bytes ≡ sheet net → bytes ≡ writeSheet net
@@ -196,8 +198,8 @@ unfolding writeLinks
 links-bytes n prev [] h t = tt
 links-bytes n prev (e ∷ es) h t =
     let u = and-l (endsHold n e) _ (and-l (endsHold n e && precedes prev e) _ t) in
-    let high = ltb→lt (e .high) n (and-r (ltb (e .low) (e .high)) _ u) in
-    let low = ltb→lt (e .low) (e .high) (and-l (ltb (e .low) (e .high)) _ u) in
+    let high = higher-there n e u in
+    let low = lower-first n e u in
     bytes-append (linkBytes e) (writeLinks es)
     (field-bytes 2 (e .low ∷ e .high ∷ []) (omega arith) (omega arith)
     (and-i (ltb (e .low) 256) _ (lt→ltb (e .low) 256 (omega arith)) (and-i (ltb (e .high) 256) _ (lt→ltb (e .high) 256 (omega arith)) tt)))
@@ -206,9 +208,9 @@ links-bytes n prev (e ∷ es) h t =
 pub writes-bytes : (net : Network) → T (sheetHolds net) → T (areBytes (writeSheet net))
 unfolding writeSheet
 writes-bytes net t =
-    let r = rules-of net t in
+    let r = risen-of net t in
     let n = net .stations in
-    let few : n ≤ 32 = leb→le n 32 (and-r (leb 1 n) _ (r .count)) in
+    let few : n ≤ 32 = rules-of net t .few-stations in
     bytes-append (writeField 1 (n ∷ []) ++ writeLinks (net .links)) (writeField 15 [])
     (bytes-append (writeField 1 (n ∷ [])) (writeLinks (net .links))
     (field-bytes 1 (n ∷ []) (omega arith) (omega arith) (and-i (ltb n 256) _ (lt→ltb n 256 (omega arith)) tt))

@@ -14,11 +14,13 @@ use Rattle.lists.proofs.Tests.{and-i}
 use Rattle.fields.specs.Fields.{Field, short, field, firstField, writeField, isField, isEmpty, areBytes}
 use Rattle.fields.specs.Output.{denied, writes, fitting}
 use Rattle.net.specs.declared.Net.{Net}
-use Rattle.net.specs.Values.{networkOf, netHolds}
-use Rattle.net.specs.Network.{Ends, Network, precedes, endsHold, sheetHolds}
+use Rattle.net.specs.Values.{networkOf}
+use Rattle.sheet_rules.specs.Values.{netHolds}
+use Rattle.net.specs.Network.{Ends, Network}
+use Rattle.sheet_rules.specs.Rules.{precedes, endsHold, sheetHolds}
 use Rattle.sheet.specs.Sheet.{refused, Opening, faulty, stations, stationsHold, opened, Verdict, wrong, link, last, linkOf, noLink, judged, readLinks, readOpened, readSheet, linkBytes, writeLinks, writeSheet}
 use Rattle.sheet.specs.Values.{writing}
-use Rattle.sheet.proofs.Rising.{rising, rules-of, of-rules}
+use Rattle.sheet.proofs.Rising.{rising, risen-of, of-risen}
 use Rattle.sheet.proofs.Judged.{is-stations, is-link, wrong-read, full-read}
 use Rattle.sheet.proofs.Laws.{lastOf, reads-on, stations-written, link-written, rest-bytes}
 
@@ -163,7 +165,7 @@ refused-only bytes k t e = go (opened (firstField bytes)) refl e
         let w = is-stations (firstField bytes) n rest p in
         let net : Network = record { stations = n; links = s .es } in
         let b : Begun bytes net (s .rest) = record {
-          holds = of-rules net (record { count = w .good; few = s .few; order = s .order });
+          holds = of-risen net (record { count = w .good; few = s .few; order = s .order });
           front = f ∙ ap (λ (l : List ℕ). writeField 1 (n ∷ []) ++ l) (s .front) ∙ sym (append-assoc (writeField 1 (n ∷ [])) (writeLinks (s .es)) (s .rest));
         } in
         ⊎-elim (λ y. later net (s .rest) b y)
@@ -174,12 +176,12 @@ pub refused-when : (bytes : List ℕ) (k : ℕ) → Refused bytes k → readShee
 unfolding readSheet
 refused-when bytes k (at-first f) = ap readOpened (opened-when (firstField bytes) k f)
 refused-when bytes k (later net rest b f) =
-    ap readSheet (b .front) ∙ reads-on net rest (rules-of net (b .holds))
+    ap readSheet (b .front) ∙ reads-on net rest (risen-of net (b .holds))
     ∙ ap (readLinks (64 - length (net .links)) (net .stations) (net .links)) (judged-when (net .stations) (before net) (firstField rest) k f)
     ∙ wrong-read (64 - length (net .links)) (net .stations) (net .links) k
 refused-when bytes k (full net rest e more b l p) =
     let z : 64 - length (net .links) ≡ 0 = omega arith in
-    ap readSheet (b .front) ∙ reads-on net rest (rules-of net (b .holds))
+    ap readSheet (b .front) ∙ reads-on net rest (risen-of net (b .holds))
     ∙ ap₂ (λ (m : ℕ) (v : Verdict). readLinks m (net .stations) (net .links) v) z p ∙ full-read (net .stations) (net .links) e more
 
 -- ---- writing: 11, then 10

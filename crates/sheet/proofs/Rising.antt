@@ -1,16 +1,15 @@
 -- The sheet rules along the list of links: each is good and comes after the one before it. Assumes nothing.
-use Prim.Native.Nat.{ℕ, zero, suc, _-_, _≤_, _<_}
-use mathlib.Core.Bool.{Bool, true, _&&_, _||_}
-use mathlib.Core.Path.{_≡_, ap, _∙_, subst, subst⁻¹}
+use Prim.Native.Nat.{ℕ, zero, suc, _≤_, _<_}
+use mathlib.Core.Bool.{Bool, true, _&&_}
 use mathlib.Core.List.{List, [], _∷_}
 use native.Mathlib.Nat.{not-suc-le-zero, le-of-suc-le-suc}
 use native.Mathlib.Omega.{arith}
-use lib.Dec.{T, eqb, leb, ltb, ltb→lt, lt→ltb, leb→le, le→leb, eqb·suc-zero}
+use lib.Dec.{T, leb, ltb, lt→ltb, leb→le, le→leb}
 use lib.ListN.{length, getD}
-use Rattle.lists.specs.Lists.{every}
 use Rattle.lists.proofs.Tests.{and-l, and-r, and-i, or-left}
-use Rattle.lists.proofs.Numbers.{below-at, at-below}
-use Rattle.net.specs.Network.{Ends, Network, ends, linkNumbers, precedes, endsHold, linkHolds, sheetHolds}
+use Rattle.net.specs.Network.{Ends, Network, ends}
+use Rattle.sheet_rules.specs.Rules.{precedes, endsHold, sheetHolds}
+use Rattle.sheet_rules.proofs.Rules.{lower-first, Rules, rules-of, of-rules}
 use Rattle.sheet.specs.Sheet.{stationsHold, noLink}
 
 abbrev pub rising : ℕ → Ends → List Ends → Bool
@@ -35,55 +34,44 @@ module _ (n : ℕ) where
 
   -- every good link comes after 0, 0
   first-any : (e : Ends) → T (endsHold n e) → T (precedes noLink e)
-  first-any e t = go (e .low) (e .high) (ltb→lt (e .low) (e .high) (and-l (ltb (e .low) (e .high)) _ t))
+  first-any e t = go (e .low) (e .high) (lower-first n e t)
     where
       go : (a b : ℕ) → a < b → T (precedes noLink (record { low = a; high = b }))
       go zero b h = lt→ltb 0 b h
       go (suc a) b h = or-left (ltb 0 (suc a)) _ (lt→ltb 0 (suc a) (omega arith))
 
-  module _ (es : List Ends) where
-    abbrev net : Network
-    net = record { stations = n; links = es }
-
-    before : (k : ℕ) → (eqb (suc k) 0 || precedes (ends net (suc k - 1)) (ends net (suc k))) ≡ precedes (ends net k) (ends net (suc k))
-    before k =
-        let p : suc k - 1 ≡ k = omega arith in
-        ap (λ (b : Bool). b || precedes (ends net (suc k - 1)) (ends net (suc k))) (eqb·suc-zero k) ∙ ap (λ (j : ℕ). precedes (ends net j) (ends net (suc k))) p
-
-    one : (k : ℕ) → T (linkHolds net k) → At noLink es k
-    one k t = go k t (and-l (endsHold n (ends net k)) _ t)
-      where
-        go : (k : ℕ) → T (linkHolds net k) → T (endsHold n (getD es k noLink)) → At noLink es k
-        go zero t u = (u, first-any (getD es 0 noLink) u)
-        go (suc k) t u = (u, subst T (before k) (and-r (endsHold n (ends net (suc k))) _ t))
-
-    back : (k : ℕ) → At noLink es k → T (linkHolds net k)
-    back zero a = and-i (endsHold n (ends net 0)) true (a .0) tt
-    back (suc k) a = and-i (endsHold n (ends net (suc k))) _ (a .0) (subst⁻¹ T (before k) (a .1))
-
 -- the sheet rules, by the parts that a reader of bytes meets
-pub record Rules (net : Network) : Type 0 where
+pub record Risen (net : Network) : Type 0 where
   pub count : T (stationsHold (net .stations))
   pub few : length (net .links) ≤ 64
   pub order : T (rising (net .stations) noLink (net .links))
 
-pub rules-of : (net : Network) → T (sheetHolds net) → Rules net
-unfolding sheetHolds
-rules-of net t =
-    let n = net .stations in
-    let m = length (net .links) in
-    let links = every (linkHolds net) (linkNumbers net) in
-    let u = and-l (leb 1 n && leb n 32 && leb m 64) links t in
-    record {
-      count = and-l (leb 1 n && leb n 32) _ u;
-      few = leb→le m 64 (and-r (leb 1 n && leb n 32) _ u);
-      order = at-rising n noLink (net .links) (λ k h. one n (net .links) k (below-at (linkHolds net) m (and-r (leb 1 n && leb n 32 && leb m 64) links t) k h));
-    }
+module _ (net : Network) where
+  abbrev stations : ℕ
+  stations = net .stations
 
-pub of-rules : (net : Network) → Rules net → T (sheetHolds net)
-unfolding sheetHolds
-of-rules net r =
-    let n = net .stations in
-    let m = length (net .links) in
-    and-i (leb 1 n && leb n 32 && leb m 64) _ (and-i (leb 1 n && leb n 32) _ (r .count) (le→leb m 64 (r .few)))
-    (at-below (linkHolds net) m (λ k h. back n (net .links) k (rising-at n noLink (net .links) (r .order) k h)))
+  pub risen-of : T (sheetHolds net) → Risen net
+  risen-of t =
+      record {
+        count = and-i (leb 1 stations) _ (le→leb 1 stations (r .some-stations)) (le→leb stations 32 (r .few-stations));
+        few = r .few-links;
+        order = at-rising stations noLink (net .links) one;
+      }
+    where
+      r : Rules net
+      r = rules-of net t
+
+      one : (k : ℕ) → k < length (net .links) → At stations noLink (net .links) k
+      one zero h = (r .good-ends 0 h, first-any stations (ends net 0) (r .good-ends 0 h))
+      one (suc k) h = (r .good-ends (suc k) h, r .in-order k h)
+
+  pub of-risen : Risen net → T (sheetHolds net)
+  of-risen r =
+      let at = rising-at stations noLink (net .links) (r .order) in
+      of-rules net (record {
+        some-stations = leb→le 1 stations (and-l (leb 1 stations) _ (r .count));
+        few-stations = leb→le stations 32 (and-r (leb 1 stations) _ (r .count));
+        few-links = r .few;
+        good-ends = λ k h. at k h .0;
+        in-order = λ k h. at (suc k) h .1;
+      })

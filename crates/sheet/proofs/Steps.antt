@@ -11,7 +11,8 @@ use Rattle.lists.specs.Lists.{if_then_else_}
 use Rattle.lists.proofs.Tests.{and-no}
 use Rattle.fields.specs.Fields.{short, firstField, isEmpty}
 use Rattle.fields.proofs.Seen.{Seen, value-at}
-use Rattle.net.specs.Network.{Ends, precedes, endsHold}
+use Rattle.net.specs.Network.{Ends}
+use Rattle.sheet_rules.specs.Rules.{precedes, endsHold}
 use Rattle.sheet.specs.declared.Answer.the-variants.{OutOfRange, OutOfOrder}
 use Rattle.sheet.specs.declared.Next.{Next}
 use Rattle.sheet.specs.declared.Next.the-variants.{Wrong, Link}

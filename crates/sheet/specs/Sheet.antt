@@ -6,7 +6,8 @@ use lib.Dec.{leb}
 use lib.ListN.{getD}
 use Rattle.lists.specs.Lists.{if_then_else_}
 use Rattle.fields.specs.Fields.{Field, short, field, firstField, writeField, isField, isEmpty}
-use Rattle.net.specs.Network.{Ends, Network, precedes, endsHold}
+use Rattle.net.specs.Network.{Ends, Network}
+use Rattle.sheet_rules.specs.Rules.{precedes, endsHold}
 
 -- what reading a sheet gives: the number of a refusal, or the network
 pub data Sheet : Type 0 where

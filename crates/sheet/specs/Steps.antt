@@ -5,7 +5,8 @@ use mathlib.Core.List.{List, [], map}
 use lib.ListN.{getD, drop}
 use Rattle.lists.specs.Lists.{if_then_else_, below}
 use Rattle.fields.specs.Fields.{firstField}
-use Rattle.net.specs.Network.{Ends, precedes, endsHold}
+use Rattle.net.specs.Network.{Ends}
+use Rattle.sheet_rules.specs.Rules.{precedes, endsHold}
 use Rattle.sheet.specs.declared.Answer.{Answer}
 use Rattle.sheet.specs.declared.Answer.the-variants.{OutOfRange, OutOfOrder}
 use Rattle.sheet.specs.declared.Reading.{Reading}

@@ -8,7 +8,8 @@ use Rattle.lists.specs.Lists.{if_then_else_}
 use Rattle.fields.specs.Output.{Writing, denied, fitting}
 use Rattle.net.specs.declared.Net.{Net}
 use Rattle.net.specs.Network.{Network}
-use Rattle.net.specs.Values.{networkOf, netHolds}
+use Rattle.net.specs.Values.{networkOf}
+use Rattle.sheet_rules.specs.Values.{netHolds}
 use Rattle.sheet.specs.declared.Answer.{Answer}
 use Rattle.sheet.specs.declared.Answer.the-variants.{Good, Short, Malformed, OutOfRange, OutOfOrder, TooManyLinks}
 use Rattle.sheet.specs.declared.Reading.{Reading}

@@ -11,9 +11,10 @@ use Rattle.fields.specs.Output.{writingNumbers, writingOutput}
 use Rattle.fields.proofs.Seen.{length-field}
 use Rattle.net.specs.declared.Net.{Net}
 use Rattle.net.specs.Network.{Network}
-use Rattle.net.specs.Values.{networkOf, netHolds}
-use Rattle.net.proofs.Good.{few-places, few-stations}
-use Rattle.net.proofs.ValueLaws.{stations-of, links-of}
+use Rattle.net.specs.Values.{networkOf}
+use Rattle.sheet_rules.specs.Values.{netHolds}
+use Rattle.sheet_rules.proofs.Rules.{rules-of}
+use Rattle.sheet_rules.proofs.Good.{sheet-good, stations-are, links-are}
 use Rattle.sheet.specs.Sheet.{Sheet, refused, sheet, writeSheet}
 use Rattle.sheet.specs.Values.{sheetNumber, sheetNet, zeroNet, valueOf}
 use Rattle.sheet.specs.Values as SheetValues
@@ -30,7 +31,7 @@ use Rattle.sheet_line.specs.Line.{sheetWord, sheetText}
 sheet-length : (net : Net) → T (netHolds net) → length (writeSheet (networkOf net)) ≤ 327
 unfolding writeSheet
 sheet-length net t =
-    let few : length (networkOf net .links) ≤ 64 = omega (arith, links-of net, few-places net t) in
+    let few : length (networkOf net .links) ≤ 64 = rules-of (networkOf net) (sheet-good net t) .few-links in
     simp (length-append, length-field, links-length) (omega arith)
 
 pub sheet-back : (net : Net) (old room numbers : List ℕ) (n : ℕ) → T (netHolds net) → 327 ≡ length old → numbers ≡ writingNumbers (SheetValues.writing net old)
@@ -42,10 +43,10 @@ sheet-back net old room numbers n t s p q e =
 
 -- the numbers that the sheet's line has
 pub stations-said : (net : Net) → T (netHolds net) → net .stations ≡ networkOf net .stations
-stations-said net t = omega (arith, stations-of net, few-stations net t)
+stations-said net t = sym (stations-are net t)
 
 pub links-said : (net : Net) → T (netHolds net) → net .links ≡ length (networkOf net .links)
-links-said net t = omega (arith, links-of net, few-places net t)
+links-said net t = sym (links-are net t)
 
 -- what the file gave
 file-good : (file : List ℕ) (net : Network) → fileSheet file ≡ sheet net → T (netHolds (valueOf net)) × (networkOf (valueOf net) ≡ net)

@@ -3,7 +3,8 @@ ghost use mathlib.Core.Path.{_≡_};
 ghost use Prim.Native.Nat.{_≤_};
 ghost use lib.Dec.{T, leb};
 ghost use lib.ListN.{length, getD};
-ghost use Rattle.net.specs.Values.{networkOf, netHolds};
+ghost use Rattle.net.specs.Values.{networkOf};
+ghost use Rattle.sheet_rules.specs.Values.{netHolds};
 ghost use Rattle.sheet.specs.Sheet.{sheet};
 ghost use Rattle.sheet.specs.Values as Sheet;
 ghost use Rattle.console.specs.Sheets.{fileSheet};
@@ -57,7 +58,7 @@ pub fn put_sheet(file: &[u8], out: &mut [u8]) -> Wrote
     let opened = console::open_sheet(file);
     let net = opened.net;
     // a refused sheet gives no network
-    if !net::keeps_sheet_rules(net) {
+    if !sheet_rules::keeps_sheet_rules(net) {
         let a = text::put_word(out, 0, b"sheet ");
         let b = text::put_number(out, a, opened.number as u64);
         let end = text::put_word(out, b, b"\n");

@@ -1,22 +1,23 @@
 -- What is written, field by field, and what each return of `write` says. Assumes nothing.
 use Prim.Native.Nat.{ℕ, _+_, _-_, _*_, _≤_, _<_, min}
-use mathlib.Core.Bool.{Bool, true, false, not, _&&_}
+use mathlib.Core.Bool.{Bool, true, false, not}
 use mathlib.Core.Path.{_≡_, refl, sym, ap, ap₂, _∙_}
 use mathlib.Core.List.{List, [], _∷_, _++_, map, append-assoc, append-nil}
 use native.Mathlib.Omega.{arith}
-use lib.Dec.{T, leb, leb→le}
 use lib.ListN.{length, getD, take, drop, length-append, length-take, length-drop}
 use borrow.Author.Tests.{lt-ltb, le-ltb, not-true, not-false}
-use Rattle.lists.specs.Lists.{below, every}
-use Rattle.lists.proofs.Tests.{and-l, and-r, is-T}
+use Rattle.lists.specs.Lists.{below}
+use Rattle.lists.proofs.Tests.{is-T}
 use Rattle.lists.proofs.Numbers.{below-snoc, length-map-below}
 use Rattle.lists.proofs.Fill.{map-append}
 use Rattle.fields.specs.Fields.{writeField, onto}
 use Rattle.fields.specs.Output.{Writing, writes, fitting, writingNumbers, writingOutput}
 use Rattle.fields.proofs.Seen.{length-field, length-onto, lent-more}
 use Rattle.net.specs.declared.Net.{Net}
-use Rattle.net.specs.Network.{Ends, sheetHolds}
-use Rattle.net.specs.Values.{networkOf, linkCount, isZero, netHolds}
+use Rattle.net.specs.Network.{Ends}
+use Rattle.net.specs.Values.{networkOf}
+use Rattle.sheet_rules.specs.Values.{netHolds}
+use Rattle.sheet_rules.proofs.Good.{holds-of}
 use Rattle.sheet.specs.declared.Wrote.the-variants.{Bytes, OutputShort, BadNetwork}
 use Rattle.sheet.specs.Sheet.{linkBytes, writeLinks, writeSheet}
 use Rattle.sheet.specs.Values.{writing, wroteNumbers}
@@ -72,19 +73,11 @@ module _ (net : Net) (r : Bool) (e : r ≡ netHolds net) where
     good : netHolds net ≡ true
     good = sym e ∙ not-false r h
 
-    sizes : T (leb (net .stations) 32 && leb (net .links) 64)
-    unfolding netHolds
-    sizes =
-        let a = leb (net .stations) 32 && leb (net .links) 64 in
-        let lows = every isZero (drop (linkCount net) (net .low)) in
-        let highs = every isZero (drop (linkCount net) (net .high)) in
-        and-l a (sheetHolds (networkOf net)) (and-l (a && sheetHolds (networkOf net)) lows (and-l (a && sheetHolds (networkOf net) && lows) highs (is-T (netHolds net) good)))
-
     pub few-stations : net .stations ≤ 32
-    few-stations = leb→le (net .stations) 32 (and-l (leb (net .stations) 32) _ sizes)
+    few-stations = holds-of net (is-T (netHolds net) good) .few-stations
 
     pub few-links : net .links ≤ 64
-    few-links = leb→le (net .links) 64 (and-r (leb (net .stations) 32) _ sizes)
+    few-links = holds-of net (is-T (netHolds net) good) .few-links
 
     abbrev front : List ℕ
     front = writeField 1 (net .stations ∷ [])

@@ -50,7 +50,7 @@ pub fn write(net: Net, out: &mut [u8]) -> Wrote
     ensures answer { λ r. ⌜ wroteNumbers r ≡ writingNumbers (writing net (now (out .entry))) ⌝ }
     ensures output { λ r. ⌜ now (out .exit) ≡ writingOutput (writing net (now (out .entry))) (now (out .entry)) ⌝ }
 {
-    if !net::keeps_sheet_rules(net) {
+    if !sheet_rules::keeps_sheet_rules(net) {
         return Wrote::BadNetwork;
     }
     let m = net.links as usize;

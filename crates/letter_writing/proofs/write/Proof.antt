@@ -10,7 +10,7 @@ use Rattle.net.proofs.body_holds.Reads as body-holds-reads
 use Rattle.letter_writing.proofs.is_end.Reads as is-end-reads
 use Rattle.letter_writing.proofs.put_letter.Reads as put-letter-reads
 use Rattle.letter_writing.proofs.side_of.Reads as side-of-reads
-use Rattle.net.proofs.keeps_sheet_rules.Reads as keeps-sheet-rules-reads
+use Rattle.sheet_rules.proofs.keeps_sheet_rules.Reads as keeps-sheet-rules-reads
 
 keeps-sheet-rules-requires : tie.Need-keeps-sheet-rules-requires
 keeps-sheet-rules-requires c κs = search needs

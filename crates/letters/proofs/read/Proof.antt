@@ -12,7 +12,7 @@ use Rattle.fields.proofs.cut_first.Reads as cut-first-reads
 use Rattle.letters.proofs.form_of.Reads as form-of-reads
 use Rattle.letters.proofs.sender_of.Reads as sender-of-reads
 use Rattle.letters.proofs.values_hold.Reads as values-hold-reads
-use Rattle.net.proofs.keeps_sheet_rules.Reads as keeps-sheet-rules-reads
+use Rattle.sheet_rules.proofs.keeps_sheet_rules.Reads as keeps-sheet-rules-reads
 
 keeps-sheet-rules-requires : tie.Need-keeps-sheet-rules-requires
 keeps-sheet-rules-requires c κs = search needs

@@ -6,7 +6,7 @@ use Rattle.sheet_writing.proofs.write.Statement.{statement}
 use Rattle.sheet_writing.proofs.write.Tie as tie
 use Rattle.sheet_writing.proofs.write.Reads as reads
 use Rattle.sheet_writing.proofs.write.Lts as lts
-use Rattle.net.proofs.keeps_sheet_rules.Reads as keeps-sheet-rules-reads
+use Rattle.sheet_rules.proofs.keeps_sheet_rules.Reads as keeps-sheet-rules-reads
 use Rattle.sheet_writing.proofs.put_last.Reads as put-last-reads
 use Rattle.sheet_writing.proofs.put_links.Reads as put-links-reads
 use Rattle.sheet_writing.proofs.put_stations.Reads as put-stations-reads

@@ -7,9 +7,9 @@ use borrow.Author.Needs.{needs}
 use borrow.Author.Tests.{not-true, not-false}
 use Rattle.lists.specs.Lists.{every, below}
 use Rattle.lists.proofs.Numbers.{all-more, all-fails}
-use Rattle.net.proofs.Sheet.{Before, before-more, placeHolds, place-seen, holds-places, few-stations, many-stations, many-links}
-use Rattle.net.proofs.keeps_sheet_rules.Statement.{statement}
-use Rattle.net.proofs.keeps_sheet_rules.Tie as tie
+use Rattle.sheet_rules.proofs.Tested.{Before, before-more, placeHolds, place-seen, holds-places, few-stations, many-stations, many-links}
+use Rattle.sheet_rules.proofs.keeps_sheet_rules.Statement.{statement}
+use Rattle.sheet_rules.proofs.keeps_sheet_rules.Tie as tie
 
 abbrev Inv-loop : tie.InvT-loop
 Inv-loop net n m a₀ b₀ k₀ a b k = (k ≤ 64) × (every (placeHolds net) (below k) ≡ true) × Before net a b k

@@ -1,7 +1,7 @@
-use Rattle.net.proofs.Sheet.{place-used, place-zero, place-not}
+use Rattle.sheet_rules.proofs.Tested.{place-used, place-zero, place-not}
 use borrow.Author.Needs.{needs}
-use Rattle.net.proofs.place_holds.Statement.{statement}
-use Rattle.net.proofs.place_holds.Tie as tie
+use Rattle.sheet_rules.proofs.place_holds.Statement.{statement}
+use Rattle.sheet_rules.proofs.place_holds.Tie as tie
 
 link-follows-requires : tie.Need-link-follows-requires
 link-follows-requires c κs = search needs

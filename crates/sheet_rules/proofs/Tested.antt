@@ -13,11 +13,13 @@ use borrow.Author.Tests.{eq-eqb, ne-eqb, lt-ltb, le-ltb, le-leb, lt-leb}
 use Rattle.lists.specs.Lists.{if_then_else_, every, below}
 use Rattle.lists.proofs.Tests.{and-no, and-l, and-r, and-i, same-test, every-at, at-every}
 use Rattle.lists.proofs.Numbers.{below-at, at-below}
 use Rattle.net.specs.declared.Net.{Net}
-use Rattle.net.specs.Network.{Ends, precedes, endsHold, linkHolds, sheetHolds}
-use Rattle.net.specs.Values.{networkOf, placeEnds, linkCount, isZero, netHolds}
-use Rattle.net.specs.Steps.{follows, placeTest}
+use Rattle.net.specs.Network.{Ends}
+use Rattle.net.specs.Values.{networkOf, placeEnds, linkCount, isZero}
+use Rattle.sheet_rules.specs.Rules.{precedes, endsHold, linkHolds, sheetHolds}
+use Rattle.sheet_rules.specs.Values.{netHolds}
+use Rattle.sheet_rules.specs.Steps.{follows, placeTest}
 use Rattle.net.proofs.ValueLaws.{stations-of, links-of, ends-of}
 
 -- ---- one link, in the order in which the code asks
 module _ (n : ℕ) (first : Bool) (a b low high : ℕ) where

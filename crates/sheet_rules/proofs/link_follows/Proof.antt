@@ -1,6 +1,6 @@
-use Rattle.net.proofs.Sheet.{follows-ends, follows-range, follows-first, follows-above, follows-same, follows-below}
-use Rattle.net.proofs.link_follows.Statement.{statement}
-use Rattle.net.proofs.link_follows.Tie as tie
+use Rattle.sheet_rules.proofs.Tested.{follows-ends, follows-range, follows-first, follows-above, follows-same, follows-below}
+use Rattle.sheet_rules.proofs.link_follows.Statement.{statement}
+use Rattle.sheet_rules.proofs.link_follows.Tie as tie
 
 returns : tie.Need-returns
 returns c =
