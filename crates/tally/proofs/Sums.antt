@@ -4,6 +4,7 @@ use mathlib.Core.Path.{_≡_}
 use native.Mathlib.Omega.{arith}
 use Rattle.tally.specs.declared.Tally.{Tally}
 use Rattle.tally.specs.Sums.{largest, counted, tallied}
+use Rattle.tally.specs.Plain.{plus}
 
 -- no count passes the largest value
 pub counted-fits : (count n : ℕ) → counted count n ≤ largest
@@ -21,10 +22,10 @@ counted-sum count n h = omega arith
 pub counted-twice : (count m n : ℕ) → counted (counted count m) n ≡ counted count (m + n)
 counted-twice count m n = omega arith
 
-pub tallied-twice : (t : Tally) (s r d s′ r′ d′ : ℕ) → tallied (tallied t s r d) s′ r′ d′ ≡ tallied t (s + s′) (r + r′) (d + d′)
-tallied-twice t s r d s′ r′ d′ =
+pub tallied-twice : (t n m : Tally) → tallied (tallied t n) m ≡ tallied t (plus n m)
+tallied-twice t n m =
     λ i. record {
-      settled = counted-twice (t .settled) s s′ i;
-      raised = counted-twice (t .raised) r r′ i;
-      dropped = counted-twice (t .dropped) d d′ i;
+      settled = counted-twice (t .settled) (n .settled) (m .settled) i;
+      raised = counted-twice (t .raised) (n .raised) (m .raised) i;
+      dropped = counted-twice (t .dropped) (n .dropped) (m .dropped) i;
     }

@@ -11,6 +11,6 @@ abbrev pub counted : ℕ → ℕ → ℕ
 counted count n = min (count + n) largest
 
 -- the tally after a step that settled, raised and dropped so many
-abbrev pub tallied : Tally → ℕ → ℕ → ℕ → Tally
-tallied t settled raised dropped =
-    record { settled = counted (t .settled) settled; raised = counted (t .raised) raised; dropped = counted (t .dropped) dropped }
+abbrev pub tallied : Tally → Tally → Tally
+tallied t n =
+    record { settled = counted (t .settled) (n .settled); raised = counted (t .raised) (n .raised); dropped = counted (t .dropped) (n .dropped) }

@@ -1,9 +1,9 @@
 // The tally of settled notices, raised counters and dropped letters: one small record that the program lends to each call
 // to be added to. A sum that would pass the largest value of 64 bits stays at it.
 //
-// A step settles at most one notice, drops at most one letter and raises at most one counter for each of the 64 links. The
-// numbers that are added have 64 bits all the same, as the counts have: nothing is asked of the caller, and the numbers of
-// a whole run of steps can be added at once (proofs/Sums.antt: it comes to the same).
+// A step settles at most one notice, drops at most one letter and raises at most one counter for each of the 64 links. What
+// it counts is a tally all the same: nothing is asked of the caller, and the counts of a whole run of steps can be added at
+// once (proofs/Sums.antt: it comes to the same).
 ghost use mathlib.Core.Path.{_≡_};
 ghost use Rattle.tally.specs.Sums.{counted, tallied};
 
@@ -24,29 +24,29 @@ fn count_on(count: u64, n: u64) -> u64
     }
 }
 
-// The tally with one step's numbers added, by value.
-pub fn added(t: Tally, settled: u64, raised: u64, dropped: u64) -> Tally
-    ensures { λ r. ⌜ r ≡ tallied t settled raised dropped ⌝ }
+// The tally with one step's counts added, by value.
+pub fn added(t: Tally, n: Tally) -> Tally
+    ensures { λ r. ⌜ r ≡ tallied t n ⌝ }
 {
     Tally {
-        settled: count_on(t.settled, settled),
-        raised: count_on(t.raised, raised),
-        dropped: count_on(t.dropped, dropped),
+        settled: count_on(t.settled, n.settled),
+        raised: count_on(t.raised, n.raised),
+        dropped: count_on(t.dropped, n.dropped),
     }
 }
 
-// One step's numbers are added to a tally that is lent.
-pub fn add(t: &mut Tally, settled: u64, raised: u64, dropped: u64)
-    ensures { λ _. ⌜ now (t .exit) ≡ tallied (now (t .entry)) settled raised dropped ⌝ }
+// One step's counts are added to a tally that is lent.
+pub fn add(t: &mut Tally, n: Tally)
+    ensures { λ _. ⌜ now (t .exit) ≡ tallied (now (t .entry)) n ⌝ }
 {
-    *t = added(*t, settled, raised, dropped);
+    *t = added(*t, n);
 }
 
 // The same for a caller that holds its tally by value, as a loop of events does: its own copy is lent to `add`.
-pub fn with_step(given: Tally, settled: u64, raised: u64, dropped: u64) -> Tally
-    ensures { λ r. ⌜ r ≡ tallied given settled raised dropped ⌝ }
+pub fn with_step(given: Tally, n: Tally) -> Tally
+    ensures { λ r. ⌜ r ≡ tallied given n ⌝ }
 {
     let mut mine = given;
-    add(&mut mine, settled, raised, dropped);
+    add(&mut mine, n);
     mine
 }
