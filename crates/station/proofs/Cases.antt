@@ -8,14 +8,19 @@ use Rattle.lists.specs.Words.{bit}
 use Rattle.net.specs.declared.Body.{Body}
 use Rattle.net.specs.declared.Body.the-variants.{Request, Reply, Notice}
 use Rattle.net.specs.declared.Letter.{Letter}
-use Rattle.net.specs.Network.{Network, sheetHolds}
+use Rattle.net.specs.Network.{Network}
 use Rattle.net.specs.Letters.{letterHolds}
-use Rattle.counters.specs.Counters.{healed}
+use Rattle.counters.specs.Counters.{healed, healing}
 use Rattle.reach.specs.Reach.{purge}
 use Rattle.reach.proofs.Cases.{Case}
+use Rattle.sheet_rules.specs.Rules.{sheetHolds}
+use Rattle.sheet_rules.proofs.Examples.{line-of-three}
 use Rattle.station.specs.declared.Condition.the-variants.{Live}
+use Rattle.station.specs.declared.Kind.the-variants.{TimeoutEnd}
 use Rattle.station.specs.Holding.{Holding, noMarks, counter, setTesting, holdingHolds}
-use Rattle.station.specs.Acts.{Done, letter, openLinks, openBut, known, timeout, onRequest, onReply, overflows, onNotice, received, answer, timeoutEnd, allowedAs}
+use Rattle.station.specs.Acts.{Done, letter, openLinks, known, timeout, answer, effectOn, received}
+use Rattle.station.specs.Events.{ruleOf}
+use Rattle.station.specs.Numbers.{heardNumbers}
 
 line : Network
 line = record { stations = 3; links = record { low = 0; high = 1 } ∷ record { low = 1; high = 2 } ∷ [] }
@@ -41,17 +46,22 @@ seen : Done → List ℕ
 unfolding letterNumbers
 seen d = counter (d .holding) 0 ∷ letterNumbers (d .sent)
 
+-- what stands at the station s before it is well formed, and so is the network
+unfoldable pub stands : Network → ℕ → Holding → Bool
+unfolding holdingHolds
+stands net s h = sheetHolds net && holdingHolds net s h
+
 -- a timeout on link 0: 1 if what stands before it is well formed and allows it
 timesOut : Holding → List ℕ
-unfolding line seen timeout openBut purge sheetHolds holdingHolds
-timesOut h = bit (sheetHolds line && holdingHolds line 1 h && allowedAs timeoutEnd 0 h) ∷ seen (timeout line 1 0 h)
+unfolding line seen stands timeout openLinks purge
+timesOut h =
+    let r = ruleOf line 1 TimeoutEnd 0 (letter 0 0 Request) h in
+    bit (stands line 1 h && r .allowed) ∷ seen (r .done)
 
 -- a letter from station 0 on link 0: the same, then the paper's number and whether the letter is dropped, and what it does
 hears : Holding → Body → List ℕ
-unfolding line seen received onRequest onReply onNotice overflows answer healed openLinks openBut known purge sheetHolds holdingHolds letterHolds
-hears h b =
-    bit (sheetHolds line && holdingHolds line 1 h && letterHolds line (letter 0 0 b))
-    ∷ answer line 1 (letter 0 0 b) h ++ seen (received line 1 (letter 0 0 b) h)
+unfolding line seen stands letterHolds answer healed healing received effectOn openLinks known purge
+hears h b = bit (stands line 1 h && letterHolds line (letter 0 0 b)) ∷ heardNumbers (answer 1 (letter 0 0 b) h) ++ seen (received line 1 (letter 0 0 b) h)
 
 pub table : List Case
 unfolding live timesOut hears
@@ -82,4 +92,4 @@ table =
 -- the single claim
 pub cases-hold : map (λ c. c .got) table ≡ map (λ c. c .want) table
 unfolding table
-cases-hold = refl
+cases-hold = rw line-of-three refl

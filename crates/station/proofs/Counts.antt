@@ -11,18 +11,22 @@ use native.Mathlib.Omega.{arith}
 use lib.Dec.{T, eqb, ltb, eqb→eq, eqb-refl}
 use lib.ListN.{length, length-map, length-append}
 use Rattle.lists.specs.Lists.{if_then_else_, keep, every}
-use Rattle.lists.proofs.Tests.{T-is, is-T, T-not-is, and-l, and-r, and-i, if-elim}
+use Rattle.lists.proofs.Tests.{T-is, and-l, and-r, and-i, if-elim}
 use Rattle.lists.proofs.Numbers.{length-from}
-use Rattle.lists.proofs.Kept.{every-imp, every-both, every-joined, every-kept, every-map, keep-le, keep-fewer, keep-one-fewer}
+use Rattle.lists.proofs.Kept.{every-imp, every-both, every-joined, every-keep, every-kept, every-map, keep-le, keep-fewer, keep-keep}
+use Rattle.lists.proofs.Kept.{keep-one-fewer}
 use Rattle.net.specs.declared.Body.{Body}
 use Rattle.net.specs.declared.Body.the-variants.{Request, Reply, Notice}
 use Rattle.net.specs.declared.Letter.{Letter}
 use Rattle.net.specs.Network.{Network, isEnd, own, linkNumbers}
 use Rattle.counters.specs.Counters.{even, odd, healed}
-use Rattle.station.specs.Holding.{Holding, counter, mark, marked, counted}
-use Rattle.station.specs.Acts.{Done, intervalTests, repliedMarks, letter, onEach, tell, openLinks, openBut, known, knownBut, started, stopped, recovered, interval, timeout, spoken, defers, onRequest, onReply, takes, onNotice}
+use Rattle.station.specs.declared.Effect.the-variants.{Defers, Answers, Heals, Levels, Equal, Takes}
+use Rattle.station.specs.declared.Heard.{Heard}
+use Rattle.station.specs.Holding.{Holding, counter, mark}
+use Rattle.station.specs.Acts.{Done, intervalTests, letter, onEach, tell, less, openLinks, known, started, stopped, recovered}
+use Rattle.station.specs.Acts.{interval, timeout, spoken, replied, effectOn, heardOn, received}
+use Rattle.station.proofs.Answers.{request-cases, reply-cases, notice-cases}
 use Rattle.station.proofs.HoldingLaws.{ownLink, own-kept}
-use Rattle.station.proofs.Rises.{reply-idle}
 
 -- ---- what a letter says
 -- a notice of link j with c
@@ -51,7 +55,8 @@ tell-count s c (j ∷ js) ks =
 on-each-every : (p : Letter → Bool) (s : ℕ) (b : Body) (ks : List ℕ) → T (every (λ k. p (letter s k b)) ks) → T (every p (onEach s b ks))
 on-each-every p s b ks t = every-map p (λ k. letter s k b) ks t
 
-tell-every : (p : Letter → Bool) (s : ℕ) (c : ℕ → ℕ) (js ks : List ℕ) → ((j : ℕ) → T (every (λ k. p (letter s k (Notice j (c j)))) ks)) → T (every p (tell s c js ks))
+tell-every : (p : Letter → Bool) (s : ℕ) (c : ℕ → ℕ) (js ks : List ℕ) → ((j : ℕ) → T (every (λ k. p (letter s k (Notice j (c j)))) ks))
+    → T (every p (tell s c js ks))
 tell-every p s c [] ks f = tt
 tell-every p s c (j ∷ js) ks f =
     every-joined p (onEach s (Notice j (c j)) ks) (tell s c js ks) (on-each-every p s (Notice j (c j)) ks (f j)) (tell-every p s c js ks f)
@@ -117,26 +122,18 @@ module _ (net : Network) (s : ℕ) where
       but j = (isEnd net j s && not (mark h j .quiet)) && not (eqb j k)
 
       -- one fewer than the own links, where k is one
-      pub open-but-few : k < length (net .links) → T (isEnd net k s) → length (openBut net s k h) ≤ length (own net s) - 1
-      unfolding openBut
-      open-but-few l o =
-          keep-one-fewer but (λ j. isEnd net j s) (λ j t. and-l (isEnd net j s) _ (and-l (isEnd net j s && not (mark h j .quiet)) _ t)) k out o (length (net .links)) l
-        where
-          out : T (not (but k))
-          out = refuse (isEnd net k s && not (mark h k .quiet)) (eqb k k) (eqb-refl k)
+      pub open-less-few : k < length (net .links) → T (isEnd net k s) → length (less k (openLinks net s h)) ≤ length (own net s) - 1
+      unfolding openLinks
+      open-less-few l o =
+          subst⁻¹ (λ (ks : List ℕ). length ks ≤ length (own net s) - 1) (keep-keep (λ j. isEnd net j s && not (mark h j .quiet)) (λ j. not (eqb j k)) (linkNumbers net))
+          (keep-one-fewer but (λ j. isEnd net j s) (λ j t. and-l (isEnd net j s) _ (and-l (isEnd net j s && not (mark h j .quiet)) _ t)) k
+          (refuse (isEnd net k s && not (mark h k .quiet)) (eqb k k) (eqb-refl k)) o (length (net .links)) l)
 
-      open-but-open : T (every (openOwn h) (openBut net s k h))
-      unfolding openBut
-      open-but-open =
-          every-both (ownLink net s) (λ j. not (mark h j .quiet)) (keep but (linkNumbers net))
-          (own-kept net s but (λ j t. and-l (isEnd net j s) _ (and-l (isEnd net j s && not (mark h j .quiet)) _ t)))
-          (every-imp but (λ j. not (mark h j .quiet)) (λ j t. and-r (isEnd net j s) _ (and-l (isEnd net j s && not (mark h j .quiet)) _ t))
-          (keep but (linkNumbers net)) (every-kept but (linkNumbers net)))
+      open-less-open : T (every (openOwn h) (less k (openLinks net s h)))
+      open-less-open = every-keep (openOwn h) (λ j. not (eqb j k)) (openLinks net s h) open-open
 
-      open-but-away : T (every (λ j. not (eqb j k)) (openBut net s k h))
-      unfolding openBut
-      open-but-away =
-          every-imp but (λ j. not (eqb j k)) (λ j t. and-r (isEnd net j s && not (mark h j .quiet)) _ t) (keep but (linkNumbers net)) (every-kept but (linkNumbers net))
+      open-less-away : T (every (λ j. not (eqb j k)) (less k (openLinks net s h)))
+      open-less-away = every-kept (λ j. not (eqb j k)) (openLinks net s h)
 
   -- ---- alike notices of link j with c that go on: what a notice taken on link k, and a timeout on it, send
   pub record Spreads (k j c : ℕ) (h : Holding) (xs : List Letter) : Type 0 where
@@ -153,129 +150,155 @@ module _ (net : Network) (s : ℕ) where
     no-letters : (j c : ℕ) → Spreads k j c h []
     no-letters j c = record { few = zero-le; alike = tt; away = tt; ways = tt }
 
-    spread : (j c : ℕ) → Spreads k j c h (onEach s (Notice j c) (openBut net s k h))
+    spread : (j c : ℕ) → Spreads k j c h (onEach s (Notice j c) (less k (openLinks net s h)))
     spread j c =
-        let ks = openBut net s k h in
+        let ks = less k (openLinks net s h) in
         record {
-          few = subst⁻¹ (λ (n : ℕ). n ≤ length (own net s) - 1) (on-each-count s (Notice j c) ks) (open-but-few h k l o);
+          few = subst⁻¹ (λ (n : ℕ). n ≤ length (own net s) - 1) (on-each-count s (Notice j c) ks) (open-less-few h k l o);
           alike = on-each-every (λ x. isNotice j c (x .body)) s (Notice j c) ks (every-imp (λ i. true) (λ i. eqb j j && eqb c c) (λ i t. and-i (eqb j j) _ (eqb-refl j) (eqb-refl c)) ks (always ks));
-          away = on-each-every (λ x. not (eqb (x .link) k)) s (Notice j c) ks (open-but-away h k);
-          ways = on-each-every (λ x. openOwn h (x .link)) s (Notice j c) ks (open-but-open h k);
+          away = on-each-every (λ x. not (eqb (x .link) k)) s (Notice j c) ks (open-less-away h k);
+          ways = on-each-every (λ x. openOwn h (x .link)) s (Notice j c) ks (open-less-open h k);
         }
 
-    -- a notice come on link k: taken and sent on, or nothing
-    pub notice-spreads : (j c : ℕ) → Spreads k j c h (onNotice net s k j c h .sent)
-    unfolding onNotice
-    notice-spreads j c = if-elim (λ (d : Done). Spreads k j c h (d .sent)) (takes net s j c h) (λ t. spread j c) (λ t. no-letters j c)
+    -- a notice taken on link k is sent on
+    pub takes-spreads : (j c : ℕ) → Spreads k j c h (effectOn net s k h (Takes j c) .sent)
+    unfolding effectOn
+    takes-spreads j c = spread j c
 
     -- a timeout on link k: the raised counter is told, or nothing
     pub timeout-spreads : Spreads k k (counter h k + 1) h (timeout net s k h .sent)
     unfolding timeout
     timeout-spreads =
-        if-elim (λ (d : Done). Spreads k k (counter h k + 1) h (d .sent)) (even (counter h k)) (λ t. spread k (counter h k + 1)) (λ t. no-letters k (counter h k + 1))
+        if-elim (λ (d : Done). Spreads k k (counter h k + 1) h (d .sent)) (even (counter h k))
+        (λ t. rw (T-is (even (counter h k)) t) (spread k (counter h k + 1))) (λ t. no-letters k (counter h k + 1))
 
-  -- ---- a request on link k: at most a notice of each other known link, then the reply, all of it on k
-  module _ (h : Holding) (k : ℕ) (l : k < length (net .links)) where
+  -- a notice come on an own link: taken and sent on, or nothing
+  pub notice-spreads : (h : Holding) (x : Letter) → x .link < length (net .links) → T (isEnd net (x .link) s) → (j c : ℕ)
+      → x .body ≡ Notice j c
+      → Spreads (x .link) j c h (received net s x h .sent)
+  unfolding received
+  notice-spreads h x l o j c e =
+      let none = no-letters h (x .link) l o j c in
+      notice-cases s x h (λ (a : Heard). Spreads (x .link) j c h (heardOn net s (x .link) h a .sent)) j c e (λ t. none) (λ t u. none) (λ t u. takes-spreads h (x .link) l o j c)
+
+  -- ---- a request that is answered on link k: at most a notice of each other known link, then the reply, all of it on k
+  module _ (h : Holding) (k : ℕ) where
+    pub defers-sends : effectOn net s k h Defers .sent ≡ []
+    unfolding effectOn
+    defers-sends = refl
+
     abbrev knows : ℕ → Bool
     knows j = ltb 1 (counter h j) && not (eqb j k)
 
     not-itself : T (not (knows k))
     not-itself = refuse (ltb 1 (counter h k)) (eqb k k) (eqb-refl k)
 
+    -- those but k as one test
+    known-less : less k (known net s h) ≡ keep knows (linkNumbers net)
+    unfolding known
+    known-less = keep-keep (λ j. ltb 1 (counter h j)) (λ j. not (eqb j k)) (linkNumbers net)
+
     -- one fewer than the links
-    pub known-but-few : length (knownBut net s k h) ≤ length (net .links) - 1
-    unfolding knownBut
-    known-but-few =
-        omega (arith, keep-one-fewer knows (λ j. true) (λ j t. tt) k not-itself tt (length (net .links)) l, keep-le (λ j. true) (linkNumbers net), length-from 0 (length (net .links)))
+    pub known-less-few : k < length (net .links) → length (less k (known net s h)) ≤ length (net .links) - 1
+    known-less-few l =
+        subst⁻¹ (λ (ks : List ℕ). length ks ≤ length (net .links) - 1) known-less
+        (omega (arith, keep-one-fewer knows (λ j. true) (λ j t. tt) k not-itself tt (length (net .links)) l, keep-le (λ j. true) (linkNumbers net), length-from 0 (length (net .links))))
 
     -- and, where k is known, one fewer than the known ones
-    pub known-but-known : T (ltb 1 (counter h k)) → length (knownBut net s k h) ≤ length (known net s h) - 1
-    unfolding knownBut known
-    known-but-known t = keep-one-fewer knows (λ j. ltb 1 (counter h j)) (λ j u. and-l (ltb 1 (counter h j)) _ u) k not-itself t (length (net .links)) l
+    pub known-less-known : k < length (net .links) → T (ltb 1 (counter h k)) → length (less k (known net s h)) ≤ length (known net s h) - 1
+    unfolding known
+    known-less-known l t =
+        subst⁻¹ (λ (ks : List ℕ). length ks ≤ length (known net s h) - 1) known-less
+        (keep-one-fewer knows (λ j. ltb 1 (counter h j)) (λ j u. and-l (ltb 1 (counter h j)) _ u) k not-itself t (length (net .links)) l)
 
-    pub record Answers (xs : List Letter) : Type 0 where
-      pub few : length xs ≤ length (knownBut net s k h) + 1
+    pub record Answered (xs : List Letter) : Type 0 where
+      pub few : length xs ≤ length (less k (known net s h)) + 1
       pub back : T (every (λ x. eqb (x .link) k) xs)
 
-    pub request-answers : (p : ℕ) → Answers (onRequest net s k p h .sent)
-    unfolding onRequest
-    request-answers p =
-        if-elim (λ (d : Done). Answers (d .sent)) (defers net s k p h)
-        (λ t. record { few = zero-le; back = tt })
-        (λ t. record {
-          few = subst⁻¹ (λ (n : ℕ). n ≤ length (knownBut net s k h) + 1) (length-append news last)
-              (if-elim (λ (xs : List Letter). length xs + 1 ≤ length (knownBut net s k h) + 1) (odd (counter h k)) (λ u. told-few) (λ u. omega arith));
+    pub answers-back : Answered (effectOn net s k h Answers .sent)
+    unfolding effectOn
+    answers-back =
+        record {
+          few = subst⁻¹ (λ (n : ℕ). n ≤ length (less k (known net s h)) + 1) (length-append news last)
+              (if-elim (λ (xs : List Letter). length xs + 1 ≤ length (less k (known net s h)) + 1) (odd (counter h k)) (λ u. told-few) (λ u. omega arith));
           back = every-joined (λ x. eqb (x .link) k) news last (told (λ x. eqb (x .link) k) (λ b. eqb-refl k)) (and-i (eqb k k) _ (eqb-refl k) tt);
-        })
+        }
       where
         news : List Letter
-        news = if odd (counter h k) then tell s (counter h) (knownBut net s k h) (k ∷ []) else []
+        news = if odd (counter h k) then tell s (counter h) (less k (known net s h)) (k ∷ []) else []
 
         last : List Letter
         last = letter s k (Reply (counter h k)) ∷ []
 
-        told-few : length (tell s (counter h) (knownBut net s k h) (k ∷ [])) + 1 ≤ length (knownBut net s k h) + 1
-        told-few = omega (arith, tell-count s (counter h) (knownBut net s k h) (k ∷ []))
+        told-few : length (tell s (counter h) (less k (known net s h)) (k ∷ [])) + 1 ≤ length (less k (known net s h)) + 1
+        told-few = omega (arith, tell-count s (counter h) (less k (known net s h)) (k ∷ []))
 
         told : (p : Letter → Bool) → ((b : Body) → T (p (letter s k b))) → T (every p news)
         told p f =
             if-elim (λ (xs : List Letter). T (every p xs)) (odd (counter h k))
-            (λ u. tell-every p s (counter h) (knownBut net s k h) (k ∷ []) (λ j. and-i (p (letter s k (Notice j (counter h j)))) _ (f (Notice j (counter h j))) tt))
+            (λ u. tell-every p s (counter h) (less k (known net s h)) (k ∷ []) (λ j. and-i (p (letter s k (Notice j (counter h j)))) _ (f (Notice j (counter h j))) tt))
             (λ u. tt)
 
     -- so no more than there are links
-    pub request-few : (p : ℕ) → length (onRequest net s k p h .sent) ≤ length (net .links)
-    request-few p = omega (arith, request-answers p .few, known-but-few)
+    pub answers-few : k < length (net .links) → length (effectOn net s k h Answers .sent) ≤ length (net .links)
+    answers-few l = omega (arith, answers-back .few, known-less-few l)
 
-  -- ---- a reply with c to a test on link k
+  -- a request that comes on a link that is there
+  pub request-few : (h : Holding) (x : Letter) → x .link < length (net .links) → x .body ≡ Request
+      → length (received net s x h .sent) ≤ length (net .links)
+  unfolding received
+  request-few h x l e =
+      request-cases s x h (λ (a : Heard). length (heardOn net s (x .link) h a .sent) ≤ length (net .links)) e (λ t. zero-le)
+      (λ t u. subst⁻¹ (λ (xs : List Letter). length xs ≤ length (net .links)) (defers-sends h (x .link)) zero-le) (λ t u. answers-few h (x .link) l)
+
+  -- ---- a reply to a test on link k, with c for the new counter
   module _ (h : Holding) (k c : ℕ) where
-    -- the station after it and before a purge
-    abbrev pub replied : Holding
-    replied = counted k (healed (counter h k) c) (marked k (repliedMarks (mark h k)) h)
-
     -- either was odd, a healing: subjects times open own links
-    pub heals-count : T (mark h k .testing) → T (odd (counter h k) || odd c) → length (onReply net s k c h .sent) ≡ length (known net s replied) * length (openLinks net s replied)
-    unfolding onReply
-    heals-count t u =
-        rw (T-is (mark h k .testing) t, T-is (odd (counter h k) || odd c) u) (tell-count s (counter replied) (known net s replied) (openLinks net s replied))
+    pub heals-count : length (effectOn net s k h (Heals c) .sent) ≡ length (known net s (replied net s k c h)) * length (openLinks net s (replied net s k c h))
+    unfolding effectOn
+    heals-count =
+        let next = replied net s k c h in
+        tell-count s (counter next) (known net s next) (openLinks net s next)
 
     -- both even and different, a level: this link alone, at most once on each own link, alike
-    pub record Levels (xs : List Letter) : Type 0 where
+    pub record Levelled (xs : List Letter) : Type 0 where
       pub few : length xs ≤ length (own net s)
-      pub alike : T (every (λ x. isNotice k (healed (counter h k) c) (x .body)) xs)
-      pub ways : T (every (λ x. openOwn replied (x .link)) xs)
+      pub alike : T (every (λ x. isNotice k c (x .body)) xs)
+      pub ways : T (every (λ x. openOwn (replied net s k c h) (x .link)) xs)
 
-    pub levels : T (mark h k .testing) → T (not (odd (counter h k) || odd c)) → Levels (onReply net s k c h .sent)
-    unfolding onReply
-    levels t u =
-        rw (T-is (mark h k .testing) t, T-not-is (odd (counter h k) || odd c) u)
-        (if-elim (λ (d : Done). Levels (d .sent)) (eqb (counter h k) c)
-        (λ w. record { few = zero-le; alike = tt; ways = tt })
-        (λ w. let ks = openLinks net s replied in
+    pub levels-alike : Levelled (effectOn net s k h (Levels c) .sent)
+    unfolding effectOn
+    levels-alike =
+        let next = replied net s k c h in
+        let ks = openLinks net s next in
         record {
-          few = subst⁻¹ (λ (n : ℕ). n ≤ length (own net s)) (on-each-count s (Notice k m) ks) (open-few replied);
-          alike = on-each-every (λ x. isNotice k m (x .body)) s (Notice k m) ks (every-imp (λ i. true) (λ i. eqb k k && eqb m m) (λ i t. and-i (eqb k k) _ (eqb-refl k) (eqb-refl m)) ks (always ks));
-          ways = on-each-every (λ x. openOwn replied (x .link)) s (Notice k m) ks (open-open replied);
-        }))
-      where
-        m : ℕ
-        m = healed (counter h k) c
+          few = subst⁻¹ (λ (n : ℕ). n ≤ length (own net s)) (on-each-count s (Notice k c) ks) (open-few next);
+          alike = on-each-every (λ x. isNotice k c (x .body)) s (Notice k c) ks (every-imp (λ i. true) (λ i. eqb k k && eqb c c) (λ i t. and-i (eqb k k) _ (eqb-refl k) (eqb-refl c)) ks (always ks));
+          ways = on-each-every (λ x. openOwn next (x .link)) s (Notice k c) ks (open-open next);
+        }
 
     -- equal: nothing
-    pub equal-sends : T (mark h k .testing) → T (even c) → counter h k ≡ c → onReply net s k c h .sent ≡ []
-    unfolding onReply
-    equal-sends t u e = rw (T-is (mark h k .testing) t, e, T-is (even c) u, T-is (eqb c c) (eqb-refl c)) refl
+    pub equal-sends : effectOn net s k h Equal .sent ≡ []
+    unfolding effectOn
+    equal-sends = refl
 
     -- in every case no more than links times own links
-    pub reply-few : k < length (net .links) → length (onReply net s k c h .sent) ≤ length (net .links) * length (own net s)
-    reply-few l = go (mark h k .testing) (odd (counter h k) || odd c) refl refl
-      where
-        go : (a b : Bool) → mark h k .testing ≡ a → (odd (counter h k) || odd c) ≡ b → length (onReply net s k c h .sent) ≤ length (net .links) * length (own net s)
-        go true true p q =
-            subst⁻¹ (λ (n : ℕ). n ≤ length (net .links) * length (own net s)) (heals-count (is-T (mark h k .testing) p) (is-T (odd (counter h k) || odd c) q))
-            (mul-le-mul (known-few replied) (open-few replied))
-        go true false p q =
-            le-trans (levels (is-T (mark h k .testing) p) (subst⁻¹ (λ (b : Bool). T (not b)) q tt) .few)
-            (subst (λ (n : ℕ). n ≤ length (net .links) * length (own net s)) (one-mul (length (own net s))) (mul-le-mul-right (length (own net s)) (omega arith)))
-        go false b p q =
-            subst⁻¹ (λ (d : Done). length (d .sent) ≤ length (net .links) * length (own net s)) (reply-idle net s h k c (subst⁻¹ (λ (b : Bool). T (not b)) p tt)) zero-le
+    pub heals-few : length (effectOn net s k h (Heals c) .sent) ≤ length (net .links) * length (own net s)
+    heals-few = subst⁻¹ (λ (n : ℕ). n ≤ length (net .links) * length (own net s)) heals-count (mul-le-mul (known-few (replied net s k c h)) (open-few (replied net s k c h)))
+
+    pub levels-few : k < length (net .links) → length (effectOn net s k h (Levels c) .sent) ≤ length (net .links) * length (own net s)
+    levels-few l =
+        le-trans (levels-alike .few)
+        (subst (λ (n : ℕ). n ≤ length (net .links) * length (own net s)) (one-mul (length (own net s))) (mul-le-mul-right (length (own net s)) (omega arith)))
+
+  pub reply-few : (h : Holding) (x : Letter) → x .link < length (net .links) → (c : ℕ) → x .body ≡ Reply c
+      → length (received net s x h .sent) ≤ length (net .links) * length (own net s)
+  unfolding received
+  reply-few h x l c e =
+      let Few : Heard → Type 0 = λ a. length (heardOn net s (x .link) h a .sent) ≤ length (net .links) * length (own net s) in
+      let new : ℕ = healed (counter h (x .link)) c in
+      reply-cases s x h c e Few (λ t. zero-le) (λ t u. zero-le) (λ t u v. zero-le)
+      (λ t u v. if-elim Few (odd (counter h (x .link)) || odd c) (λ w. heals-few h (x .link) new)
+      (λ w. if-elim Few (eqb (counter h (x .link)) c)
+      (λ q. subst⁻¹ (λ (xs : List Letter). length xs ≤ length (net .links) * length (own net s)) (equal-sends h (x .link) new) zero-le)
+      (λ q. levels-few h (x .link) new l)))

@@ -3,25 +3,27 @@
 use Prim.Native.Nat.{ℕ, _<_}
 use mathlib.Core.Bool.{Bool, not, _&&_}
 use mathlib.Core.Path.{_≡_, _∙_, subst⁻¹}
+use mathlib.Core.Logic.{⊎-elim}
 use mathlib.Core.List.{List, [], _∷_, map}
 use native.Mathlib.Decide.{ℕ-discrete}
 use lib.Dec.{T, eqb, ltb, lt→ltb, eqb→eq}
 use lib.ListN.{length, length-set}
 use lib.Seq.{getD-set-same, getD-set-other}
-use Rattle.lists.specs.Lists.{if_then_else_, keep, every}
-use Rattle.lists.proofs.Tests.{and-l, and-r, and-i, eq→eqb, if-elim}
+use Rattle.lists.specs.Lists.{keep, every}
+use Rattle.lists.proofs.Tests.{and-l, and-r, and-i, eq→eqb}
 use Rattle.lists.proofs.Numbers.{below-at, at-below, getD-map-below, length-map-below}
 use Rattle.lists.proofs.Kept.{every-imp, every-both, every-joined, every-keep, every-kept, every-map}
 use Rattle.net.specs.declared.Body.{Body}
 use Rattle.net.specs.declared.Body.the-variants.{Notice}
 use Rattle.net.specs.Network.{Network, isEnd, linkNumbers}
 use Rattle.net.specs.Letters.{isCounter, bodyHolds, letterHolds}
-use Rattle.reach.specs.Reach.{counterIn, worksIn, has, reach, near, purge}
+use Rattle.reach.specs.Reach.{counterIn}
 use Rattle.marks.specs.declared.Marks.{Marks}
 use Rattle.station.specs.declared.Condition.{Condition}
 use Rattle.station.specs.Holding.{Holding, noMarks, counter, mark, isLive, marked, counted, slotHolds, holdingHolds}
-use Rattle.station.specs.Acts.{letter, onEach, tell, openLinks, openBut, known, knownBut, purged}
+use Rattle.station.specs.Acts.{letter, onEach, tell, less, openLinks, known, purged}
 use Rattle.station.proofs.Slots.{slot-counter, slot-recount, slot-one}
+use Rattle.station.proofs.Purges.{purged-length, purged-lowers}
 
 module _ (net : Network) where
   -- a holding of the station s: a counter and marks for every link, and each link's slot holds
@@ -51,20 +53,24 @@ module _ (net : Network) where
   -- ---- a holding that is changed
   module _ (s : ℕ) (h : Holding) (f : Formed s h) where
     -- the marks of one link anew
-    pub marked-formed : (k : ℕ) (m : Marks) → k < length (net .links) → T (slotHolds (h .condition) (isEnd net k s) (counter h k) m) → Formed s (marked k m h)
+    pub marked-formed : (k : ℕ) (m : Marks) → k < length (net .links) → T (slotHolds (h .condition) (isEnd net k s) (counter h k) m)
+        → Formed s (marked k m h)
     marked-formed k m l t =
         record { table-length = f .table-length; marks-length = length-set (h .marks) k m ∙ f .marks-length; slots = λ j i. go j i (ℕ-discrete j k) }
       where
-        go : (j : ℕ) → j < length (net .links) → Dec (j ≡ k) → T (slotHolds (h .condition) (isEnd net j s) (counter h j) (mark (marked k m h) j))
+        go : (j : ℕ) → j < length (net .links) → Dec (j ≡ k)
+            → T (slotHolds (h .condition) (isEnd net j s) (counter h j) (mark (marked k m h) j))
         go j i (yes e) = rw (e, getD-set-same (h .marks) k m noMarks (subst⁻¹ (λ (n : ℕ). k < n) (f .marks-length) l)) t
         go j i (no e) = rw (getD-set-other (h .marks) k j m noMarks e) (f .slots j i)
 
     -- the counter of one link anew
-    pub counted-formed : (k c : ℕ) → k < length (net .links) → T (slotHolds (h .condition) (isEnd net k s) c (mark h k)) → Formed s (counted k c h)
+    pub counted-formed : (k c : ℕ) → k < length (net .links) → T (slotHolds (h .condition) (isEnd net k s) c (mark h k))
+        → Formed s (counted k c h)
     counted-formed k c l t =
         record { table-length = length-set (h .table) k c ∙ f .table-length; marks-length = f .marks-length; slots = λ j i. go j i (ℕ-discrete j k) }
       where
-        go : (j : ℕ) → j < length (net .links) → Dec (j ≡ k) → T (slotHolds (h .condition) (isEnd net j s) (counter (counted k c h) j) (mark h j))
+        go : (j : ℕ) → j < length (net .links) → Dec (j ≡ k)
+            → T (slotHolds (h .condition) (isEnd net j s) (counter (counted k c h) j) (mark h j))
         go j i (yes e) = rw (e, getD-set-same (h .table) k c 1 (subst⁻¹ (λ (n : ℕ). k < n) (f .table-length) l)) t
         go j i (no e) = rw (getD-set-other (h .table) k j c 1 e) (f .slots j i)
 
@@ -73,20 +79,15 @@ module _ (net : Network) where
 
     -- a purge: it only sets counters to 1
     pub purged-formed : Formed s (purged net s h)
-    unfolding purge
     purged-formed =
         record {
-          table-length = length-map-below kept (length (net .links));
+          table-length = purged-length net s h;
           marks-length = f .marks-length;
           slots = λ j i.
-              subst⁻¹ (λ (c : ℕ). T (slotHolds (h .condition) (isEnd net j s) c (mark h j))) (getD-map-below kept (length (net .links)) j 1 i)
-              (if-elim (λ (c : ℕ). T (slotHolds (h .condition) (isEnd net j s) c (mark h j))) (near net (has (reach net (worksIn (h .table)) s)) j)
-              (λ u. f .slots j i)
-              (λ u. slot-one (h .condition) (isEnd net j s) (counter h j) (mark h j) (f .slots j i)));
+              ⊎-elim (λ e. subst⁻¹ (λ (c : ℕ). T (slotHolds (h .condition) (isEnd net j s) c (mark h j))) e (f .slots j i))
+              (λ e. subst⁻¹ (λ (c : ℕ). T (slotHolds (h .condition) (isEnd net j s) c (mark h j))) e (slot-one (h .condition) (isEnd net j s) (counter h j) (mark h j) (f .slots j i)))
+              (purged-lowers net s h j);
         }
-      where
-        kept : ℕ → ℕ
-        kept k = if near net (has (reach net (worksIn (h .table)) s)) k then counterIn (h .table) k else 1
 
   -- a condition, a table and marks of every link anew
   pub anew-formed : (s : ℕ) (x : Condition) (table : List ℕ) (m : ℕ → Marks) → length table ≡ length (net .links)
@@ -122,13 +123,15 @@ module _ (net : Network) where
       (keep p (linkNumbers net))
       (every-both (λ k. ltb k (length (net .links))) p (keep p (linkNumbers net)) (kept-below p) (every-kept p (linkNumbers net)))
 
-  pub on-each-holds : (s : ℕ) (b : Body) (ks : List ℕ) → T (bodyHolds net b) → T (every (ownLink s) ks) → T (every (letterHolds net) (onEach s b ks))
+  pub on-each-holds : (s : ℕ) (b : Body) (ks : List ℕ) → T (bodyHolds net b) → T (every (ownLink s) ks)
+      → T (every (letterHolds net) (onEach s b ks))
   unfolding letterHolds
   on-each-holds s b ks p t =
       every-map (letterHolds net) (λ k. letter s k b) ks
       (every-imp (ownLink s) (λ k. letterHolds net (letter s k b)) (λ k q. and-i (ownLink s k) _ q p) ks t)
 
-  pub tell-holds : (s : ℕ) (c : ℕ → ℕ) (js ks : List ℕ) → T (every (mayTell c) js) → T (every (ownLink s) ks) → T (every (letterHolds net) (tell s c js ks))
+  pub tell-holds : (s : ℕ) (c : ℕ → ℕ) (js ks : List ℕ) → T (every (mayTell c) js) → T (every (ownLink s) ks)
+      → T (every (letterHolds net) (tell s c js ks))
   tell-holds s c [] ks p t = tt
   tell-holds s c (j ∷ js) ks p t =
       every-joined (letterHolds net) (onEach s (Notice j (c j)) ks) (tell s c js ks)
@@ -140,23 +143,16 @@ module _ (net : Network) where
     unfolding openLinks
     open-links-own = own-kept s (λ k. isEnd net k s && not (mark h k .quiet)) (λ k t. and-l (isEnd net k s) _ t)
 
-    pub open-but-own : (k : ℕ) → T (every (ownLink s) (openBut net s k h))
-    unfolding openBut
-    open-but-own k =
-        own-kept s (λ j. (isEnd net j s && not (mark h j .quiet)) && not (eqb j k))
-        (λ j t. and-l (isEnd net j s) _ (and-l (isEnd net j s && not (mark h j .quiet)) _ t))
+    pub open-less-own : (k : ℕ) → T (every (ownLink s) (less k (openLinks net s h)))
+    open-less-own k = every-keep (ownLink s) (λ j. not (eqb j k)) (openLinks net s h) open-links-own
 
     -- every counter may be told
-    kept-tell : Formed s h → (p : ℕ → Bool) → T (every (mayTell (counter h)) (keep p (linkNumbers net)))
-    kept-tell f p =
-        every-keep (mayTell (counter h)) p (linkNumbers net)
+    pub known-tell : Formed s h → T (every (mayTell (counter h)) (known net s h))
+    unfolding known
+    known-tell f =
+        every-keep (mayTell (counter h)) (λ k. ltb 1 (counter h k)) (linkNumbers net)
         (at-below (mayTell (counter h)) (length (net .links))
         (λ k l. and-i (ltb k (length (net .links))) _ (lt→ltb k _ l) (slot-counter (h .condition) (isEnd net k s) (counter h k) (mark h k) (f .slots k l))))
 
-    pub known-tell : Formed s h → T (every (mayTell (counter h)) (known net s h))
-    unfolding known
-    known-tell f = kept-tell f (λ k. ltb 1 (counter h k))
-
-    pub known-but-tell : Formed s h → (k : ℕ) → T (every (mayTell (counter h)) (knownBut net s k h))
-    unfolding knownBut
-    known-but-tell f k = kept-tell f (λ j. ltb 1 (counter h j) && not (eqb j k))
+    pub known-less-tell : Formed s h → (k : ℕ) → T (every (mayTell (counter h)) (less k (known net s h)))
+    known-less-tell f k = every-keep (mayTell (counter h)) (λ j. not (eqb j k)) (known net s h) (known-tell f)

@@ -1,6 +1,6 @@
 -- Every letter that an act of the station s sends names s as its sender. Assumes nothing.
-use Prim.Native.Nat.{ℕ, _+_}
-use mathlib.Core.Bool.{Bool, not, _&&_, _||_}
+use Prim.Native.Nat.{ℕ}
+use mathlib.Core.Bool.{Bool, _&&_}
 use mathlib.Core.List.{List, [], _∷_}
 use lib.Dec.{T, eqb, eqb-refl}
 use Rattle.lists.specs.Lists.{if_then_else_, keep, every}
@@ -10,9 +10,17 @@ use Rattle.net.specs.declared.Body.{Body}
 use Rattle.net.specs.declared.Body.the-variants.{Request, Reply, Notice}
 use Rattle.net.specs.declared.Letter.{Letter}
 use Rattle.net.specs.Network.{Network, isEnd, linkNumbers}
-use Rattle.counters.specs.Counters.{even, odd, healed}
-use Rattle.station.specs.Holding.{Holding, counter, mark, marked, counted}
-use Rattle.station.specs.Acts.{Done, intervalTests, repliedMarks, letter, onEach, tell, openLinks, openBut, known, knownBut, recovered, interval, timeout, defers, onRequest, onReply, takes, onNotice, hears, bodyOver, onBody, received}
+use Rattle.counters.specs.Counters.{even, odd, timedOut}
+use Rattle.station.specs.declared.Effect.{Effect}
+use Rattle.station.specs.declared.Effect.the-variants.{Defers, Answers, Heals, Levels, Equal, Takes}
+use Rattle.station.specs.declared.Heard.{Heard}
+use Rattle.station.specs.declared.Heard.the-variants.{Gone, Nothing, Overflows, Does}
+use Rattle.station.specs.declared.Kind.{Kind}
+use Rattle.station.specs.declared.Kind.the-variants.{NoSuch, Start, Stop, Recovery, IntervalEnd, TimeoutEnd, QuietEnd, Delivery, Loss}
+use Rattle.station.specs.Holding.{Holding, counter, mark}
+use Rattle.station.specs.Acts.{Done, intervalTests, letter, onEach, tell, less, openLinks, known, started, stopped, recovered}
+use Rattle.station.specs.Acts.{interval, timeout, spoken, answer, replied, effectOn, heardOn, received}
+use Rattle.station.specs.Events.{ruleOf}
 
 -- all of them are sent by s
 abbrev pub sentBy : ℕ → List Letter → Bool
@@ -26,10 +34,22 @@ tell-by : (s : ℕ) (c : ℕ → ℕ) (js ks : List ℕ) → T (sentBy s (tell s
 tell-by s c [] ks = tt
 tell-by s c (j ∷ js) ks = every-joined (λ x. eqb (x .sender) s) (onEach s (Notice j (c j)) ks) (tell s c js ks) (on-each-by s (Notice j (c j)) ks) (tell-by s c js ks)
 
--- start, stop and quiet end send nothing: Counts
 module _ (net : Network) (s : ℕ) (h : Holding) where
   abbrev By : Done → Type 0
   By d = T (sentBy s (d .sent))
+
+  -- nothing is sent
+  pub started-by : By (started net s h)
+  unfolding started
+  started-by = tt
+
+  pub stopped-by : By (stopped net s)
+  unfolding stopped
+  stopped-by = tt
+
+  pub spoken-by : (k : ℕ) → By (spoken net s k h)
+  unfolding spoken
+  spoken-by k = tt
 
   pub recovered-by : By (recovered net s h)
   unfolding recovered
@@ -41,33 +61,38 @@ module _ (net : Network) (s : ℕ) (h : Holding) where
 
   pub timeout-by : (k : ℕ) → By (timeout net s k h)
   unfolding timeout
-  timeout-by k = if-elim By (even (counter h k)) (λ t. on-each-by s (Notice k (counter h k + 1)) (openBut net s k h)) (λ t. tt)
+  timeout-by k = if-elim By (even (counter h k)) (λ t. on-each-by s (Notice k (timedOut (counter h k))) (less k (openLinks net s h))) (λ t. tt)
 
-  pub request-by : (k p : ℕ) → By (onRequest net s k p h)
-  unfolding onRequest
-  request-by k p =
-      if-elim By (defers net s k p h) (λ t. tt)
-      (λ t. every-joined (λ x. eqb (x .sender) s) (if odd (counter h k) then tell s (counter h) (knownBut net s k h) (k ∷ []) else []) (letter s k (Reply (counter h k)) ∷ [])
-      (if-elim (λ (xs : List Letter). T (sentBy s xs)) (odd (counter h k)) (λ u. tell-by s (counter h) (knownBut net s k h) (k ∷ [])) (λ u. tt))
-      (on-each-by s (Reply (counter h k)) (k ∷ [])))
+  pub effect-by : (k : ℕ) (e : Effect) → By (effectOn net s k h e)
+  unfolding effectOn
+  effect-by k Defers = tt
+  effect-by k Answers =
+      every-joined (λ x. eqb (x .sender) s) (if odd (counter h k) then tell s (counter h) (less k (known net s h)) (k ∷ []) else []) (letter s k (Reply (counter h k)) ∷ [])
+      (if-elim (λ (xs : List Letter). T (sentBy s xs)) (odd (counter h k)) (λ u. tell-by s (counter h) (less k (known net s h)) (k ∷ [])) (λ u. tt))
+      (on-each-by s (Reply (counter h k)) (k ∷ []))
+  effect-by k (Heals c) = let next = replied net s k c h in tell-by s (counter next) (known net s next) (openLinks net s next)
+  effect-by k (Levels c) = on-each-by s (Notice k c) (openLinks net s (replied net s k c h))
+  effect-by k Equal = tt
+  effect-by k (Takes j c) = on-each-by s (Notice j c) (less k (openLinks net s h))
 
-  pub reply-by : (k c : ℕ) → By (onReply net s k c h)
-  unfolding onReply
-  reply-by k c =
-      let next = counted k (healed (counter h k) c) (marked k (repliedMarks (mark h k)) h) in
-      if-elim By (not (mark h k .testing)) (λ t. tt)
-      (λ t. if-elim By (odd (counter h k) || odd c) (λ u. tell-by s (counter next) (known net s next) (openLinks net s next))
-      (λ u. if-elim By (eqb (counter h k) c) (λ v. tt) (λ v. on-each-by s (Notice k (healed (counter h k) c)) (openLinks net s next))))
-
-  pub notice-by : (k j c : ℕ) → By (onNotice net s k j c h)
-  unfolding onNotice
-  notice-by k j c = if-elim By (takes net s j c h) (λ t. on-each-by s (Notice j c) (openBut net s k h)) (λ t. tt)
-
-  body-by : (x : Letter) (b : Body) → By (onBody net s x b h)
-  body-by x Request = request-by (x .link) (x .sender)
-  body-by x (Reply c) = reply-by (x .link) c
-  body-by x (Notice j c) = notice-by (x .link) j c
+  heard-by : (k : ℕ) (a : Heard) → By (heardOn net s k h a)
+  heard-by k Gone = tt
+  heard-by k Nothing = tt
+  heard-by k Overflows = tt
+  heard-by k (Does e) = effect-by k e
 
   pub received-by : (x : Letter) → By (received net s x h)
   unfolding received
-  received-by x = if-elim By (hears net s (x .link) h && not (bodyOver net s (x .link) (x .body) h)) (λ t. body-by x (x .body)) (λ t. tt)
+  received-by x = heard-by (x .link) (answer s x h)
+
+  -- whatever the event
+  pub rule-by : (k : Kind) (b : ℕ) (x : Letter) → By (ruleOf net s k b x h .done)
+  rule-by NoSuch b x = tt
+  rule-by Start b x = started-by
+  rule-by Stop b x = stopped-by
+  rule-by Recovery b x = recovered-by
+  rule-by IntervalEnd b x = interval-by b
+  rule-by TimeoutEnd b x = timeout-by b
+  rule-by QuietEnd b x = spoken-by b
+  rule-by Delivery b x = received-by x
+  rule-by Loss b x = tt

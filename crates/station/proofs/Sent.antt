@@ -112,29 +112,29 @@ tell-one s c k ways = append-nil (onEach s (Notice k (c k)) ways)
 abbrev lastOf : ℕ → Sending → Bool → List Letter
 lastOf s x b = if b then (letter s (x .link) (Reply (x .reply)) ∷ []) else []
 
-module _ (s : ℕ) (x : Sending) where
+module _ (s : ℕ) (told : List ℕ) (x : Sending) where
   by-parts : (ks js ways : List ℕ) (b : Bool) → membersOf (x .requests) ≡ ks → membersOf (x .subjects) ≡ js → membersOf (x .ways) ≡ ways → x .replies ≡ b
-      → lettersOf s x ≡ parts s ks (λ j. getD (x .told) j 0) js ways (lastOf s x b)
+      → lettersOf s told x ≡ parts s ks (λ j. getD told j 0) js ways (lastOf s x b)
   unfolding lettersOf
   by-parts ks js ways b p q w r =
-      ap (λ (l : List ℕ). parts s l (λ j. getD (x .told) j 0) (membersOf (x .subjects)) (membersOf (x .ways)) (lastOf s x (x .replies))) p
-      ∙ ap₂ (λ (l m : List ℕ). parts s ks (λ j. getD (x .told) j 0) l m (lastOf s x (x .replies))) q w
-      ∙ ap (λ (c : Bool). parts s ks (λ j. getD (x .told) j 0) js ways (lastOf s x c)) r
+      ap (λ (l : List ℕ). parts s l (λ j. getD told j 0) (membersOf (x .subjects)) (membersOf (x .ways)) (lastOf s x (x .replies))) p
+      ∙ ap₂ (λ (l m : List ℕ). parts s ks (λ j. getD told j 0) l m (lastOf s x (x .replies))) q w
+      ∙ ap (λ (c : Bool). parts s ks (λ j. getD told j 0) js ways (lastOf s x c)) r
 
   -- nothing
-  pub sent-nothing : x .requests ≡ 0 → x .subjects ≡ 0 → x .replies ≡ false → lettersOf s x ≡ []
+  pub sent-nothing : x .requests ≡ 0 → x .subjects ≡ 0 → x .replies ≡ false → lettersOf s told x ≡ []
   sent-nothing p q r = by-parts [] [] (membersOf (x .ways)) false (ap membersOf p ∙ members-none) (ap membersOf q ∙ members-none) refl r
 
   -- requests alone
-  pub sent-requests : (ks : List ℕ) → membersOf (x .requests) ≡ ks → x .subjects ≡ 0 → x .replies ≡ false → lettersOf s x ≡ onEach s Request ks
+  pub sent-requests : (ks : List ℕ) → membersOf (x .requests) ≡ ks → x .subjects ≡ 0 → x .replies ≡ false → lettersOf s told x ≡ onEach s Request ks
   sent-requests ks p q r = by-parts ks [] (membersOf (x .ways)) false p (ap membersOf q ∙ members-none) refl r ∙ append-nil (onEach s Request ks)
 
   -- notices alone
   pub sent-notices : (js ways : List ℕ) → x .requests ≡ 0 → membersOf (x .subjects) ≡ js → membersOf (x .ways) ≡ ways → x .replies ≡ false
-      → lettersOf s x ≡ tell s (λ j. getD (x .told) j 0) js ways
-  sent-notices js ways p q w r = by-parts [] js ways false (ap membersOf p ∙ members-none) q w r ∙ append-nil (tell s (λ j. getD (x .told) j 0) js ways)
+      → lettersOf s told x ≡ tell s (λ j. getD told j 0) js ways
+  sent-notices js ways p q w r = by-parts [] js ways false (ap membersOf p ∙ members-none) q w r ∙ append-nil (tell s (λ j. getD told j 0) js ways)
 
   -- notices, and the reply
   pub sent-reply : (js ways : List ℕ) → x .requests ≡ 0 → membersOf (x .subjects) ≡ js → membersOf (x .ways) ≡ ways → x .replies ≡ true
-      → lettersOf s x ≡ tell s (λ j. getD (x .told) j 0) js ways ++ (letter s (x .link) (Reply (x .reply)) ∷ [])
+      → lettersOf s told x ≡ tell s (λ j. getD told j 0) js ways ++ (letter s (x .link) (Reply (x .reply)) ∷ [])
   sent-reply js ways p q w r = by-parts [] js ways true (ap membersOf p ∙ members-none) q w r

@@ -2,12 +2,13 @@
 -- stays when the counter or the marks are set anew. A rule of marks is tested at all 32 of them by computation. Assumes nothing.
 use Prim.Native.Nat.{ℕ, _+_, _%_, _≤_, max}
 use mathlib.Core.Bool.{Bool, true, false, not, _&&_, _||_}
+use mathlib.Core.Path.{_≡_, refl, subst⁻¹}
 use native.Mathlib.Omega.{arith}
 use lib.Dec.{T, T-not, eqb, leb, ltb, leb→le, le→leb, eqb→eq, nltb→le}
 use Rattle.lists.specs.Lists.{if_then_else_}
-use Rattle.lists.proofs.Tests.{and-l, and-r, and-i, or-left, if-elim}
+use Rattle.lists.proofs.Tests.{T-is, and-l, and-r, and-i, or-left, eq→eqb, if-elim}
 use Rattle.net.specs.Letters.{isCounter}
-use Rattle.counters.specs.Counters.{even, healed}
+use Rattle.counters.specs.Counters.{even, odd, healed}
 use Rattle.marks.specs.declared.Marks.{Marks}
 use Rattle.station.specs.declared.Condition.{Condition}
 use Rattle.station.specs.declared.Condition.the-variants.{Down, Waiting, Live}
@@ -138,3 +139,22 @@ counter-healed o c t u =
     range-counter (healed o c)
     (if-elim (λ (h : ℕ). 1 ≤ h) (even (max o c)) (λ e. omega (arith, counter-range o t)) (λ e. omega arith))
     (nltb→le 65535 (healed o c) u)
+
+-- the larger of the two, or one more: above both, and even
+pub healed-above : (o c : ℕ) → (o ≤ healed o c) × (c ≤ healed o c)
+unfolding healed
+healed-above o c = if-elim (λ (m : ℕ). (o ≤ m) × (c ≤ m)) (even (max o c)) (λ e. (omega arith, omega arith)) (λ e. (omega arith, omega arith))
+
+pub healed-works : (o c : ℕ) → T (even (healed o c))
+unfolding healed
+healed-works o c = if-elim (λ (m : ℕ). T (even m)) (even (max o c)) (λ e. e) (λ e. above (max o c) e)
+  where
+    above : (m : ℕ) → T (odd m) → T (even (m + 1))
+    above m e = let n : m % 2 ≡ 0 → ⊥ = (λ q. T-not (even m) e (eq→eqb (m % 2) 0 q)) in eq→eqb ((m + 1) % 2) 0 (omega arith)
+
+-- of two even ones that are equal it is the same
+pub healed-equal : (o c : ℕ) → T (even o) → o ≡ c → healed o c ≡ o
+unfolding healed
+healed-equal o c e q =
+    let m : max o c ≡ o = omega arith in
+    subst⁻¹ (λ (n : ℕ). (if even n then n else n + 1) ≡ o) m (rw (T-is (even o) e) refl)

@@ -8,15 +8,18 @@ use mathlib.Core.List.{List, [], _∷_, _++_, map}
 use Rattle.lists.specs.Words.{bit}
 use Rattle.net.specs.declared.Body.the-variants.{Request, Reply, Notice}
 use Rattle.net.specs.declared.Letter.{Letter}
-use Rattle.net.specs.Network.{Network, sheetHolds}
+use Rattle.net.specs.Network.{Network}
+use Rattle.sheet_rules.proofs.Examples.{line-of-four}
 use Rattle.net.specs.Letters.{letterHolds}
-use Rattle.counters.specs.Counters.{healed}
+use Rattle.counters.specs.Counters.{healed, healing}
 use Rattle.reach.specs.Reach.{purge}
 use Rattle.marks.specs.declared.Marks.{Marks}
 use Rattle.station.specs.declared.Condition.the-variants.{Live}
-use Rattle.station.specs.Holding.{Holding, noMarks, setTurn, setTesting, setQuiet, holdingHolds}
-use Rattle.station.specs.Acts.{Done, letter, openLinks, openBut, known, knownBut, timeout, onRequest, onReply, overflows, onNotice, received, timeoutEnd, allowedAs}
-use Rattle.station.proofs.Cases.{bodyNumbers, letterNumbers}
+use Rattle.station.specs.declared.Kind.the-variants.{TimeoutEnd}
+use Rattle.station.specs.Holding.{Holding, noMarks, setTurn, setTesting, setQuiet}
+use Rattle.station.specs.Acts.{Done, letter, openLinks, known, timeout, answer, effectOn, received}
+use Rattle.station.specs.Events.{ruleOf}
+use Rattle.station.proofs.Cases.{bodyNumbers, letterNumbers, stands}
 
 pub record Trap : Type 0 where
   pub got : List (List ℕ)
@@ -40,12 +43,14 @@ seen d = d .holding .table ∷ map marksNumber (d .holding .marks) ∷ letterNum
 
 -- first: what stands before it is well formed and allows it
 timesOut : ℕ → Holding → List (List ℕ)
-unfolding line seen timeout openBut purge sheetHolds holdingHolds
-timesOut k h = (bit (sheetHolds line && holdingHolds line 1 h && allowedAs timeoutEnd k h) ∷ []) ∷ seen (timeout line 1 k h)
+unfolding line seen stands timeout openLinks purge
+timesOut k h =
+    let r = ruleOf line 1 TimeoutEnd k (letter 0 0 Request) h in
+    (bit (stands line 1 h && r .allowed) ∷ []) ∷ seen (r .done)
 
 hears : Holding → Letter → List (List ℕ)
-unfolding line seen received onRequest onReply onNotice overflows healed openLinks openBut known knownBut purge sheetHolds holdingHolds letterHolds
-hears h x = (bit (sheetHolds line && holdingHolds line 1 h && letterHolds line x) ∷ []) ∷ seen (received line 1 x h)
+unfolding line seen stands letterHolds answer healed healing received effectOn openLinks known purge
+hears h x = (bit (stands line 1 h && letterHolds line x) ∷ []) ∷ seen (received line 1 x h)
 
 testing : Marks
 testing = setTesting true noMarks
@@ -89,4 +94,4 @@ traps =
 
 pub traps-hold : map (λ c. c .got) traps ≡ map (λ c. c .want) traps
 unfolding traps
-traps-hold = refl
+traps-hold = rw line-of-four refl

@@ -1,21 +1,26 @@
 -- What one station does: what it holds after an event or a letter, and the letters that it sends, in order.
--- The sentences are those of document 01, "The eight events" and the three kinds of letter. Assumes nothing.
-use Prim.Native.Nat.{ℕ, zero, suc, _+_}
+-- The sentences are those of document 01, "The eight events" and the three kinds of letter. Which event does which of it: Events.antt.
+use Prim.Native.Nat.{ℕ}
 use mathlib.Core.Bool.{Bool, true, false, not, _&&_, _||_}
 use mathlib.Core.List.{List, [], _∷_, _++_, map}
 use lib.Dec.{eqb, ltb}
-use lib.ListN.{length}
 use Rattle.lists.specs.Lists.{if_then_else_, keep}
 use Rattle.net.specs.declared.Body.{Body}
 use Rattle.net.specs.declared.Body.the-variants.{Request, Reply, Notice}
 use Rattle.net.specs.declared.Letter.{Letter}
-use Rattle.net.specs.Network.{Network, isEnd, own, linkNumbers}
-use Rattle.counters.specs.Counters.{even, odd, healed, newer}
-use Rattle.reach.specs.Reach.{purge}
+use Rattle.net.specs.Network.{Network, isEnd, linkNumbers}
+use Rattle.counters.specs.declared.Healed.{Healed}
+use Rattle.counters.specs.declared.Healed.the-variants.{To, TooHigh}
+use Rattle.counters.specs.Counters.{even, odd, timedOut, healing, newer}
+use Rattle.reach.specs.Reach.{worksIn, purge}
+use Rattle.marks.specs.declared.Marks.{Marks}
 use Rattle.station.specs.declared.Condition.{Condition}
 use Rattle.station.specs.declared.Condition.the-variants.{Down, Waiting, Live}
-use Rattle.marks.specs.declared.Marks.{Marks}
-use Rattle.station.specs.Holding.{Holding, noMarks, counter, mark, isLive, isWaiting, isDown, setToken, setTurn, setTesting, setAsked, setQuiet, marked, tabled, counted}
+use Rattle.station.specs.declared.Effect.{Effect}
+use Rattle.station.specs.declared.Effect.the-variants.{Defers, Answers, Heals, Levels, Equal, Takes}
+use Rattle.station.specs.declared.Heard.{Heard}
+use Rattle.station.specs.declared.Heard.the-variants.{Gone, Nothing, Overflows, Does}
+use Rattle.station.specs.Holding.{Holding, noMarks, counter, mark, isLive, setToken, setTurn, setTesting, setAsked, setQuiet, marked, tabled, counted}
 
 -- what an act gives
 pub record Done : Type 0 where
@@ -62,16 +67,42 @@ abbrev pub tell : ℕ → (ℕ → ℕ) → List ℕ → List ℕ → List Lette
 tell s c [] ways = []
 tell s c (j ∷ subjects) ways = onEach s (Notice j (c j)) ways ++ tell s c subjects ways
 
--- ---- the receiver's answer to a letter, as numbers: the paper's number, whether the letter is dropped, and what it does:
--- nothing, or 1 a request, 2 and the new counter a healing, 3 and the new counter a level, 4 an equal reply,
--- 5 with subject and counter a notice taken
--- a reply to a test
-abbrev pub replyAnswer : ℕ → ℕ → List ℕ
-replyAnswer own carried =
-    if ltb 65535 (healed own carried) then (8 ∷ 0 ∷ [])
-    else (if odd own || odd carried then (0 ∷ 0 ∷ 2 ∷ healed own carried ∷ [])
-    else (if eqb own carried then (0 ∷ 0 ∷ 4 ∷ [])
-    else (0 ∷ 0 ∷ 3 ∷ healed own carried ∷ [])))
+-- ---- the receiver's answer to a letter
+-- a reply with c to a test at this own counter, by the new counter: if either of the two was odd it heals
+abbrev pub repliedBy : ℕ → ℕ → Healed → Heard
+repliedBy own c TooHigh = Overflows
+repliedBy own c (To new) = if odd own || odd c then Does (Heals new) else (if eqb own c then Does Equal else Does (Levels new))
+
+-- a request from the station p: the higher-numbered of two testers puts it off
+abbrev pub requestBy : Bool → ℕ → ℕ → Heard
+requestBy testing p s = if testing && ltb p s then Does Defers else Does Answers
+
+-- at the station s, from the station p, by the marks and the counter of the link and the counter of the link that is told of
+abbrev pub bodyAnswer : ℕ → ℕ → Marks → ℕ → ℕ → Body → Heard
+bodyAnswer s p m own told Request = requestBy (m .testing) p s
+bodyAnswer s p m own told (Reply c) = if m .testing then repliedBy own c (healing own c) else Nothing
+bodyAnswer s p m own told (Notice j c) = if newer told c then Does (Takes j c) else Nothing
+
+-- a letter is gone where the receiver isn't live or is quiet there
+abbrev pub hears : Condition → Marks → Bool
+hears x m = isLive x && not (m .quiet)
+
+abbrev pub answerBy : ℕ → Condition → Marks → ℕ → ℕ → Letter → Heard
+answerBy s x m own told l = if hears x m then bodyAnswer s (l .sender) m own told (l .body) else Gone
+
+-- the link that a notice tells of
+abbrev pub subjectOf : Body → ℕ
+subjectOf Request = 0
+subjectOf (Reply c) = 0
+subjectOf (Notice j c) = j
+
+-- the answer of the station s, by what it holds
+unfoldable pub answer : ℕ → Letter → Holding → Heard
+answer s x h = answerBy s (h .condition) (mark h (x .link)) (counter h (x .link)) (counter h (subjectOf (x .body))) x
+
+-- a list without k
+abbrev pub less : ℕ → List ℕ → List ℕ
+less k ks = keep (λ j. not (eqb j k)) ks
 
 -- the station s of the network
 module _ (net : Network) (s : ℕ) where
@@ -79,20 +110,12 @@ module _ (net : Network) (s : ℕ) where
   unfoldable pub openLinks : Holding → List ℕ
   openLinks h = keep (λ k. isEnd net k s && not (mark h k .quiet)) (linkNumbers net)
 
-  -- the same but for the link k
-  unfoldable pub openBut : ℕ → Holding → List ℕ
-  openBut k h = keep (λ j. (isEnd net j s && not (mark h j .quiet)) && not (eqb j k)) (linkNumbers net)
-
   -- the links whose counter is above 1
   unfoldable pub known : Holding → List ℕ
   known h = keep (λ k. ltb 1 (counter h k)) (linkNumbers net)
 
-  -- the same but for the link k
-  unfoldable pub knownBut : ℕ → Holding → List ℕ
-  knownBut k h = keep (λ j. ltb 1 (counter h j) && not (eqb j k)) (linkNumbers net)
-
   abbrev pub purged : Holding → Holding
-  purged h = tabled (purge net s (h .table)) h
+  purged h = tabled (purge net (worksIn (h .table)) s (h .table)) h
 
   -- ---- 1. Start: it becomes waiting, token on for each own link
   unfoldable pub started : Holding → Done
@@ -119,97 +142,40 @@ module _ (net : Network) (s : ℕ) where
   -- ---- 5. Timeout ends on link k. The notices carry the counter before the purge
   unfoldable pub timeout : ℕ → Holding → Done
   timeout k h =
-      let tested = marked k (testEnded (mark h k)) h in
-      let raised = counted k (counter h k + 1) (marked k (setQuiet true (testEnded (mark h k))) h) in
-      if even (counter h k) then (record { holding = purged raised; sent = onEach s (Notice k (counter h k + 1)) (openBut k h) })
-      else unchanged tested
+      let raised = counted k (timedOut (counter h k)) (marked k (setQuiet true (testEnded (mark h k))) h) in
+      if even (counter h k) then (record { holding = purged raised; sent = onEach s (Notice k (timedOut (counter h k))) (less k (openLinks h)) })
+      else unchanged (marked k (testEnded (mark h k)) h)
 
   -- ---- 6. Quiet ends on link k
   unfoldable pub spoken : ℕ → Holding → Done
   spoken k h = unchanged (marked k (setQuiet false (mark h k)) h)
 
-  -- ---- A request from the station p on link k: the higher-numbered tester only marks it
-  abbrev pub defers : ℕ → ℕ → Holding → Bool
-  defers k p h = mark h k .testing && ltb p s
+  -- ---- 7. A letter that is heard on link k, by the receiver's answer
+  -- a reply to a test: testing and asked off, and the new counter
+  abbrev pub replied : ℕ → ℕ → Holding → Holding
+  replied k c h = counted k c (marked k (repliedMarks (mark h k)) h)
 
-  unfoldable pub onRequest : ℕ → ℕ → Holding → Done
-  onRequest k p h =
-      if defers k p h then unchanged (marked k (setAsked true (mark h k)) h)
-      else (record {
+  -- a request: the higher-numbered of two testers only marks it; else all that is known is told over a link that was down, and last
+  -- comes the reply. A reply: the notices carry the counters after the raise and before the purge. A notice goes on, not back
+  unfoldable pub effectOn : ℕ → Holding → Effect → Done
+  effectOn k h Defers = unchanged (marked k (setAsked true (mark h k)) h)
+  effectOn k h Answers =
+      record {
         holding = marked k (requestedMarks (mark h k)) h;
-        sent = (if odd (counter h k) then tell s (counter h) (knownBut k h) (k ∷ []) else []) ++ (letter s k (Reply (counter h k)) ∷ []);
-      })
+        sent = (if odd (counter h k) then tell s (counter h) (less k (known h)) (k ∷ []) else []) ++ (letter s k (Reply (counter h k)) ∷ []);
+      }
+  effectOn k h (Heals c) =
+      record { holding = purged (replied k c h); sent = tell s (counter (replied k c h)) (known (replied k c h)) (openLinks (replied k c h)) }
+  effectOn k h (Levels c) = record { holding = replied k c h; sent = onEach s (Notice k c) (openLinks (replied k c h)) }
+  effectOn k h Equal = unchanged (marked k (repliedMarks (mark h k)) h)
+  effectOn k h (Takes j c) = record { holding = counted j c h; sent = onEach s (Notice j c) (less k (openLinks h)) }
 
-  -- ---- A reply with c on link k. The notices carry the counters after the raise and before the purge
-  unfoldable pub onReply : ℕ → ℕ → Holding → Done
-  onReply k c h =
-      let next = counted k (healed (counter h k) c) (marked k (repliedMarks (mark h k)) h) in
-      if not (mark h k .testing) then unchanged h
-      else (if odd (counter h k) || odd c then (record { holding = purged next; sent = tell s (counter next) (known next) (openLinks next) })
-      else (if eqb (counter h k) c then unchanged next
-      else (record { holding = next; sent = onEach s (Notice k (healed (counter h k) c)) (openLinks next) })))
-
-  -- a reply that would make a counter 65,536
-  unfoldable pub overflows : ℕ → ℕ → Holding → Bool
-  overflows k c h = mark h k .testing && ltb 65535 (healed (counter h k) c)
-
-  -- ---- A notice of link j with c, come on link k. A link that is not there is never taken
-  abbrev pub takes : ℕ → ℕ → Holding → Bool
-  takes j c h = ltb j (length (net .links)) && newer (counter h j) c
-
-  unfoldable pub onNotice : ℕ → ℕ → ℕ → Holding → Done
-  onNotice k j c h =
-      if takes j c h then (record { holding = counted j c h; sent = onEach s (Notice j c) (openBut k h) })
-      else unchanged h
-
-  -- ---- a letter is gone where the receiver isn't live or is quiet there; a link that is not there brings none
-  abbrev pub hears : ℕ → Holding → Bool
-  hears k h = ltb k (length (net .links)) && (isLive (h .condition) && not (mark h k .quiet))
-
-  -- a reply that would make a counter 65,536: the network refuses it (8), and nothing happens
-  abbrev pub bodyOver : ℕ → Body → Holding → Bool
-  bodyOver k Request h = false
-  bodyOver k (Reply c) h = overflows k c h
-  bodyOver k (Notice j c) h = false
-
-  abbrev pub onBody : Letter → Body → Holding → Done
-  onBody x Request h = onRequest (x .link) (x .sender) h
-  onBody x (Reply c) h = onReply (x .link) c h
-  onBody x (Notice j c) h = onNotice (x .link) j c h
+  -- what is gone, has no effect or would overflow changes nothing
+  abbrev pub heardOn : ℕ → Holding → Heard → Done
+  heardOn k h Gone = unchanged h
+  heardOn k h Nothing = unchanged h
+  heardOn k h Overflows = unchanged h
+  heardOn k h (Does e) = effectOn k h e
 
   unfoldable pub received : Letter → Holding → Done
-  received x h = if hears (x .link) h && not (bodyOver (x .link) (x .body) h) then onBody x (x .body) h else unchanged h
-
-  abbrev pub bodyAnswer : ℕ → Body → Holding → List ℕ
-  bodyAnswer k Request h = 0 ∷ 0 ∷ 1 ∷ []
-  bodyAnswer k (Reply c) h = if mark h k .testing then replyAnswer (counter h k) c else (0 ∷ 0 ∷ [])
-  bodyAnswer k (Notice j c) h = if takes j c h then (0 ∷ 0 ∷ 5 ∷ j ∷ c ∷ []) else (0 ∷ 0 ∷ [])
-
-  unfoldable pub answer : Letter → Holding → List ℕ
-  answer x h = if hears (x .link) h then bodyAnswer (x .link) (x .body) h else (0 ∷ 1 ∷ [])
-
--- ---- 7: whether the station's condition and marks allow an event of this kind on link k
-pub data Kind : Type 0 where
-  start stop recovery intervalEnd timeoutEnd quietEnd other : Kind
-
-abbrev pub kindOf : ℕ → Kind
-kindOf zero = other
-kindOf (suc zero) = start
-kindOf (suc (suc zero)) = stop
-kindOf (suc (suc (suc zero))) = recovery
-kindOf (suc (suc (suc (suc zero)))) = intervalEnd
-kindOf (suc (suc (suc (suc (suc zero))))) = timeoutEnd
-kindOf (suc (suc (suc (suc (suc (suc zero)))))) = quietEnd
-kindOf (suc (suc (suc (suc (suc (suc (suc n))))))) = other
-
-abbrev pub allowedBy : Kind → Condition → Marks → Bool
-allowedBy start x m = isDown x
-allowedBy stop x m = not (isDown x)
-allowedBy recovery x m = isWaiting x
-allowedBy intervalEnd x m = isLive x && (not (m .testing) && not (m .quiet))
-allowedBy timeoutEnd x m = m .testing
-allowedBy quietEnd x m = m .quiet
-allowedBy other x m = true
-
-abbrev pub allowedAs : Kind → ℕ → Holding → Bool
-allowedAs x k h = allowedBy x (h .condition) (mark h k)
+  received x h = heardOn (x .link) h (answer s x h)

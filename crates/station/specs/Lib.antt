@@ -1,3 +1,5 @@
 pub mod Holding
 pub mod Acts
+pub mod Events
+pub mod Numbers
 pub mod Values

@@ -1,10 +1,9 @@
 -- What the code's values mean. Assumes nothing.
 use Prim.Native.Nat.{ℕ}
 use mathlib.Core.Bool.{Bool}
-use mathlib.Core.Path.{_≡_}
 use mathlib.Core.List.{List, [], _∷_, _++_, map}
 use lib.ListN.{getD, drop, replicate}
-use Rattle.lists.specs.Lists.{if_then_else_, keep, below}
+use Rattle.lists.specs.Lists.{if_then_else_, keep, below, filled}
 use Rattle.lists.specs.Words.{inWord, wordOf}
 use Rattle.net.specs.declared.Body.the-variants.{Request, Reply}
 use Rattle.net.specs.declared.Letter.{Letter}
@@ -16,10 +15,9 @@ use Rattle.marks.specs.declared.Marks.{Marks}
 use Rattle.marks.specs.declared.Words.{Words}
 use Rattle.station.specs.declared.Station.{Station}
 use Rattle.sending.specs.declared.Sending.{Sending}
-use Rattle.station.specs.declared.Acted.{Acted}
 use Rattle.station.specs.declared.Condition.the-variants.{Down}
 use Rattle.station.specs.Holding.{Holding}
-use Rattle.station.specs.Acts.{Done, letter, onEach, tell}
+use Rattle.station.specs.Acts.{letter, onEach, tell}
 
 -- what a station value holds
 unfoldable pub holdingOf : Net → Station → Holding
@@ -51,7 +49,7 @@ laid net old h =
       marks = laidWords (linkCount net) (old .marks) (h .marks);
     }
 
--- ---- the letters that a sending means
+-- ---- the letters that a sending means, where the table told is this
 -- the links of a word, rising
 unfoldable pub membersOf : ℕ → List ℕ
 membersOf w = keep (inWord w) (below 64)
@@ -60,9 +58,9 @@ membersOf w = keep (inWord w) (below 64)
 abbrev pub parts : ℕ → List ℕ → (ℕ → ℕ) → List ℕ → List ℕ → List Letter → List Letter
 parts s requests told subjects ways last = onEach s Request requests ++ (tell s told subjects ways ++ last)
 
-unfoldable pub lettersOf : ℕ → Sending → List Letter
-lettersOf s x =
-    parts s (membersOf (x .requests)) (λ j. getD (x .told) j 0) (membersOf (x .subjects)) (membersOf (x .ways))
+unfoldable pub lettersOf : ℕ → List ℕ → Sending → List Letter
+lettersOf s told x =
+    parts s (membersOf (x .requests)) (λ j. getD told j 0) (membersOf (x .subjects)) (membersOf (x .ways))
     (if x .replies then (letter s (x .link) (Reply (x .reply)) ∷ []) else [])
 
 -- a station value without marks, and the zero one: what a start and a stop lay their holding over
@@ -75,7 +73,6 @@ unmarked st = record { condition = st .condition; counters = st .counters; marks
 unfoldable pub blank : Station
 blank = record { condition = Down; counters = replicate 64 0; marks = noWords }
 
--- what an act of the station s hands back: the holding laid over the old room, and a sending that means the letters
-pub record Acts (net : Net) (s : ℕ) (old : Station) (d : Done) (r : Acted) : Type 0 where
-  pub station : r .station ≡ laid net old (d .holding)
-  pub sent : lettersOf s (r .send) ≡ d .sent
+-- every counter 1 in a network of n links, the unused room zero
+unfoldable pub freshTable : ℕ → List ℕ
+freshTable n = filled (λ k. 1) (replicate 64 0) n

@@ -1,12 +1,14 @@
-// One station: what it holds, and the rules of every event and letter at it. It knows the network's links and nothing of
-// other stations. The events that only its condition or its marks answer are the crate changing's, what is allowed is the
-// crate allowing's, the ends of a test are the crate testing's, the letters the crates hearing's, answering's and receiving's. What is
-// said of a link that is not there is in specs/Acts.antt.
+// One station: what it holds, which events there are, and the rules of every event and letter at it as definitions (specs/Acts.antt,
+// specs/Events.antt). It knows the network's links and nothing of other stations. What an event comes to there, in words: the crate
+// station_plan.
 ghost use mathlib.Core.Path.{_≡_};
 ghost use Rattle.station.specs.Holding.{isLive};
+ghost use Prim.Native.Nat.{min};
+ghost use lib.ListN.{replicate};
+ghost use Rattle.station.specs.Events.{kindOf};
+ghost use Rattle.station.specs.Values.{freshTable};
 use counters::Counters;
 use marks::Words;
-use sending::Sending;
 
 // The first condition is what an unused place holds.
 pub enum Condition {
@@ -22,9 +24,36 @@ pub struct Station {
     pub marks: Words,
 }
 
-pub struct Acted {
-    pub station: Station,
-    pub send: Sending,
+// The eight kinds of event, and what is none of them.
+pub enum Kind {
+    NoSuch,
+    Start,
+    Stop,
+    Recovery,
+    IntervalEnd,
+    TimeoutEnd,
+    QuietEnd,
+    Delivery,
+    Loss,
+}
+
+// What a letter that is heard does: a request is put off or answered; a reply heals, levels two even counters or finds them equal; a
+// notice is taken.
+pub enum Effect {
+    Defers,
+    Answers,
+    Heals(u16),
+    Levels(u16),
+    Equal,
+    Takes(u8, u16),
+}
+
+// The receiver's answer to a letter: gone unheard, no effect, refused since a counter would be 65,536, or what it does.
+pub enum Heard {
+    Gone,
+    Nothing,
+    Overflows,
+    Does(Effect),
 }
 
 pub fn is_live(c: Condition) -> bool
@@ -35,4 +64,40 @@ pub fn is_live(c: Condition) -> bool
         Condition::Waiting => false,
         Condition::Live => true,
     }
+}
+
+// The kind of event that a number says: the only place where it is looked at.
+pub fn kind_of(n: u32) -> Kind
+    ensures { λ r. ⌜ r ≡ kindOf n ⌝ }
+{
+    match n {
+        1 => Kind::Start,
+        2 => Kind::Stop,
+        3 => Kind::Recovery,
+        4 => Kind::IntervalEnd,
+        5 => Kind::TimeoutEnd,
+        6 => Kind::QuietEnd,
+        7 => Kind::Delivery,
+        8 => Kind::Loss,
+        _ => Kind::NoSuch,
+    }
+}
+
+fn no_counters() -> Counters
+    ensures { λ r. ⌜ r ≡ replicate 64 0 ⌝ }
+{
+    [0u16; 64]
+}
+
+// The table of a station that knows of no link: every counter 1.
+pub fn fresh_counters(links: u8) -> Counters
+    ensures { λ r. ⌜ r ≡ freshTable (min links 64) ⌝ }
+{
+    let m = words::at_most_64(links);
+    let mut counters = no_counters();
+    for k in 0..m {
+        let i = k as usize;
+        counters[i] = 1;
+    }
+    counters
 }

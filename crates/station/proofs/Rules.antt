@@ -1,0 +1,242 @@
+-- The eight events together, by their rules, at the station that they concern: each that is allowed keeps what the station holds well
+-- formed, and the number of raised counters that it counts is that of the counters which it leaves higher than before. And what the
+-- event comes to: each number for its reason and no other. Assumes nothing.
+use Prim.Native.Nat.{ℕ, _+_, _≤_, _<_, zero-le}
+use mathlib.Core.Bool.{Bool, true, false, not}
+use mathlib.Core.Path.{_≡_, refl, ap, _∙_, subst⁻¹}
+use mathlib.Core.Logic.{_≢_}
+use mathlib.Core.List.{List}
+use native.Mathlib.Nat.{le-refl, le-of-eq}
+use native.Mathlib.Omega.{arith}
+use borrow.Author.Tests.{lt-ltb, le-ltb}
+use lib.Dec.{T, ltb}
+use lib.ListN.{length}
+use Rattle.lists.specs.Lists.{sumOf}
+use Rattle.lists.specs.Words.{bit}
+use Rattle.lists.proofs.Tests.{T-is, T-not-is, if-elim}
+use Rattle.lists.proofs.OneSum.{sum-none, sum-only}
+use Rattle.net.specs.declared.Letter.{Letter}
+use Rattle.net.specs.Network.{Network, isEnd, linkNumbers}
+use Rattle.net.specs.Letters.{letterHolds}
+use Rattle.counters.specs.Counters.{even}
+use Rattle.reach.specs.Reach.{counterIn}
+use Rattle.station.specs.declared.Effect.{Effect}
+use Rattle.station.specs.declared.Effect.the-variants.{Defers, Answers, Heals, Levels, Equal, Takes}
+use Rattle.station.specs.declared.Heard.{Heard}
+use Rattle.station.specs.declared.Heard.the-variants.{Gone, Nothing, Overflows, Does}
+use Rattle.station.specs.declared.Kind.{Kind}
+use Rattle.station.specs.declared.Kind.the-variants.{NoSuch, Start, Stop, Recovery, IntervalEnd, TimeoutEnd, QuietEnd, Delivery, Loss}
+use Rattle.station.specs.Holding.{Holding, counter, mark, holdingHolds}
+use Rattle.station.specs.Acts.{Done, unchanged, started, stopped, recovered, interval, timeout, spoken, answer, effectOn, heardOn}
+use Rattle.station.specs.Acts.{received}
+use Rattle.station.specs.Events.{raisedEffect, heardCounts, isNotice, Rule, ruleOf, Comes, refusing, comesTo}
+use Rattle.station.proofs.Slots.{slot-counter}
+use Rattle.station.proofs.Purges.{lowered-le}
+use Rattle.station.proofs.Answers.{EffectFits, HeardFits, letter-link, answer-fits}
+use Rattle.station.proofs.HoldingLaws.{formed}
+use Rattle.station.proofs.Keeps.{Kept, started-keeps, stopped-keeps, recovered-keeps, interval-keeps, timeout-keeps, spoken-keeps}
+use Rattle.station.proofs.Keeps.{received-keeps, unchanged-keeps}
+use Rattle.station.proofs.Rises.{Sets, started-table, recovered-table, interval-table, spoken-table, defers-table, answers-table}
+use Rattle.station.proofs.Rises.{equal-table, stopped-lowers, counter-positive, timeout-even, timeout-odd, heals-sets, levels-sets}
+use Rattle.station.proofs.Rises.{takes-took}
+
+-- what the event names is there at the station s: its link is an own one; its letter may travel, and comes to s
+abbrev pub Names : Network → ℕ → Kind → ℕ → Letter → Type 0
+Names net s NoSuch b x = T true
+Names net s Start b x = T true
+Names net s Stop b x = T true
+Names net s Recovery b x = T true
+Names net s IntervalEnd b x = (b < length (net .links)) × T (isEnd net b s)
+Names net s TimeoutEnd b x = (b < length (net .links)) × T (isEnd net b s)
+Names net s QuietEnd b x = (b < length (net .links)) × T (isEnd net b s)
+Names net s Delivery b x = T (letterHolds net x) × T (isEnd net (x .link) s)
+Names net s Loss b x = T true
+
+-- ---- well formed before it, and allowed: well formed after it, and what is sent may travel
+pub rule-keeps : (net : Network) (s : ℕ) (h : Holding) → T (holdingHolds net s h) → (k : Kind) (b : ℕ) (x : Letter) → Names net s k b x
+    → T (ruleOf net s k b x h .allowed)
+    → Kept net s (ruleOf net s k b x h .done)
+rule-keeps net s h ok NoSuch b x n a = unchanged-keeps net s h ok
+rule-keeps net s h ok Start b x n a = started-keeps net s h ok a
+rule-keeps net s h ok Stop b x n a = stopped-keeps net s
+rule-keeps net s h ok Recovery b x n a = recovered-keeps net s h ok a
+rule-keeps net s h ok IntervalEnd b x n a = interval-keeps net s h ok b (n .0) (n .1) a
+rule-keeps net s h ok TimeoutEnd b x n a = timeout-keeps net s h ok b (n .0) (n .1) a
+rule-keeps net s h ok QuietEnd b x n a = spoken-keeps net s h ok b (n .0) (n .1) a
+rule-keeps net s h ok Delivery b x n a = received-keeps net s h ok x (n .0) (n .1)
+rule-keeps net s h ok Loss b x n a = unchanged-keeps net s h ok
+
+-- ---- how many counters are higher in h than in g
+abbrev pub risen : Network → Holding → Holding → ℕ
+risen net g h = sumOf (λ k. bit (ltb (counter g k) (counter h k))) (linkNumbers net)
+
+module _ (net : Network) (g h : Holding) where
+  risen-none : ((k : ℕ) → counter h k ≤ counter g k) → risen net g h ≡ 0
+  risen-none f = sum-none (λ k. bit (ltb (counter g k) (counter h k))) (length (net .links)) (λ k l. ap bit (le-ltb (counter g k) (counter h k) (f k)))
+
+  -- no counter but k's is higher
+  risen-one : (k : ℕ) → k < length (net .links) → ((j : ℕ) → j ≢ k → counter h j ≤ counter g j)
+      → risen net g h ≡ bit (ltb (counter g k) (counter h k))
+  risen-one k l f =
+      sum-only (λ k. bit (ltb (counter g k) (counter h k))) (length (net .links)) k l (λ j m n. ap bit (le-ltb (counter g j) (counter h j) (f j n)))
+
+  pub risen-same : h .table ≡ g .table → risen net g h ≡ 0
+  risen-same e = risen-none (λ k. le-of-eq (ap (λ (t : List ℕ). counterIn t k) e))
+
+module _ (net : Network) (s : ℕ) (real : s < net .stations) (h : Holding) (ok : T (holdingHolds net s h)) where
+  abbrev Raises : ℕ → Done → Type 0
+  Raises n d = risen net h (d .holding) ≡ n
+
+  same : Raises 0 (unchanged h)
+  same = risen-same net h h refl
+
+  module _ (k : ℕ) (l : k < length (net .links)) (o : T (isEnd net k s)) where
+    sets-raises : (c : ℕ) (d : Done) → Sets net s k c h d → Raises (bit (ltb (counter h k) c)) d
+    sets-raises c d p =
+        risen-one net h (d .holding) k l (λ j n. lowered-le (counter h j) (counter (d .holding) j) (counter-positive net s h ok j) (p .others j n))
+        ∙ ap (λ (x : ℕ). bit (ltb (counter h k) x)) (p .own)
+
+    timeout-raises : Raises (bit (even (counter h k))) (timeout net s k h)
+    timeout-raises = go (even (counter h k)) refl
+      where
+        go : (b : Bool) → even (counter h k) ≡ b → Raises (bit b) (timeout net s k h)
+        go true e =
+            sets-raises (counter h k + 1) (timeout net s k h) (timeout-even net s h ok k l real o (subst⁻¹ T e tt))
+            ∙ ap bit (lt-ltb (counter h k) (counter h k + 1) (omega arith))
+        go false e = risen-same net h (timeout net s k h .holding) (timeout-odd net s h k (subst⁻¹ (λ (b : Bool). T (not b)) e tt))
+
+    effect-raises : (e : Effect) → EffectFits net k h e → Raises (raisedEffect (counter h k) e) (effectOn net s k h e)
+    effect-raises Defers p = risen-same net h (effectOn net s k h Defers .holding) (defers-table net s h k)
+    effect-raises Answers p = risen-same net h (effectOn net s k h Answers .holding) (answers-table net s h k)
+    effect-raises (Heals c) p = sets-raises c (effectOn net s k h (Heals c)) (heals-sets net s h ok k l real o c)
+    effect-raises (Levels c) p = sets-raises c (effectOn net s k h (Levels c)) (levels-sets net s h ok k l c)
+    effect-raises Equal p = risen-same net h (effectOn net s k h Equal .holding) (equal-table net s h k)
+    effect-raises (Takes j c) p =
+        let t = takes-took net s h ok k j c (p .there) (p .above) in
+        let d = effectOn net s k h (Takes j c) in
+        risen-one net h (d .holding) j (p .there) (λ i n. le-of-eq (t .others i n))
+        ∙ ap bit (lt-ltb (counter h j) (counter (d .holding) j) (subst⁻¹ (λ (n : ℕ). counter h j < n) (t .takes) (t .newer)))
+
+    heard-raises : (n : ℕ) (a : Heard) → HeardFits net k h a → Raises (heardCounts n (counter h k) a .raised) (heardOn net s k h a)
+    heard-raises n Gone p = same
+    heard-raises n Nothing p = same
+    heard-raises n Overflows p = same
+    heard-raises n (Does e) p = effect-raises e (p .1)
+
+  received-raises : (x : Letter) → T (letterHolds net x) → T (isEnd net (x .link) s)
+      → Raises (heardCounts (bit (isNotice (x .body))) (counter h (x .link)) (answer s x h) .raised) (received net s x h)
+  unfolding received
+  received-raises x t o =
+      let k = x .link in
+      let l = letter-link net x t in
+      heard-raises k l o (bit (isNotice (x .body))) (answer s x h) (answer-fits net s x h (slot-counter (h .condition) (isEnd net k s) (counter h k) (mark h k) (formed net s h ok .slots k l)) t)
+
+  -- what the rule counts as raised is what is higher
+  pub rule-raises : (k : Kind) (b : ℕ) (x : Letter) → Names net s k b x
+      → risen net h (ruleOf net s k b x h .done .holding) ≡ ruleOf net s k b x h .counts .raised
+  rule-raises NoSuch b x n = same
+  rule-raises Start b x n = risen-same net h (started net s h .holding) (started-table net s h)
+  rule-raises Stop b x n = risen-none net h (stopped net s .holding) (stopped-lowers net s h ok)
+  rule-raises Recovery b x n = risen-same net h (recovered net s h .holding) (recovered-table net s h)
+  rule-raises IntervalEnd b x n = risen-same net h (interval net s b h .holding) (interval-table net s h b)
+  rule-raises TimeoutEnd b x n = timeout-raises b (n .0) (n .1)
+  rule-raises QuietEnd b x n = risen-same net h (spoken net s b h .holding) (spoken-table net s h b)
+  rule-raises Delivery b x n = received-raises x (n .0) (n .1)
+  rule-raises Loss b x n = same
+
+-- one at the most
+bit-le : (b : Bool) → bit b ≤ 1
+bit-le true = le-refl 1
+bit-le false = zero-le
+
+effect-one : (own : ℕ) (e : Effect) → raisedEffect own e ≤ 1
+effect-one own Defers = zero-le
+effect-one own Answers = zero-le
+effect-one own (Heals c) = bit-le (ltb own c)
+effect-one own (Levels c) = bit-le (ltb own c)
+effect-one own Equal = zero-le
+effect-one own (Takes j c) = le-refl 1
+
+heard-one : (n own : ℕ) (a : Heard) → heardCounts n own a .raised ≤ 1
+heard-one n own Gone = zero-le
+heard-one n own Nothing = zero-le
+heard-one n own Overflows = zero-le
+heard-one n own (Does e) = effect-one own e
+
+pub rule-one : (net : Network) (s : ℕ) (k : Kind) (b : ℕ) (x : Letter) (h : Holding) → ruleOf net s k b x h .counts .raised ≤ 1
+rule-one net s NoSuch b x h = zero-le
+rule-one net s Start b x h = zero-le
+rule-one net s Stop b x h = zero-le
+rule-one net s Recovery b x h = zero-le
+rule-one net s IntervalEnd b x h = zero-le
+rule-one net s TimeoutEnd b x h = bit-le (even (counter h b))
+rule-one net s QuietEnd b x h = zero-le
+rule-one net s Delivery b x h = heard-one (bit (isNotice (x .body))) (counter h (x .link)) (answer s x h)
+rule-one net s Loss b x h = zero-le
+
+-- ---- what an event comes to: each number for its reason, and where the reason holds
+not-not : (b : Bool) → T (not (not b)) → T b
+not-not true t = tt
+not-not false t = t
+
+module _ (there : Bool) (r : Rule) where
+  pub data Why : ℕ → Type 0 where
+    none : T there → T (r .allowed) → T (not (r .over)) → Why 0
+    six : T (not there) → Why 6
+    seven : T there → T (not (r .allowed)) → Why 7
+    eight : T there → T (r .allowed) → T (r .over) → Why 8
+
+  module _ (h : Holding) where
+    pub comes-why : Why (comesTo there r h .number)
+    unfolding comesTo
+    comes-why =
+        let For : Comes → Type 0 = λ c. Why (c .number) in
+        if-elim For (not there) six
+        (λ p. let t = not-not there p in if-elim For (not (r .allowed)) (seven t)
+        (λ q. let a = not-not (r .allowed) q in if-elim For (r .over) (eight t a) (none t a)))
+
+    -- nothing refuses it: the rule's
+    pub comes-done : T there → T (r .allowed) → T (not (r .over))
+        → comesTo there r h ≡ record { number = 0; done = r .done; counts = r .counts }
+    unfolding comesTo
+    comes-done t a o = simp (T-is there t, T-is (r .allowed) a, T-not-is (r .over) o)
+
+    -- refused: the number, and nothing is done
+    pub comes-six : T (not there) → comesTo there r h ≡ refusing 6 h
+    unfolding comesTo
+    comes-six t = simp (T-not-is there t)
+
+    pub comes-seven : T there → T (not (r .allowed)) → comesTo there r h ≡ refusing 7 h
+    unfolding comesTo
+    comes-seven t a = simp (T-is there t, T-not-is (r .allowed) a)
+
+    pub comes-eight : T there → T (r .allowed) → T (r .over) → comesTo there r h ≡ refusing 8 h
+    unfolding comesTo
+    comes-eight t a o = simp (T-is there t, T-is (r .allowed) a, T-is (r .over) o)
+
+    pub why-comes : {n : ℕ} → Why n → comesTo there r h .number ≡ n
+    why-comes (none t a o) = ap (λ (c : Comes). c .number) (comes-done t a o)
+    why-comes (six t) = ap (λ (c : Comes). c .number) (comes-six t)
+    why-comes (seven t a) = ap (λ (c : Comes). c .number) (comes-seven t a)
+    why-comes (eight t a o) = ap (λ (c : Comes). c .number) (comes-eight t a o)
+
+    -- what holds of a refusal and of the rule where nothing refuses it holds of what it comes to
+    pub comes-elim : (P : Comes → Type 0) → ((n : ℕ) → P (refusing n h))
+        → (T there → T (r .allowed) → T (not (r .over)) → P (record { number = 0; done = r .done; counts = r .counts }))
+        → P (comesTo there r h)
+    unfolding comesTo
+    comes-elim P refused taken =
+        if-elim P (not there) (λ p. refused 6)
+        (λ p. if-elim P (not (r .allowed)) (λ q. refused 7) (λ q. if-elim P (r .over) (λ o. refused 8) (taken (not-not there p) (not-not (r .allowed) q))))
+
+-- refused or not, by the rule of an event: well formed after it, and what it counts as raised is what is higher
+module _ (net : Network) (s : ℕ) (h : Holding) (ok : T (holdingHolds net s h)) (there : Bool) (k : Kind) (b : ℕ) (x : Letter) (n : T there → Names net s k b x) where
+  pub comes-keeps : Kept net s (comesTo there (ruleOf net s k b x h) h .done)
+  comes-keeps =
+      comes-elim there (ruleOf net s k b x h) h (λ (c : Comes). Kept net s (c .done)) (λ i. unchanged-keeps net s h ok) (λ t a o. rule-keeps net s h ok k b x (n t) a)
+
+  pub comes-raises : s < net .stations
+      → let c = comesTo there (ruleOf net s k b x h) h in risen net h (c .done .holding) ≡ c .counts .raised
+  comes-raises real =
+      comes-elim there (ruleOf net s k b x h) h (λ (c : Comes). risen net h (c .done .holding) ≡ c .counts .raised) (λ i. risen-same net h h refl)
+      (λ t a o. rule-raises net s real h ok k b x (n t))
