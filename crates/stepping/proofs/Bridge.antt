@@ -1,19 +1,21 @@
 -- The step of the code is the world's step of what the state means: through the bridge, for every state and event. Assumes nothing.
 use Prim.Native.Nat.{ℕ}
-use mathlib.Core.Bool.{Bool, true, false}
+use mathlib.Core.Bool.{Bool, false}
 use mathlib.Core.Path.{_≡_, refl, sym, ap, _∙_, subst⁻¹}
 use native.Mathlib.Decide.{ℕ-discrete}
 use borrow.Author.Tests.{eq-eqb, ne-eqb}
 use lib.Dec.{T, eqb}
 use Rattle.lists.specs.Lists.{if_then_else_}
 use Rattle.lists.proofs.Tests.{T-is}
-use Rattle.net.specs.Network.{Network}
+use Rattle.tally.specs.declared.Tally.{Tally}
 use Rattle.net.specs.Values.{networkOf}
-use Rattle.world.specs.World as World
-use Rattle.world.specs.World.{Event, Outcome, step, after, refusal, settled, raised, dropped}
+use Rattle.station.specs.Events.{counting}
+use Rattle.world.specs.World as W
+use Rattle.world.specs.World.{World, Event, Outcome, step, after, refusal, settled, raised, dropped}
 use Rattle.world.specs.History.{ifTaken, orElse, next}
-use Rattle.world.proofs.Steps.{step-accepts, step-refuses, step-number}
+use Rattle.world.proofs.Steps.{step-accepts, step-refuses, step-number, taken, after-net}
 use Rattle.world.proofs.Keeps.{Formed, step-formed}
+use Rattle.world.proofs.OneRaised.{counts-are}
 use Rattle.state.specs.declared.State.{State}
 use Rattle.state.specs.State.{worldOf, stateOf, stateHolds, Sized}
 use Rattle.state.proofs.Meaning.{determined, holds-net, net-is, world-formed}
@@ -27,14 +29,17 @@ pub record Good (s : State) : Type 0 where
   pub holds : T (stateHolds s)
 
 -- ---- what a step answers, by the world's step
+-- what is counted of an event, by its outcome
+abbrev pub countsBy : Outcome → World → Event → Tally
+countsBy o w e = counting (ifTaken o (settled w e)) (ifTaken o (raised w e)) (ifTaken o (dropped w e))
+
 pub record IsStep (s : State) (e : Event) (r : Stepped) : Type 0 where
-  pub number : r .answer ≡ World.numberOf (step (worldOf s) e)
+  pub number : r .answer ≡ W.numberOf (step (worldOf s) e)
   pub world : worldOf (r .state) ≡ next (worldOf s) e
   pub good : Good (r .state)
   pub refused-same : (r .answer ≡ 0 → ⊥) → r .state ≡ s
-  pub counts-settled : r .settled ≡ ifTaken (step (worldOf s) e) (settled (worldOf s) e)
-  pub counts-raised : r .raised ≡ ifTaken (step (worldOf s) e) (raised (worldOf s) e)
-  pub counts-dropped : r .dropped ≡ ifTaken (step (worldOf s) e) (dropped (worldOf s) e)
+  -- the notices that it settles, the counters that it leaves higher, over all stations and links, and the letters that it drops
+  pub counts : r .counts ≡ countsBy (step (worldOf s) e) (worldOf s) e
 
 module _ (s : State) (kind a b : ℕ) where
   abbrev e : Event
@@ -62,32 +67,30 @@ module _ (s : State) (kind a b : ℕ) where
     -- ---- refused: the same state, nothing counted
     refusing-step : (refusal (worldOf s) e ≡ 0 → ⊥) → IsStep s e (refusing (refusal (worldOf s) e) s)
     refusing-step n =
-        let o : step (worldOf s) e ≡ World.refused (refusal (worldOf s) e) = step-refuses (worldOf s) e (refusal (worldOf s) e) refl n in
+        let o : step (worldOf s) e ≡ W.refused (refusal (worldOf s) e) = step-refuses (worldOf s) e (refusal (worldOf s) e) refl n in
         record {
           number = sym (step-number (worldOf s) e);
           world = sym (ap (orElse (worldOf s)) o);
           good = g;
           refused-same = λ m. refl;
-          counts-settled = sym (ap (λ (x : Outcome). ifTaken x (settled (worldOf s) e)) o);
-          counts-raised = sym (ap (λ (x : Outcome). ifTaken x (raised (worldOf s) e)) o);
-          counts-dropped = sym (ap (λ (x : Outcome). ifTaken x (dropped (worldOf s) e)) o);
+          counts = sym (ap (λ (x : Outcome). countsBy x (worldOf s) e) o);
         }
 
     -- ---- accepted: the world after the event, laid out
     accepting-step : refusal (worldOf s) e ≡ 0 → IsStep s e (accepting s e)
     accepting-step q =
-        let o : step (worldOf s) e ≡ World.accepted (after (worldOf s) e) = step-accepts (worldOf s) e q in
+        let o : step (worldOf s) e ≡ W.accepted (after (worldOf s) e) = step-accepts (worldOf s) e q in
         let n = holds-net s (g .sized) (g .holds) in
-        let f : Formed (after (worldOf s) e) = step-formed (worldOf s) e (after (worldOf s) e) (world-formed s (g .sized) (g .holds)) o in
-        let m : networkOf (s .net) ≡ after (worldOf s) e .net = sym (net-is s (g .sized) (g .holds)) in
+        let u = world-formed s (g .sized) (g .holds) in
+        let there = taken (worldOf s) e (after (worldOf s) e) o .exists in
+        let f : Formed (after (worldOf s) e) = step-formed (worldOf s) e (after (worldOf s) e) u o in
+        let m : networkOf (s .net) ≡ after (worldOf s) e .net = sym (after-net (worldOf s) e ∙ net-is s (g .sized) (g .holds)) in
         record {
-          number = sym (ap World.numberOf o);
+          number = sym (ap W.numberOf o);
           world = laid-means (s .net) (after (worldOf s) e) n m f ∙ sym (ap (orElse (worldOf s)) o);
           good = record { sized = laid-sized (s .net) (after (worldOf s) e) n m f (g .sized .ends); holds = laid-holds (s .net) (after (worldOf s) e) n m f };
           refused-same = λ z. absurd (z refl);
-          counts-settled = sym (ap (λ (x : Outcome). ifTaken x (settled (worldOf s) e)) o);
-          counts-raised = sym (ap (λ (x : Outcome). ifTaken x (raised (worldOf s) e)) o);
-          counts-dropped = sym (ap (λ (x : Outcome). ifTaken x (dropped (worldOf s) e)) o);
+          counts = counts-are (worldOf s) u e there ∙ sym (ap (λ (x : Outcome). countsBy x (worldOf s) e) o);
         }
 
     pub is-step : IsStep s e (steppedOf s kind a b)

@@ -1,8 +1,9 @@
--- What a step of the network answers: the world's step of what the state means, laid out in zero room. Assumes nothing.
+-- What a step of the network answers: the world's step of what the state means, laid out in zero room.
 use Prim.Native.Nat.{ℕ}
 use lib.Dec.{eqb}
 use Rattle.lists.specs.Lists.{if_then_else_}
-use Rattle.world.specs.World.{Event, fresh, refusal, after, settled, raised, dropped}
+use Rattle.station.specs.Events.{counting}
+use Rattle.world.specs.World.{Event, comes, fresh, refusal, after}
 use Rattle.state.specs.declared.State.{State}
 use Rattle.state.specs.State.{worldOf, stateOf, stateHolds}
 use Rattle.stepping.specs.declared.Stepped.{Stepped}
@@ -12,11 +13,10 @@ event kind a b = record { kind = kind; a = a; b = b }
 
 -- a refusal hands back the state that it was given
 abbrev pub refusing : ℕ → State → Stepped
-refusing n s = record { answer = n; settled = 0; raised = 0; dropped = 0; state = s }
+refusing n s = record { answer = n; counts = counting 0 0 0; state = s }
 
 abbrev pub accepting : State → Event → Stepped
-accepting s e =
-    record { answer = 0; settled = settled (worldOf s) e; raised = raised (worldOf s) e; dropped = dropped (worldOf s) e; state = stateOf (s .net) (after (worldOf s) e) }
+accepting s e = record { answer = 0; counts = comes (worldOf s) e .counts; state = stateOf (s .net) (after (worldOf s) e) }
 
 -- 11 where the state isn't well formed, then the world's refusals in their order
 unfoldable pub numberOf : State → Event → ℕ

@@ -8,20 +8,28 @@ use lib.Dec.{T, eqb, leb, ltb, leb→le, le→leb, ltb→lt, eqb→eq}
 use lib.ListN.{length, getD, set, length-set}
 use lib.Seq.{getD-set-same, getD-set-other}
 use Rattle.lists.specs.Lists.{every, below}
-use Rattle.lists.specs.Places.{without}
-use Rattle.lists.proofs.Tests.{and-l, and-r, and-i, eq→eqb, every-at}
+use Rattle.lists.proofs.Tests.{and-l, and-r, and-i, eq→eqb, every-at, if-elim}
 use Rattle.lists.proofs.Numbers.{below-at, at-below, getD-map-below, length-map-below}
 use Rattle.lists.proofs.Kept.{every-joined}
 use Rattle.lists.proofs.Without.{every-without}
 use Rattle.net.specs.declared.Letter.{Letter}
-use Rattle.net.specs.Network.{Network, isEnd, sheetHolds}
+use Rattle.net.specs.Network.{Network, isEnd}
+use Rattle.sheet_rules.specs.Rules.{sheetHolds}
 use Rattle.net.specs.Letters.{letterHolds, bodyHolds}
+use Rattle.station.specs.declared.Kind.{Kind}
+use Rattle.station.specs.declared.Kind.the-variants.{NoSuch, Start, Stop, Recovery, IntervalEnd, TimeoutEnd, QuietEnd, Delivery, Loss}
 use Rattle.station.specs.Holding.{Holding, holdingHolds}
-use Rattle.station.specs.Acts.{Done, stopped, Kind, start, stop, recovery, intervalEnd, timeoutEnd, quietEnd, other, allowedAs}
-use Rattle.station.proofs.Keeps.{Kept, stopped-keeps, started-keeps, recovered-keeps, interval-keeps, timeout-keeps, spoken-keeps, received-keeps}
-use Rattle.world.specs.World.{World, Event, Sort, act, delivery, loss, sortOf, nobody, noLetter, holdingAt, letterAt, receiver, isStation, hasLink, existsAs, exists, allowedSort, allowed, Change, put, changeAs, change, Outcome, refused, accepted, step, wellFormed, fresh}
+use Rattle.station.specs.Acts.{stopped}
+use Rattle.station.specs.Events.{kindOf, takesLetter}
+use Rattle.station.proofs.Keeps.{Kept, stopped-keeps}
+use Rattle.station.proofs.Rules as R
+use Rattle.station.proofs.Rules.{Names}
+use Rattle.world.specs.World.{World, Event, nobody, noLetter, holdingAt, letterAt, existsAs, exists, receiverIn}
+use Rattle.world.specs.World.{concernedBy, concerned, rule, comes, left, after, Outcome, refused, accepted, step}
+use Rattle.world.specs.World.{wellFormed, fresh}
 use Rattle.world.specs.History.{orElse, next, run}
-use Rattle.world.proofs.Ends.{other-real, other-end}
+use Rattle.sheet_rules.proofs.Ends.{other-real, other-end}
+use Rattle.world.proofs.There.{letter-there, station-there, link-real, link-own}
 use Rattle.world.proofs.Steps.{taken}
 
 -- ---- a well-formed world as facts
@@ -76,8 +84,8 @@ pub record Posted (w : World) (x : Letter) : Type 0 where
   pub link : x .link < length (w .net .links)
   pub sender : T (isEnd (w .net) (x .link) (x .sender))
   pub body : T (bodyHolds (w .net) (x .body))
-  pub real : receiver w x < w .net .stations
-  pub end : T (isEnd (w .net) (x .link) (receiver w x))
+  pub real : receiverIn (w .net) x < w .net .stations
+  pub end : T (isEnd (w .net) (x .link) (receiverIn (w .net) x))
 
 module _ (w : World) (f : Formed w) where
   pub letter-posted : (x : Letter) → T (letterHolds (w .net) x) → Posted w x
@@ -100,74 +108,73 @@ module _ (w : World) (f : Formed w) where
   pub at-posted : (a : ℕ) → a < length (w .letters) → Posted w (letterAt w a)
   at-posted a h = letter-posted (letterAt w a) (at-holds a h)
 
--- ---- what an event does keeps the holdings and the letters
-record Keeps (w : World) (c : Change) : Type 0 where
-  count : length (c .holdings) ≡ w .net .stations
-  each : (s : ℕ) → s < w .net .stations → T (holdingHolds (w .net) s (getD (c .holdings) s nobody))
-  left : T (every (letterHolds (w .net)) (c .left))
-  sent : T (every (letterHolds (w .net)) (c .sent))
+-- ---- what an event names in a well-formed world
+module _ (w : World) (f : Formed w) (e : Event) (x : T (exists w e)) where
+  -- the letter that it takes off the list may travel, and the station that it concerns is there
+  pub meant-posted : T (takesLetter (kindOf (e .kind))) → Posted w (letterAt w (e .a))
+  meant-posted t = at-posted w f (e .a) (letter-there w e t x)
+
+  pub concerned-real : concerned w e < w .net .stations
+  unfolding concerned
+  concerned-real =
+      if-elim (λ (s : ℕ). s < w .net .stations) (takesLetter (kindOf (e .kind))) (λ t. meant-posted t .real) (λ t. station-there w e t x)
+
+  pub concerned-holds : T (holdingHolds (w .net) (concerned w e) (holdingAt w (concerned w e)))
+  concerned-holds = f .each (concerned w e) concerned-real
+
+-- ---- what an event names there: station's Rules ask for no more
+module _ (net : Network) (flying a b : ℕ) (x : Letter) (travels : a < flying → T (letterHolds net x)) where
+  names-as : (k : Kind) → T (existsAs k net flying a b) → Names net (concernedBy k net a x) k b x
+  names-as NoSuch t = tt
+  names-as Start t = tt
+  names-as Stop t = tt
+  names-as Recovery t = tt
+  names-as IntervalEnd t = (link-real net a b t, link-own net a b t)
+  names-as TimeoutEnd t = (link-real net a b t, link-own net a b t)
+  names-as QuietEnd t = (link-real net a b t, link-own net a b t)
+  names-as Delivery t = (travels (ltb→lt a flying (and-l (ltb a flying) _ t)), other-end net (x .link) (x .sender))
+  names-as Loss t = tt
 
 module _ (w : World) (f : Formed w) where
-  put-keeps : (s : ℕ) (xs : List Letter) (d : Done) → s < w .net .stations → T (every (letterHolds (w .net)) xs) → Kept (w .net) s d → Keeps w (put w s xs d)
-  put-keeps s xs d h t g =
-      record { count = length-set (w .holdings) s (d .holding) ∙ f .count; each = λ r l. go r l (ℕ-discrete r s); left = t; sent = g .sent }
+  pub names : (e : Event) → T (exists w e) → Names (w .net) (concerned w e) (kindOf (e .kind)) (e .b) (letterAt w (e .a))
+  unfolding exists concerned
+  names e x = names-as (w .net) (length (w .letters)) (e .a) (e .b) (letterAt w (e .a)) (at-holds w f (e .a)) (kindOf (e .kind)) x
+
+  -- what the event comes to keeps the station, and sends letters that may travel
+  pub comes-keeps : (e : Event) → T (exists w e) → Kept (w .net) (concerned w e) (comes w e .done)
+  unfolding comes rule
+  comes-keeps e x =
+      let s = concerned w e in
+      R.comes-keeps (w .net) s (holdingAt w s) (concerned-holds w f e x) (exists w e) (kindOf (e .kind)) (e .b) (letterAt w (e .a)) (names e)
+
+  left-holds : (e : Event) → T (every (letterHolds (w .net)) (left w e))
+  unfolding left
+  left-holds e =
+      if-elim (λ (xs : List Letter). T (every (letterHolds (w .net)) xs)) (takesLetter (kindOf (e .kind)))
+      (λ t. every-without (letterHolds (w .net)) (e .a) (w .letters) (f .posted)) (λ t. f .posted)
+
+  -- a station stored
+  stored-holds : (s : ℕ) (h : Holding) → s < w .net .stations → T (holdingHolds (w .net) s h)
+      → (r : ℕ) → r < w .net .stations → T (holdingHolds (w .net) r (getD (set (w .holdings) s h) r nobody))
+  stored-holds s h l g r m = go (ℕ-discrete r s)
     where
-      go : (r : ℕ) → r < w .net .stations → Dec (r ≡ s) → T (holdingHolds (w .net) r (getD (set (w .holdings) s (d .holding)) r nobody))
-      go r l (yes e) = rw (e, getD-set-same (w .holdings) s (d .holding) nobody (subst⁻¹ (λ (n : ℕ). s < n) (f .count) h)) (g .holding)
-      go r l (no e) = rw (getD-set-other (w .holdings) s r (d .holding) nobody e) (f .each r l)
-
-  -- the numbers of an event name what is there
-  station-real : (a : ℕ) (b : Bool) → T (isStation w a && b) → a < w .net .stations
-  station-real a b t = ltb→lt a _ (and-l (isStation w a) _ t)
-
-  link-real : (a b : ℕ) → T (isStation w a && hasLink w a b) → b < length (w .net .links)
-  link-real a b t = ltb→lt b _ (and-l (ltb b (length (w .net .links))) _ (and-r (isStation w a) _ t))
-
-  link-own : (a b : ℕ) → T (isStation w a && hasLink w a b) → T (isEnd (w .net) b a)
-  link-own a b t = and-r (ltb b (length (w .net .links))) _ (and-r (isStation w a) _ t)
-
-  act-keeps : (k : Kind) (a b : ℕ) → T (existsAs (act k) w a b) → T (allowedAs k b (holdingAt w a)) → Keeps w (changeAs (act k) w a b)
-  act-keeps start a b x y =
-      let h = station-real a _ x in
-      put-keeps a (w .letters) _ h (f .posted) (started-keeps (w .net) a (holdingAt w a) (f .each a h) y)
-  act-keeps stop a b x y = put-keeps a (w .letters) _ (station-real a _ x) (f .posted) (stopped-keeps (w .net) a)
-  act-keeps recovery a b x y =
-      let h = station-real a _ x in
-      put-keeps a (w .letters) _ h (f .posted) (recovered-keeps (w .net) a (holdingAt w a) (f .each a h) y)
-  act-keeps intervalEnd a b x y =
-      let h = station-real a _ x in
-      put-keeps a (w .letters) _ h (f .posted) (interval-keeps (w .net) a (holdingAt w a) (f .each a h) b (link-real a b x) (link-own a b x) y)
-  act-keeps timeoutEnd a b x y =
-      let h = station-real a _ x in
-      put-keeps a (w .letters) _ h (f .posted) (timeout-keeps (w .net) a (holdingAt w a) (f .each a h) b (link-real a b x) (link-own a b x) y)
-  act-keeps quietEnd a b x y =
-      let h = station-real a _ x in
-      put-keeps a (w .letters) _ h (f .posted) (spoken-keeps (w .net) a (holdingAt w a) (f .each a h) b (link-real a b x) (link-own a b x) y)
-  act-keeps other a b x y = absurd x
-
-  sort-keeps : (s : Sort) (a b : ℕ) → T (existsAs s w a b) → T (allowedSort s w a b) → Keeps w (changeAs s w a b)
-  sort-keeps (act k) a b x y = act-keeps k a b x y
-  sort-keeps delivery a b x y =
-      let h = ltb→lt a _ (and-l (ltb a (length (w .letters))) _ x) in
-      let p = at-posted w f a h in
-      let r = receiver w (letterAt w a) in
-      put-keeps r (without a (w .letters)) _ (p .real) (every-without (letterHolds (w .net)) a (w .letters) (f .posted))
-      (received-keeps (w .net) r (holdingAt w r) (f .each r (p .real)) (letterAt w a) (at-holds w f a h) (p .end))
-  sort-keeps loss a b x y = record { count = f .count; each = f .each; left = every-without (letterHolds (w .net)) a (w .letters) (f .posted); sent = tt }
+      go : Dec (r ≡ s) → T (holdingHolds (w .net) r (getD (set (w .holdings) s h) r nobody))
+      go (yes e) = rw (e, getD-set-same (w .holdings) s h nobody (subst⁻¹ (λ (n : ℕ). s < n) (f .count) l)) g
+      go (no e) = rw (getD-set-other (w .holdings) s r h nobody e) (f .each r m)
 
 -- EACH ACCEPTED STEP KEEPS THE WORLD WELL FORMED.
 pub step-formed : (w : World) (e : Event) (v : World) → Formed w → step w e ≡ accepted v → Formed v
-unfolding change exists allowed
+unfolding after
 step-formed w e v f q =
     let t = taken w e v q in
-    let c = sort-keeps w f (sortOf (e .kind)) (e .a) (e .b) (t .exists) (t .allowed) in
+    let k = comes-keeps w f e (t .exists) in
     subst⁻¹ Formed (t .is)
     (record {
       sheet = f .sheet;
-      count = c .count;
-      each = c .each;
+      count = length-set (w .holdings) (concerned w e) (comes w e .done .holding) ∙ f .count;
+      each = stored-holds w f (concerned w e) (comes w e .done .holding) (concerned-real w f e (t .exists)) (k .holding);
       room = t .room;
-      posted = every-joined (letterHolds (w .net)) (change w e .left) (change w e .sent) (c .left) (c .sent);
+      posted = every-joined (letterHolds (w .net)) (left w e) (comes w e .done .sent) (left-holds w f e) (k .sent);
     })
 
 pub step-keeps : (w : World) (e : Event) (v : World) → T (wellFormed w) → step w e ≡ accepted v → T (wellFormed v)

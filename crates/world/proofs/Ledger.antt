@@ -1,33 +1,27 @@
 -- Conservation: in any run from a freshly read sheet, letters ever sent, counted from the events, equal those delivered, lost
 -- and in flight. Also how counts over a history add up. Assumes nothing.
 use Prim.Native.Nat.{ℕ, _+_}
-use mathlib.Core.Path.{_≡_, refl}
+use mathlib.Core.Path.{_≡_, refl, ap}
 use mathlib.Core.List.{List, [], _∷_, _++_}
 use native.Mathlib.Omega.{arith}
-use lib.Dec.{T, ltb, ltb→lt}
 use lib.ListN.{length, length-append}
-use Rattle.lists.proofs.Tests.{and-l}
 use Rattle.lists.specs.Words.{bit}
 use Rattle.lists.proofs.Counts.{sum-append}
-use Rattle.lists.proofs.Without.{length-without, sum-without}
+use Rattle.tally.specs.declared.Tally.{Tally}
 use Rattle.net.specs.Network.{Network}
-use Rattle.world.specs.World.{World, Event, Sort, act, delivery, loss, sortOf, noLetter, letterAt, existsAs, exists, changeAs, change, Outcome, refused, accepted, step, isNotice, noticesOf, settledAs, settled, fresh}
-use Rattle.world.specs.History.{ifTaken, next, run, total, sent, deliveredAs, lostAs, everSent, everDelivered, everLost, everSettled}
+use Rattle.station.specs.Events.{kindOf, delivers, loses, isNotice}
+use Rattle.world.specs.World.{World, Event, comes, left, after, Outcome, refused, accepted, step, noticesOf, settled, fresh}
+use Rattle.world.specs.History.{ifTaken, next, run, total, sent, everSent, everDelivered, everLost, everSettled}
 use Rattle.world.proofs.Steps.{taken}
+use Rattle.world.proofs.There.{left-one, left-notices}
 
--- ---- one event
-left-as : (s : Sort) (w : World) (a b : ℕ) → T (existsAs s w a b) → length (changeAs s w a b .left) + deliveredAs s + lostAs s ≡ length (w .letters)
-left-as (act k) w a b t = omega arith
-left-as delivery w a b t = omega (arith, length-without a (w .letters) (ltb→lt a _ (and-l (ltb a (length (w .letters))) _ t)))
-left-as loss w a b t = omega (arith, length-without a (w .letters) (ltb→lt a _ (and-l (ltb a (length (w .letters))) _ t)))
-
--- an accepted event: what was in flight and what it sends is what it delivers or loses and what is in flight then
+-- ---- one accepted event: what was in flight and what it sends is what it delivers or loses and what is in flight then
 pub one-conserved : (w : World) (e : Event) (v : World) → step w e ≡ accepted v
-    → length (w .letters) + sent w e ≡ deliveredAs (sortOf (e .kind)) + lostAs (sortOf (e .kind)) + length (v .letters)
-unfolding change exists sent
+    → length (w .letters) + sent w e ≡ bit (delivers (kindOf (e .kind))) + bit (loses (kindOf (e .kind))) + length (v .letters)
+unfolding after sent
 one-conserved w e v q =
     let t = taken w e v q in
-    rw (t .is) (omega (arith, left-as (sortOf (e .kind)) w (e .a) (e .b) (t .exists), length-append (change w e .left) (change w e .sent)))
+    rw (t .is) (omega (arith, left-one w e (t .exists), length-append (left w e) (comes w e .done .sent)))
 
 -- ---- a history
 pub conserved : (w : World) (es : List Event) → length (w .letters) + everSent w es ≡ everDelivered w es + everLost w es + length (run w es .letters)
@@ -46,32 +40,28 @@ unfolding fresh
 letters-conserved net es = omega (arith, conserved (fresh net) es)
 
 -- ---- the same of notices alone: those settled are those that leave
-settled-as : (s : Sort) (w : World) (a b : ℕ) → T (existsAs s w a b) → noticesOf (changeAs s w a b .left) + settledAs s (letterAt w a) ≡ noticesOf (w .letters)
-settled-as (act k) w a b t = omega arith
-settled-as delivery w a b t = sum-without (λ x. bit (isNotice (x .body))) a (w .letters) noLetter (ltb→lt a _ (and-l (ltb a (length (w .letters))) _ t))
-settled-as loss w a b t = sum-without (λ x. bit (isNotice (x .body))) a (w .letters) noLetter (ltb→lt a _ (and-l (ltb a (length (w .letters))) _ t))
-
 pub one-settled : (w : World) (e : Event) (v : World) → step w e ≡ accepted v
-    → noticesOf (w .letters) + noticesOf (change w e .sent) ≡ settled w e + noticesOf (v .letters)
-unfolding change exists settled
+    → noticesOf (w .letters) + noticesOf (comes w e .done .sent) ≡ settled w e + noticesOf (v .letters)
+unfolding after
 one-settled w e v q =
     let t = taken w e v q in
     rw (t .is)
     (omega (
       arith,
-      settled-as (sortOf (e .kind)) w (e .a) (e .b) (t .exists),
-      sum-append (λ x. bit (isNotice (x .body))) (change w e .left) (change w e .sent),
+      left-notices w e (t .exists),
+      ap (λ (c : Tally). c .settled) (t .counts),
+      sum-append (λ x. bit (isNotice (x .body))) (left w e) (comes w e .done .sent),
     ))
 
 -- NOTICES EVER SENT AND THOSE IN FLIGHT AT THE START ARE THOSE SETTLED AND THOSE IN FLIGHT AT THE END: the count of settled
 -- notices is of events in the history, and no other number would do.
-pub notices-conserved : (w : World) (es : List Event) → noticesOf (w .letters) + total (λ u e. noticesOf (change u e .sent)) w es ≡ everSettled w es + noticesOf (run w es .letters)
+pub notices-conserved : (w : World) (es : List Event) → noticesOf (w .letters) + total (λ u e. noticesOf (comes u e .done .sent)) w es ≡ everSettled w es + noticesOf (run w es .letters)
 unfolding run total
 notices-conserved w [] = omega arith
 notices-conserved w (e ∷ es) = go (step w e) refl (notices-conserved (next w e) es)
   where
     f : World → Event → ℕ
-    f u e = noticesOf (change u e .sent)
+    f u e = noticesOf (comes u e .done .sent)
 
     go : (o : Outcome) → step w e ≡ o → noticesOf (next w e .letters) + total f (next w e) es ≡ everSettled (next w e) es + noticesOf (run (next w e) es .letters)
         → noticesOf (w .letters) + total f w (e ∷ es) ≡ everSettled w (e ∷ es) + noticesOf (run (next w e) es .letters)

@@ -1,7 +1,5 @@
-pub mod Ends
-pub mod Neighbours
+pub mod There
 pub mod Steps
-pub mod Sorts
 pub mod Keeps
 pub mod Reports
 pub mod Ledger

@@ -9,9 +9,9 @@ use native.Mathlib.Omega.{arith}
 use lib.Dec.{T, T-not}
 use lib.ListN.{length, getD, length-append, List·getD-append}
 use lib.Seq.{getD-append-add}
-use Rattle.lists.specs.Lists.{if_then_else_, below}
+use Rattle.lists.specs.Lists.{below}
 use Rattle.lists.specs.Words.{bit, inWord}
-use Rattle.lists.proofs.Tests.{T-is, T-not-is, or-cases, or-left, or-right}
+use Rattle.lists.proofs.Tests.{or-cases, or-left, or-right}
 use Rattle.lists.proofs.Numbers.{getD-map-below, length-map-below}
 use Rattle.lists.proofs.Words.{in-wordOf}
 use Rattle.lists.proofs.First.{first-below}
@@ -37,30 +37,21 @@ zero-bit : (b : Bool) → (T b → ⊥) → bit b ≡ 0
 zero-bit true f = absurd (f tt)
 zero-bit false f = refl
 
--- the three values of a link, by whether an end is reached and its counter is even
-value-zero : (b : Bool) (c : ℕ) → (linkValue b c ≡ 0) ↔ (T b → ⊥)
-value-zero true c = ((λ e. absurd (go (even c) e)), (λ f. absurd (f tt)))
-  where
-    go : (x : Bool) → _≡_ {A = ℕ} (if x then 1 else 2) 0 → ⊥
-    go true e = omega arith
-    go false e = omega arith
-value-zero false c = ((λ e t. t), (λ f. refl))
+-- the three values of a link, by whether an end is reached and it works
+value-zero : (b x : Bool) → (linkValue b x ≡ 0) ↔ (T b → ⊥)
+value-zero true true = ((λ e. absurd (omega arith)), (λ f. absurd (f tt)))
+value-zero true false = ((λ e. absurd (omega arith)), (λ f. absurd (f tt)))
+value-zero false x = ((λ e t. t), (λ f. refl))
 
-value-one : (b : Bool) (c : ℕ) → (linkValue b c ≡ 1) ↔ (T b × T (even c))
-value-one true c = ((λ e. (tt, go (even c) e)), (λ p. ap {B = ℕ} (λ x. if x then 1 else 2) (T-is (even c) (p .1))))
-  where
-    go : (x : Bool) → _≡_ {A = ℕ} (if x then 1 else 2) 1 → T x
-    go true e = tt
-    go false e = absurd (omega arith)
-value-one false c = ((λ e. absurd (omega arith)), (λ p. absurd (p .0)))
+value-one : (b x : Bool) → (linkValue b x ≡ 1) ↔ (T b × T x)
+value-one true true = ((λ e. (tt, tt)), (λ p. refl))
+value-one true false = ((λ e. absurd (omega arith)), (λ p. absurd (p .1)))
+value-one false x = ((λ e. absurd (omega arith)), (λ p. absurd (p .0)))
 
-value-two : (b : Bool) (c : ℕ) → (linkValue b c ≡ 2) ↔ (T b × T (odd c))
-value-two true c = ((λ e. (tt, go (even c) e)), (λ p. ap {B = ℕ} (λ x. if x then 1 else 2) (T-not-is (even c) (p .1))))
-  where
-    go : (x : Bool) → _≡_ {A = ℕ} (if x then 1 else 2) 2 → T (not x)
-    go true e = absurd (omega arith)
-    go false e = tt
-value-two false c = ((λ e. absurd (omega arith)), (λ p. absurd (p .0)))
+value-two : (b x : Bool) → (linkValue b x ≡ 2) ↔ (T b × T (not x))
+value-two true true = ((λ e. absurd (omega arith)), (λ p. absurd (p .1)))
+value-two true false = ((λ e. (tt, tt)), (λ p. refl))
+value-two false x = ((λ e. absurd (omega arith)), (λ p. absurd (p .0)))
 
 -- the station s asks
 module _ (w : World) (s : ℕ) where
@@ -78,7 +69,7 @@ module _ (w : World) (s : ℕ) where
   in-members t r = complete (w .net) (worksIn (holdingAt w s .table)) s t r
 
   abbrev linkNumber : ℕ → ℕ
-  linkNumber k = linkValue (near (w .net) (has members) k) (counterIn (holdingAt w s .table) k)
+  linkNumber k = linkValue (near (w .net) (has members) k) (worksIn (holdingAt w s .table) k)
 
   abbrev stationPart : List ℕ
   stationPart = map (λ t. bit (has members t)) (below (w .net .stations))
@@ -141,19 +132,19 @@ module _ (w : World) (s : ℕ) where
     -- 0, perceived unreachable: neither end reached
     pub link-unreachable : (shown ≡ 0) ↔ (EndReached k → ⊥)
     link-unreachable =
-        let v = value-zero (near (w .net) (has members) k) c in
+        let v = value-zero (near (w .net) (has members) k) (even c) in
         ((λ e r. v .0 (sym (link-number k h) ∙ e) (reached-near k r)), (λ f. link-number k h ∙ v .1 (λ t. f (near-reached k t))))
 
     -- 1, working: an end reached, and even
     pub link-working : (shown ≡ 1) ↔ (EndReached k × T (even c))
     link-working =
-        let v = value-one (near (w .net) (has members) k) c in
+        let v = value-one (near (w .net) (has members) k) (even c) in
         ((λ e. let p = v .0 (sym (link-number k h) ∙ e) in (near-reached k (p .0), p .1)), (λ p. link-number k h ∙ v .1 (reached-near k (p .0), p .1)))
 
     -- 2, unresponsive: an end reached, and odd
     pub link-unresponsive : (shown ≡ 2) ↔ (EndReached k × T (odd c))
     link-unresponsive =
-        let v = value-two (near (w .net) (has members) k) c in
+        let v = value-two (near (w .net) (has members) k) (even c) in
         ((λ e. let p = v .0 (sym (link-number k h) ∙ e) in (near-reached k (p .0), p .1)), (λ p. link-number k h ∙ v .1 (reached-near k (p .0), p .1)))
 
   -- ---- the reach as a word: bit t for the station t

@@ -1,25 +1,25 @@
 -- The step: each number that says no, when and only when document 01's list says, in its order; and what an accepted one did.
 -- Assumes nothing.
-use Prim.Native.Nat.{ℕ, _≤_}
+use Prim.Native.Nat.{ℕ, _+_, _≤_}
 use mathlib.Core.Bool.{Bool, true, false, not}
 use mathlib.Core.Path.{_≡_, refl, sym, ap, _∙_, subst⁻¹}
-use mathlib.Core.List.{List, []}
 use native.Mathlib.Omega.{arith}
-use borrow.Author.Tests.{ne-eqb}
-use lib.Dec.{T, eqb, leb→le, eqb→eq}
-use lib.ListN.{length}
-use lib.Seq.{set-getD}
+use borrow.Author.Tests.{eq-eqb, ne-eqb}
+use mir.Facts.{T-not-not}
+use lib.Dec.{T, eqb, ltb, leb, leb→le, eqb→eq}
+use lib.ListN.{length, length-append}
 use Rattle.lists.specs.Lists.{if_then_else_}
-use Rattle.lists.specs.Places.{without}
 use Rattle.lists.proofs.Tests.{T-is, T-not-is, if-elim}
 use Rattle.station.specs.Holding.{Holding, isLive}
-use Rattle.station.proofs.Rises.{received-gone}
-use Rattle.world.specs.World.{World, Event, Sort, delivery, loss, sortOf, nobody, holdingAt, letterAt, receiver, heard, put, exists, allowed, over, changeAs, change, after, fits, refusal, refused, accepted, numberOf, step, isStation, askRefusal}
+use Rattle.station.specs.declared.Kind.the-variants.{Delivery}
+use Rattle.station.specs.Events.{Rule, Comes, refusing, comesTo}
+use Rattle.station.proofs.Answers.{heard}
+use Rattle.station.proofs.Tallies as Tallies
+use Rattle.station.proofs.Rules as R
+use Rattle.station.proofs.Rules.{comes-why, why-comes, comes-done}
+use Rattle.world.specs.World.{World, Event, holdingAt, letterAt, receiverIn, existsAs, exists, concerned, rule, allowed}
+use Rattle.world.specs.World.{over, comes, left, after, fits, refusal, refused, accepted, numberOf, step, askRefusal}
 use Rattle.world.specs.History.{orElse, next}
-
-not-not : (b : Bool) → T (not (not b)) → T b
-not-not true t = tt
-not-not false t = t
 
 module _ (w : World) (e : Event) where
   -- ---- what each answer says of the event
@@ -30,23 +30,87 @@ module _ (w : World) (e : Event) where
     eight : T (exists w e) → T (allowed w e) → T (over w e) → Why 8
     nine : T (exists w e) → T (allowed w e) → T (not (over w e)) → T (not (fits w e)) → Why 9
 
+  -- by what it comes to at its station (station's Rules), and the room for letters
+  abbrev there : Holding
+  there = holdingAt w (concerned w e)
+
+  abbrev numbered : ℕ → ℕ
+  numbered n = if eqb n 0 then (if fits w e then 0 else 9) else n
+
+  why-by : {n : ℕ} → R.Why (exists w e) (rule w e) n → Why (numbered n)
+  why-by (R.none p q o) = if-elim Why (fits w e) (none p q o) (nine p q o)
+  why-by (R.six p) = six p
+  why-by (R.seven p q) = seven p q
+  why-by (R.eight p q o) = eight p q o
+
+  refusal-by : {n : ℕ} → R.Why (exists w e) (rule w e) n → refusal w e ≡ numbered n
+  unfolding refusal comes
+  refusal-by y = ap numbered (why-comes (exists w e) (rule w e) there y)
+
   -- only then: the number is given for its reason
   pub refusal-why : Why (refusal w e)
-  unfolding refusal
-  refusal-why =
-      if-elim Why (not (exists w e)) six
-      (λ x. let p = not-not (exists w e) x in if-elim Why (not (allowed w e)) (seven p)
-      (λ y. let q = not-not (allowed w e) y in if-elim Why (over w e) (eight p q)
-      (λ z. if-elim Why (not (fits w e)) (nine p q z) (λ u. none p q z (not-not (fits w e) u)))))
+  unfolding refusal comes
+  refusal-why = why-by (comes-why (exists w e) (rule w e) there)
 
   -- when: where the reason holds, the number is given
   pub why-refusal : {n : ℕ} → Why n → refusal w e ≡ n
+  why-refusal (none p q r t) = refusal-by (R.none p q r) ∙ simp (T-is (fits w e) t)
+  why-refusal (six p) = refusal-by (R.six p)
+  why-refusal (seven p q) = refusal-by (R.seven p q)
+  why-refusal (eight p q r) = refusal-by (R.eight p q r)
+  why-refusal (nine p q r t) = refusal-by (R.none p q r) ∙ simp (T-not-is (fits w e) t)
+
+  -- the same by the number that it comes to at its station: that one, and 0 only if there is room
+  pub refused-there : (comes w e .number ≡ 0 → ⊥) → refusal w e ≡ comes w e .number
   unfolding refusal
-  why-refusal (none p q r t) = simp (T-is (exists w e) p, T-is (allowed w e) q, T-not-is (over w e) r, T-is (fits w e) t)
-  why-refusal (six p) = simp (T-not-is (exists w e) p)
-  why-refusal (seven p q) = simp (T-is (exists w e) p, T-not-is (allowed w e) q)
-  why-refusal (eight p q r) = simp (T-is (exists w e) p, T-is (allowed w e) q, T-is (over w e) r)
-  why-refusal (nine p q r t) = simp (T-is (exists w e) p, T-is (allowed w e) q, T-not-is (over w e) r, T-not-is (fits w e) t)
+  refused-there n = ap (λ (b : Bool). if b then (if fits w e then 0 else 9) else comes w e .number) (ne-eqb (comes w e .number) 0 n)
+
+  pub passes-there : comes w e .number ≡ 0 → refusal w e ≡ (if fits w e then 0 else 9)
+  unfolding refusal
+  passes-there z = ap (λ (b : Bool). if b then (if fits w e then 0 else 9) else comes w e .number) (eq-eqb (comes w e .number) 0 z)
+
+  -- the room: the letters that stay and those that are sent
+  pub fits-is : fits w e ≡ leb (length (left w e) + length (comes w e .done .sent)) 4096
+  unfolding fits after
+  fits-is = ap (λ (n : ℕ). leb n 4096) (length-append (left w e) (comes w e .done .sent))
+
+  -- ---- an event that its station does not refuse: there is what it names, it is allowed, no counter would be 65,536, and it comes to
+  -- what the rule of its kind does and counts
+  pub record Passes : Type 0 where
+    pub exists : T (exists w e)
+    pub allowed : T (allowed w e)
+    pub holds : T (not (over w e))
+    pub done : comes w e .done ≡ rule w e .done
+    pub counts : comes w e .counts ≡ rule w e .counts
+
+  passes-by : {n : ℕ} → R.Why (exists w e) (rule w e) n → n ≡ 0 → Passes
+  unfolding comes
+  passes-by (R.none p q o) z =
+      let c = comes-done (exists w e) (rule w e) there p q o in
+      record { exists = p; allowed = q; holds = o; done = ap (λ (x : Comes). x .done) c; counts = ap (λ (x : Comes). x .counts) c }
+  passes-by (R.six p) z = absurd (omega arith)
+  passes-by (R.seven p q) z = absurd (omega arith)
+  passes-by (R.eight p q o) z = absurd (omega arith)
+
+  pub passes : comes w e .number ≡ 0 → Passes
+  unfolding comes
+  passes z = passes-by (comes-why (exists w e) (rule w e) there) z
+
+  number-by : {n : ℕ} → R.Why (exists w e) (rule w e) n → numbered n ≡ 0 → n ≡ 0
+  number-by (R.none p q o) z = refl
+  number-by (R.six p) z = absurd (omega arith)
+  number-by (R.seven p q) z = absurd (omega arith)
+  number-by (R.eight p q o) z = absurd (omega arith)
+
+  -- every accepted event is such a one
+  pub accepted-passes : refusal w e ≡ 0 → comes w e .number ≡ 0
+  unfolding refusal comes
+  accepted-passes z = number-by (comes-why (exists w e) (rule w e) there) z
+
+  -- there is no such thing: 6, whatever station was looked at, and nothing is done
+  pub absent-six : T (not (exists w e)) → comes w e ≡ refusing 6 (holdingAt w (concerned w e))
+  unfolding comes
+  absent-six n = R.comes-six (exists w e) (rule w e) there n
 
   -- ---- the step by its number
   pub step-accepts : refusal w e ≡ 0 → step w e ≡ accepted (after w e)
@@ -69,69 +133,90 @@ module _ (w : World) (e : Event) where
   pub refused-stays : (n : ℕ) → step w e ≡ refused n → next w e ≡ w
   refused-stays n q = ap (orElse w) q
 
-  -- ---- an accepted event: nothing refuses it, and the world after it
+  -- ---- an accepted event: nothing refuses it, what it comes to is what the rule of its kind does and counts, and the world after it
   pub record Taken (v : World) : Type 0 where
     pub is : v ≡ after w e
     pub exists : T (exists w e)
     pub allowed : T (allowed w e)
     pub holds : T (not (over w e))
+    pub done : comes w e .done ≡ rule w e .done
+    pub counts : comes w e .counts ≡ rule w e .counts
     pub room : length (after w e .letters) ≤ 4096
 
-  why-none : {n : ℕ} → Why n → n ≡ 0 → (v : World) → v ≡ after w e → Taken v
+  why-fits : {n : ℕ} → Why n → n ≡ 0 → T (fits w e)
+  why-fits (none p q r t) z = t
+  why-fits (six p) z = absurd (omega arith)
+  why-fits (seven p q) z = absurd (omega arith)
+  why-fits (eight p q r) z = absurd (omega arith)
+  why-fits (nine p q r t) z = absurd (omega arith)
+
+  pub taken-as : (v : World) → v ≡ after w e → refusal w e ≡ 0 → Taken v
   unfolding fits
-  why-none (none p q r t) z v i = record { is = i; exists = p; allowed = q; holds = r; room = leb→le (length (after w e .letters)) 4096 t }
-  why-none (six p) z v i = absurd (omega arith)
-  why-none (seven p q) z v i = absurd (omega arith)
-  why-none (eight p q r) z v i = absurd (omega arith)
-  why-none (nine p q r t) z v i = absurd (omega arith)
+  taken-as v i z =
+      let p = passes (accepted-passes z) in
+      record {
+        is = i;
+        exists = p .exists;
+        allowed = p .allowed;
+        holds = p .holds;
+        done = p .done;
+        counts = p .counts;
+        room = leb→le (length (after w e .letters)) 4096 (why-fits refusal-why z);
+      }
 
   pub taken : (v : World) → step w e ≡ accepted v → Taken v
   unfolding step
   taken v q = go (eqb (refusal w e) 0) refl q
     where
       go : (b : Bool) → eqb (refusal w e) 0 ≡ b → (if b then accepted (after w e) else refused (refusal w e)) ≡ accepted v → Taken v
-      go true i r = why-none refusal-why (eqb→eq (refusal w e) 0 (subst⁻¹ T i tt)) v (cc)
+      go true i r = taken-as v (cc) (eqb→eq (refusal w e) 0 (subst⁻¹ T i tt))
       go false i r = absurd (never r)
         where
           never : refused (refusal w e) ≡ accepted v → ⊥
           never p = let z : _≡_ {A = ℕ} 0 1 = cc in omega arith
 
-  -- ---- the change by the event's sort
-  pub change-as : (s : Sort) → sortOf (e .kind) ≡ s → change w e ≡ changeAs s w (e .a) (e .b)
-  unfolding change
-  change-as s p = ap (λ (x : Sort). changeAs x w (e .a) (e .b)) p
-
-  -- event 7 at a receiver that isn't live, or quiet on that link: the letter is gone and nothing else happens, as in event 8
-  pub unheard-is-lost : sortOf (e .kind) ≡ delivery → T (not (heard w (letterAt w (e .a)))) → change w e ≡ changeAs loss w (e .a) (e .b)
-  unfolding heard
-  unheard-is-lost p t =
-      change-as delivery p
-      ∙ ap (put w r (without (e .a) (w .letters))) (received-gone (w .net) r (holdingAt w r) (letterAt w (e .a)) t)
-      ∙ ap (λ (hs : List Holding). record { holdings = hs; left = without (e .a) (w .letters); sent = [] }) (set-getD (w .holdings) r nobody)
-    where
-      r : ℕ
-      r = receiver w (letterAt w (e .a))
-
   -- the network stays
   pub after-net : after w e .net ≡ w .net
+  unfolding after
   after-net = refl
+
+-- ---- event 7 at a receiver that isn't live, or is quiet on that link: the letter is gone and nothing else happens, as in event 8
+module _ (w : World) (a b : ℕ) where
+  abbrev to : ℕ
+  to = receiverIn (w .net) (letterAt w a)
+
+  abbrev deaf : Bool
+  deaf = not (heard (letterAt w a) (holdingAt w to))
+
+  pub unheard-is-lost : T deaf → comes w (record { kind = 7; a = a; b = b }) ≡ comes w (record { kind = 8; a = a; b = b })
+  unfolding comes exists rule concerned
+  unheard-is-lost t = ap (λ (r : Rule). comesTo (existsAs Delivery (w .net) (length (w .letters)) a b) r (holdingAt w to))
+      (Tallies.unheard-is-lost (w .net) to b (letterAt w a) (holdingAt w to) t)
+
+  pub unheard-leaves : T deaf → after w (record { kind = 7; a = a; b = b }) ≡ after w (record { kind = 8; a = a; b = b })
+  unfolding after left concerned
+  unheard-leaves t = rw (unheard-is-lost t)
 
 -- ---- the report and the reach: 6 for no such station, 7 for one that isn't live, else 0
 module _ (w : World) (s : ℕ) where
+  abbrev real : Bool
+  real = ltb s (w .net .stations)
+
+  abbrev live : Bool
+  live = isLive (holdingAt w s .condition)
+
   pub data AskWhy : ℕ → Type 0 where
-    none : T (isStation w s) → T (isLive (holdingAt w s .condition)) → AskWhy 0
-    six : T (not (isStation w s)) → AskWhy 6
-    seven : T (isStation w s) → T (not (isLive (holdingAt w s .condition))) → AskWhy 7
+    none : T real → T live → AskWhy 0
+    six : T (not real) → AskWhy 6
+    seven : T real → T (not live) → AskWhy 7
 
   pub ask-why : AskWhy (askRefusal w s)
   unfolding askRefusal
   ask-why =
-      if-elim AskWhy (not (isStation w s)) six
-      (λ x. let p = not-not (isStation w s) x in
-      if-elim AskWhy (not (isLive (holdingAt w s .condition))) (seven p) (λ y. none p (not-not (isLive (holdingAt w s .condition)) y)))
+      if-elim AskWhy (not real) six (λ x. let p = T-not-not real x in if-elim AskWhy (not live) (seven p) (λ y. none p (T-not-not live y)))
 
   pub why-ask : {n : ℕ} → AskWhy n → askRefusal w s ≡ n
   unfolding askRefusal
-  why-ask (none p q) = simp (T-is (isStation w s) p, T-is (isLive (holdingAt w s .condition)) q)
-  why-ask (six p) = simp (T-not-is (isStation w s) p)
-  why-ask (seven p q) = simp (T-is (isStation w s) p, T-not-is (isLive (holdingAt w s .condition)) q)
+  why-ask (none p q) = simp (T-is real p, T-is live q)
+  why-ask (six p) = simp (T-not-is real p)
+  why-ask (seven p q) = simp (T-is real p, T-not-is live q)

@@ -1,9 +1,11 @@
 -- A history: a world and the events that come to it, one after the other. A refused event changes nothing and counts nothing.
--- Every count over a history is the same fold. Assumes nothing.
+-- Every count over a history is the same fold.
 use Prim.Native.Nat.{ℕ, _+_}
 use mathlib.Core.List.{List, [], _∷_}
 use lib.ListN.{length}
-use Rattle.world.specs.World.{World, Event, Sort, act, delivery, loss, sortOf, change, Outcome, refused, accepted, step, settled, raised, dropped}
+use Rattle.lists.specs.Words.{bit}
+use Rattle.station.specs.Events.{kindOf, delivers, loses}
+use Rattle.world.specs.World.{World, Event, comes, Outcome, refused, accepted, step, settled, raised, dropped}
 
 -- the world after an outcome, and what counts of an event by its outcome
 abbrev pub orElse : World → Outcome → World
@@ -29,27 +31,17 @@ total f w (e ∷ es) = ifTaken (step w e) (f w e) + total f (next w e) es
 
 -- ---- one event's letters
 unfoldable pub sent : World → Event → ℕ
-sent w e = length (change w e .sent)
-
-abbrev pub deliveredAs : Sort → ℕ
-deliveredAs (act k) = 0
-deliveredAs delivery = 1
-deliveredAs loss = 0
-
-abbrev pub lostAs : Sort → ℕ
-lostAs (act k) = 0
-lostAs delivery = 0
-lostAs loss = 1
+sent w e = length (comes w e .done .sent)
 
 -- ---- the counts of a history: letters ever sent, delivered and lost; notices settled, counters raised, letters dropped
 abbrev pub everSent : World → List Event → ℕ
 everSent = total sent
 
 abbrev pub everDelivered : World → List Event → ℕ
-everDelivered = total (λ w e. deliveredAs (sortOf (e .kind)))
+everDelivered = total (λ w e. bit (delivers (kindOf (e .kind))))
 
 abbrev pub everLost : World → List Event → ℕ
-everLost = total (λ w e. lostAs (sortOf (e .kind)))
+everLost = total (λ w e. bit (loses (kindOf (e .kind))))
 
 abbrev pub everSettled : World → List Event → ℕ
 everSettled = total settled

@@ -1,3 +1,2 @@
 pub mod World
 pub mod History
-pub mod Steps

@@ -1,8 +1,11 @@
 use Rattle.net.specs.Values.{networkOf}
-use Rattle.concerning.proofs.Present.{concerned-receiver, concerned-none, concerned-act}
+use Rattle.concerning.proofs.Present.{concerned-receiver, concerned-act}
 use borrow.Author.Needs.{needs}
 use Rattle.concerning.proofs.concerned.Statement.{statement}
 use Rattle.concerning.proofs.concerned.Tie as tie
+
+takes-letter-requires : tie.Need-takes-letter-requires
+takes-letter-requires c κs = search needs
 
 receiver-requires : tie.Need-receiver-requires
 receiver-requires c κs = search needs
@@ -15,30 +18,25 @@ in-room-requires c κs = search needs
 
 returns : tie.Need-returns
 returns c =
-    let a = c .before .before .before .args in
-    concerned-receiver (networkOf (a .net)) (a .kind) (a .a) (a .letter) _ _ (c .before .before .if1 .taken) (c .in-room .ensures) (c .before .receiver .ensures)
-
-returns-2 : tie.Need-returns-2
-returns-2 c =
-    let a = c .before .before .args in
-    concerned-none (networkOf (a .net)) (a .kind) (a .a) (a .letter) (c .if2 .taken)
+    let a = c .before .before .before .before .args in
+    concerned-receiver (networkOf (a .net)) (a .kind) (a .a) (a .letter) _ (c .before .before .before .takes-letter .ensures) _ _ (c .before .before .if1 .taken) (c .in-room .ensures) (c .before .receiver .ensures)
 
 in-room-requires-2 : tie.Need-in-room-requires-2
 in-room-requires-2 c κs = search needs
 
-returns-3 : tie.Need-returns-3
-returns-3 c =
+returns-2 : tie.Need-returns-2
+returns-2 c =
     let a = c .before .before .before .args in
-    concerned-act (networkOf (a .net)) (a .kind) (a .a) (a .letter) _ (c .before .before .if1 .left) (c .before .if2 .left) (c .in-room2 .ensures)
+    concerned-act (networkOf (a .net)) (a .kind) (a .a) (a .letter) _ (c .before .before .takes-letter .ensures) _ (c .before .if1 .left) (c .in-room2 .ensures)
 
 pub concerned-spec : {M : Type 1} → statement M
 concerned-spec =
     tie.close
     (tie.spec
+    takes-letter-requires
     receiver-requires
     cast-in-room
     in-room-requires
     returns
-    returns-2
     in-room-requires-2
-    returns-3)
+    returns-2)

@@ -1,8 +1,8 @@
 use native.Mathlib.Omega.{arith}
 use Rattle.concerning.proofs.Present.{link-past, link-low, link-high}
 use borrow.Author.Needs.{needs}
-use Rattle.concerning.proofs.link_there.Statement.{statement}
-use Rattle.concerning.proofs.link_there.Tie as tie
+use Rattle.concerning.proofs.link_at.Statement.{statement}
+use Rattle.concerning.proofs.link_at.Tie as tie
 
 at-most-64-requires : tie.Need-at-most-64-requires
 at-most-64-requires c κs = search needs
@@ -36,8 +36,8 @@ returns-3 c =
     let e = c .before .before .before .ends-of .ensures in
     link-high (a .net) (a .b) (a .a) _ _ (omega (arith, c .before .before .before .before .before .at-most-64 .ensures, c .before .before .before .before .if1 .left)) (e .0) (e .1) (c .before .if2 .left)
 
-pub link-there-spec : {M : Type 1} → statement M
-link-there-spec =
+pub link-at-spec : {M : Type 1} → statement M
+link-at-spec =
     tie.close
     (tie.spec
     at-most-64-requires
