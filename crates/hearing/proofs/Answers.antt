@@ -1,72 +1,79 @@
--- What a reply and a notice are answered, test by test. Assumes nothing.
-use Prim.Native.Nat.{ℕ, _≤_, _<_, min}
-use mathlib.Core.Bool.{Bool, true, false, not, _&&_, _||_}
-use mathlib.Core.Path.{_≡_, refl, sym, ap, ap₂, _∙_}
-use mathlib.Core.List.{List, [], _∷_}
-use native.Mathlib.Omega.{arith}
-use lib.Dec.{eqb, ltb}
-use borrow.Author.Tests.{eq-eqb, ne-eqb, lt-ltb, le-ltb}
+-- What a letter is answered, return by return.
+use Prim.Native.Nat.{ℕ, _≤_, _<_}
+use mathlib.Core.Bool.{Bool, true, false, not, _&&_}
+use mathlib.Core.Path.{_≡_, sym, ap, ap₂, _∙_}
+use borrow.Author.Tests.{lt-ltb, le-ltb, eq-eqb, ne-eqb}
 use Rattle.lists.specs.Lists.{if_then_else_}
-use Rattle.counters.specs.Counters.{even, odd, healed, healing, healedNumbers}
-use Rattle.counters.specs.declared.Healed.{Healed}
+use Rattle.net.specs.declared.Body.{Body}
+use Rattle.net.specs.declared.Body.the-variants.{Request, Reply, Notice}
 use Rattle.counters.specs.declared.Healed.the-variants.{To, TooHigh}
-use Rattle.station.specs.Acts.{replyAnswer}
-use Rattle.hearing.specs.Heard.{noticeAnswer}
+use Rattle.counters.specs.Counters.{even, healing, newer}
+use Rattle.marks.specs.declared.Marks.{Marks}
+use Rattle.station.specs.declared.Condition.{Condition}
+use Rattle.station.specs.declared.Effect.the-variants.{Defers, Answers, Heals, Levels, Equal, Takes}
+use Rattle.station.specs.declared.Heard.{Heard}
+use Rattle.station.specs.declared.Heard.the-variants.{Gone, Nothing, Overflows, Does}
+use Rattle.station.specs.Holding.{isLive}
+use Rattle.station.specs.Acts.{requestBy, repliedBy, hears, bodyAnswer}
 
--- ---- a reply heard
-heals-to : (own c to : ℕ) → healedNumbers (To to) ≡ healing own c → (ltb 65535 (healed own c) ≡ false) × (to ≡ healed own c)
-unfolding healing
-heals-to own c to e = go (ltb 65535 (healed own c)) e
-  where
-    go : (b : Bool) → 0 ∷ to ∷ [] ≡ (if b then (8 ∷ []) else (0 ∷ healed own c ∷ [])) → (b ≡ false) × (to ≡ healed own c)
-    go true q = absurd (let z : _≡_ {A = ℕ} 0 1 = cc in omega arith)
-    go false q = (refl, cc)
+-- ---- a request
+module _ (testing : Bool) (p s : ℕ) where
+  pub put-off : testing ≡ true → p < s → Does Defers ≡ requestBy testing p s
+  put-off e h = simp (e, lt-ltb p s h)
 
-too-high : (own c : ℕ) → healedNumbers TooHigh ≡ healing own c → ltb 65535 (healed own c) ≡ true
-unfolding healing
-too-high own c e = go (ltb 65535 (healed own c)) e
-  where
-    go : (b : Bool) → 8 ∷ [] ≡ (if b then (8 ∷ []) else (0 ∷ healed own c ∷ [])) → b ≡ true
-    go true q = refl
-    go false q = absurd (let z : _≡_ {A = ℕ} 0 1 = cc in omega arith)
+  pub not-lower : testing ≡ true → s ≤ p → Does Answers ≡ requestBy testing p s
+  not-lower e h = simp (e, le-ltb p s h)
 
--- the answer, by the tests that the code makes
-pub reply-high : (own c : ℕ) (r : Healed) → r ≡ TooHigh → healedNumbers r ≡ healing own c → 8 ∷ 0 ∷ [] ≡ replyAnswer own c
-reply-high own c r e h =
-    let t = too-high own c (sym (ap healedNumbers e) ∙ h) in
-    ap (λ (b : Bool). if b then (8 ∷ 0 ∷ []) else rest) (sym t)
-  where
-    rest : List ℕ
-    rest = if odd own || odd c then (0 ∷ 0 ∷ 2 ∷ healed own c ∷ []) else (if eqb own c then (0 ∷ 0 ∷ 4 ∷ []) else (0 ∷ 0 ∷ 3 ∷ healed own c ∷ []))
+  pub no-tester : testing ≡ false → Does Answers ≡ requestBy testing p s
+  no-tester e = simp (e)
 
-module _ (own c to : ℕ) (r : Healed) (e : r ≡ To to) (h : healedNumbers r ≡ healing own c) where
-  known : (ltb 65535 (healed own c) ≡ false) × (to ≡ healed own c)
-  known = heals-to own c to (sym (ap healedNumbers e) ∙ h)
+-- ---- a reply to a test, by the new counter
+module _ (own c : ℕ) where
+  pub reply-high : healing own c ≡ TooHigh → Overflows ≡ repliedBy own c (healing own c)
+  reply-high e = sym (ap (repliedBy own c) e)
 
-  -- the answer once the new counter fits, by the two parities and whether they are equal
-  fits : (a b q : Bool) → even own ≡ a → even c ≡ b → eqb own c ≡ q
-      → (if not a || not b then (0 ∷ 0 ∷ 2 ∷ to ∷ []) else (if q then (0 ∷ 0 ∷ 4 ∷ []) else (0 ∷ 0 ∷ 3 ∷ to ∷ []))) ≡ replyAnswer own c
-  fits a b q x y z =
-      ap (λ (n : ℕ). if not a || not b then (0 ∷ 0 ∷ 2 ∷ n ∷ []) else (if q then (0 ∷ 0 ∷ 4 ∷ []) else (0 ∷ 0 ∷ 3 ∷ n ∷ []))) (known .1)
-      ∙ ap₂ (λ (i j : Bool). if not i || not j then (0 ∷ 0 ∷ 2 ∷ healed own c ∷ []) else (if q then (0 ∷ 0 ∷ 4 ∷ []) else (0 ∷ 0 ∷ 3 ∷ healed own c ∷ []))) (sym x) (sym y)
-      ∙ ap (λ (j : Bool). if odd own || odd c then (0 ∷ 0 ∷ 2 ∷ healed own c ∷ []) else (if j then (0 ∷ 0 ∷ 4 ∷ []) else (0 ∷ 0 ∷ 3 ∷ healed own c ∷ []))) (sym z)
-      ∙ ap (λ (j : Bool). if j then (8 ∷ 0 ∷ []) else (if odd own || odd c then (0 ∷ 0 ∷ 2 ∷ healed own c ∷ []) else (if eqb own c then (0 ∷ 0 ∷ 4 ∷ []) else (0 ∷ 0 ∷ 3 ∷ healed own c ∷ [])))) (sym (known .0))
+  module _ (to : ℕ) (e : healing own c ≡ To to) where
+    pub reply-equal : even own ≡ true → even c ≡ true → own ≡ c → Does Equal ≡ repliedBy own c (healing own c)
+    reply-equal p q h = sym (ap (repliedBy own c) e ∙ simp (p, q, eq-eqb own c h))
 
-  pub reply-equal : even own ≡ true → even c ≡ true → own ≡ c → 0 ∷ 0 ∷ 4 ∷ [] ≡ replyAnswer own c
-  reply-equal x y z = fits true true true x y (eq-eqb own c z)
+    pub reply-level : even own ≡ true → even c ≡ true → (own ≡ c → ⊥) → Does (Levels to) ≡ repliedBy own c (healing own c)
+    reply-level p q h = sym (ap (repliedBy own c) e ∙ simp (p, q, ne-eqb own c h))
 
-  pub reply-level : even own ≡ true → even c ≡ true → (own ≡ c → ⊥) → 0 ∷ 0 ∷ 3 ∷ to ∷ [] ≡ replyAnswer own c
-  reply-level x y z = fits true true false x y (ne-eqb own c z)
+    pub reply-odd-carried : even own ≡ true → even c ≡ false → Does (Heals to) ≡ repliedBy own c (healing own c)
+    reply-odd-carried p q = sym (ap (repliedBy own c) e ∙ simp (p, q))
 
-  pub reply-odd-own : even own ≡ false → 0 ∷ 0 ∷ 2 ∷ to ∷ [] ≡ replyAnswer own c
-  reply-odd-own x = fits false (even c) (eqb own c) x refl refl
+    pub reply-odd-own : even own ≡ false → Does (Heals to) ≡ repliedBy own c (healing own c)
+    reply-odd-own p = sym (ap (repliedBy own c) e ∙ simp (p))
 
-  pub reply-odd-carried : even own ≡ true → even c ≡ false → 0 ∷ 0 ∷ 2 ∷ to ∷ [] ≡ replyAnswer own c
-  reply-odd-carried x y = fits true false (eqb own c) x y refl
+-- ---- the answer
+module _ (s p : ℕ) (x : Condition) (m : Marks) (own told : ℕ) (l : Body) where
+  abbrev says : Heard
+  says = if hears x m then bodyAnswer s p m own told l else Gone
 
--- ---- a notice heard
-pub notice-past : (links j c own : ℕ) → min links 64 ≤ j → 0 ∷ 0 ∷ [] ≡ noticeAnswer (ltb j (min links 64) && ltb own c) j c
-notice-past links j c own h = ap (λ (b : Bool). noticeAnswer (b && ltb own c) j c) (sym (le-ltb j (min links 64) h))
+  pub gone-down : isLive x ≡ false → Gone ≡ says
+  gone-down e = sym (ap (λ (b : Bool). if b && not (m .quiet) then bodyAnswer s p m own told l else Gone) e)
 
-pub notice-by : (links j c own : ℕ) (b : Bool) → j < min links 64 → ltb own c ≡ b → noticeAnswer b j c ≡ noticeAnswer (ltb j (min links 64) && ltb own c) j c
-notice-by links j c own b h e = ap₂ (λ (x y : Bool). noticeAnswer (x && y) j c) (sym (lt-ltb j (min links 64) h)) (sym e)
+  pub gone-quiet : isLive x ≡ true → m .quiet ≡ true → Gone ≡ says
+  gone-quiet e q = sym (ap₂ (λ (a b : Bool). if a && not b then bodyAnswer s p m own told l else Gone) e q)
+
+  module _ (e : isLive x ≡ true) (q : m .quiet ≡ false) where
+    heard : says ≡ bodyAnswer s p m own told l
+    heard = ap₂ (λ (a b : Bool). if a && not b then bodyAnswer s p m own told l else Gone) e q
+
+    by-body : (b : Body) (r : Heard) → l ≡ b → r ≡ bodyAnswer s p m own told b → r ≡ says
+    by-body b r i f = f ∙ ap (bodyAnswer s p m own told) (sym i) ∙ sym heard
+
+    pub asks : (r : Heard) (t : Bool) → l ≡ Request → t ≡ m .testing → r ≡ requestBy t p s → r ≡ says
+    asks r t i u f = by-body Request r i (f ∙ ap (λ (b : Bool). requestBy b p s) u)
+
+    pub replies : (c : ℕ) (r : Heard) → l ≡ Reply c → m .testing ≡ true → r ≡ repliedBy own c (healing own c) → r ≡ says
+    replies c r i t f = by-body (Reply c) r i (f ∙ sym (ap (λ (b : Bool). if b then repliedBy own c (healing own c) else Nothing) t))
+
+    pub idles : (c : ℕ) → l ≡ Reply c → m .testing ≡ false → Nothing ≡ says
+    idles c i t = by-body (Reply c) Nothing i (sym (ap (λ (b : Bool). if b then repliedBy own c (healing own c) else Nothing) t))
+
+    pub news : (j c : ℕ) → l ≡ Notice j c → newer told c ≡ true → Does (Takes j c) ≡ says
+    news j c i t = by-body (Notice j c) (Does (Takes j c)) i (sym (ap (λ (b : Bool). if b then Does (Takes j c) else Nothing) t))
+
+    pub no-news : (j c : ℕ) → l ≡ Notice j c → newer told c ≡ false → Nothing ≡ says
+    no-news j c i t = by-body (Notice j c) Nothing i (sym (ap (λ (b : Bool). if b then Does (Takes j c) else Nothing) t))

@@ -1,44 +1,24 @@
-// The receiver's answer to a letter: whether it is heard, and what it then does.
+// The receiver's answer to a letter: whether it is heard, and what it then does. An inner door: the call is the network's step.
 ghost use mathlib.Core.Path.{_≡_};
-ghost use mathlib.Core.Bool.{_&&_};
-ghost use Prim.Native.Nat.{min};
-ghost use lib.Dec.{ltb};
-ghost use lib.ListN.{getD};
-ghost use Rattle.net.specs.Values.{networkOf};
-ghost use Rattle.station.specs.Acts.{answer, replyAnswer};
-ghost use Rattle.station.specs.Values.{holdingOf};
-ghost use Rattle.hearing.specs.Heard.{noticeAnswer, heardNumbers};
-use counters::Counters;
+ghost use Rattle.lists.specs.Lists.{if_then_else_};
+ghost use Rattle.marks.specs.Marks.{marksAt};
+ghost use Rattle.counters.specs.Counters.{healing};
+ghost use Rattle.station.specs.declared.Heard.the-variants.{Gone};
+ghost use Rattle.station.specs.Acts.{repliedBy, requestBy, hears, bodyAnswer};
 use counters::Healed;
+use marks::Words;
 use net::Body;
-use net::Letter;
-use net::Net;
-use station::Station;
-
-// What a letter that is heard does.
-pub enum Effect {
-    Asks,
-    Heals(u16),
-    Levels(u16),
-    Equal,
-    Takes(u8, u16),
-}
-
-// The receiver's answer to a letter: gone unheard, no effect, refused since a counter would be 65,536, or what it does.
-pub enum Heard {
-    Gone,
-    Nothing,
-    TooHigh,
-    Does(Effect),
-}
+use station::Condition;
+use station::Effect;
+use station::Heard;
 
 // What a reply with c does to a test whose own counter is this.
 fn reply_heard(own: u16, c: u16) -> Heard
-    ensures { λ r. ⌜ heardNumbers r ≡ replyAnswer own c ⌝ }
+    ensures { λ r. ⌜ r ≡ repliedBy own c (healing own c) ⌝ }
 {
     let new = counters::heal(own, c);
     let Healed::To(to) = new else {
-        return Heard::TooHigh;
+        return Heard::Overflows;
     };
     if counters::is_even(own) {
         if counters::is_even(c) {
@@ -51,47 +31,52 @@ fn reply_heard(own: u16, c: u16) -> Heard
     Heard::Does(Effect::Heals(to))
 }
 
-// Whether a notice is taken: only of a link that is there, and only if newer.
-fn notice_heard(links: u8, counters: Counters, j: u8, c: u16) -> Heard
-    ensures { λ r. ⌜ heardNumbers r ≡ noticeAnswer (ltb j (min links 64) && ltb (getD counters j 0) c) j c ⌝ }
+// Whether a request is put off: the higher-numbered of two testers only marks it.
+fn request_heard(testing: bool, sender: u16, me: u8) -> Heard
+    ensures { λ r. ⌜ r ≡ requestBy testing sender me ⌝ }
 {
-    if words::at_most_64(links) <= j {
-        return Heard::Nothing;
+    if testing {
+        if sender < me as u16 {
+            return Heard::Does(Effect::Defers);
+        }
     }
-    let i = j as usize;
-    if counters::is_newer(counters[i], c) {
-        return Heard::Does(Effect::Takes(j, c));
-    }
-    Heard::Nothing
+    Heard::Does(Effect::Answers)
 }
 
-// The receiver's answer to a letter.
-pub fn hearing(net: Net, me: u8, letter: Letter, st: Station) -> Heard
-    ensures { λ r. ⌜ heardNumbers r ≡ answer (networkOf net) me letter (holdingOf net st) ⌝ }
+// The receiver's answer to a letter on link k: c is that link's counter, told that of the link that the letter tells of.
+pub fn hearing(
+    me: u8,
+    k: u8,
+    sender: u16,
+    body: Body,
+    c: u16,
+    told: u16,
+    condition: Condition,
+    w: Words,
+) -> Heard
+    ensures { λ r. ⌜ r ≡ (if hears condition (marksAt w k) then bodyAnswer me sender (marksAt w k) c told body else Gone) ⌝ }
 {
-    let link = letter.link;
-    if words::at_most_64(net.links) as u16 <= link {
-        return Heard::Gone;
-    }
-    let condition = st.condition;
     if !station::is_live(condition) {
         return Heard::Gone;
     }
-    let k = link as u8;
-    if words::has(st.marks.quiet, k) {
+    if words::has(w.quiet, k) {
         return Heard::Gone;
     }
-    let body = letter.body;
     match body {
-        Body::Request => Heard::Does(Effect::Asks),
-        Body::Reply(c) => {
-            if words::has(st.marks.testing, k) {
-                let i = k as usize;
-                reply_heard(st.counters[i], c)
+        Body::Request => request_heard(words::has(w.testing, k), sender, me),
+        Body::Reply(carried) => {
+            if words::has(w.testing, k) {
+                reply_heard(c, carried)
             } else {
                 Heard::Nothing
             }
         }
-        Body::Notice(j, c) => notice_heard(net.links, st.counters, j, c),
+        Body::Notice(j, carried) => {
+            if counters::is_newer(told, carried) {
+                Heard::Does(Effect::Takes(j, carried))
+            } else {
+                Heard::Nothing
+            }
+        }
     }
 }

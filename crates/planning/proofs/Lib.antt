@@ -1,5 +1,1 @@
-pub mod Said
-pub mod Drafts
-pub mod Turns
-pub mod Events
-pub mod Worlds
+pub mod ByKind

@@ -1,3 +1,2 @@
-pub mod Letters
-pub mod Replies
-pub mod Drops
+pub mod Effects
+pub mod Answered

@@ -1,23 +1,80 @@
-// What a letter does to the station that receives it, by that station's answer to it. A request is the crate answering's.
+// The plan of a letter that arrives, by what the receiver answers. Inner doors: the call is the network's step.
 ghost use mathlib.Core.Path.{_≡_};
-ghost use Prim.Native.Nat.{_<_};
-ghost use Rattle.net.specs.Values.{networkOf, linkCount};
+ghost use mathlib.Core.Bool.{true};
+ghost use Rattle.lists.specs.Lists.{if_then_else_};
+ghost use Rattle.lists.specs.Words.{bit};
 ghost use Rattle.marks.specs.Marks.{marksAt, wordsWith};
-ghost use Rattle.station.specs.Holding.{marked};
-ghost use Rattle.station.specs.Acts.{unchanged, repliedMarks, received};
-ghost use Rattle.station.specs.Values.{holdingOf, Acts};
-ghost use Rattle.receiving.specs.Effects.{heals, levels, taken};
-use hearing::Effect;
-use hearing::Heard;
+ghost use Rattle.station.specs.Holding.{setAsked};
+ghost use Rattle.station.specs.Acts.{requestedMarks, repliedMarks};
+ghost use Rattle.station.specs.Events.{isNotice};
+ghost use Rattle.station_plan.specs.Plans.{dropping};
+ghost use Rattle.station_plan.specs.Planned.{AnswerPlans, ReplyPlans, TakePlans, EffectPlans, LetterPlans};
 use marks::Marks;
 use marks::Words;
+use net::Body;
 use net::Letter;
-use net::Net;
 use sending::Sending;
-use station::Acted;
-use station::Station;
+use station::Condition;
+use station::Effect;
+use station::Heard;
+use station_plan::Plan;
+use tally::Tally;
 
-// The marks after a reply to a test on link k: testing and asked off.
+// A notice that is taken off is settled.
+pub fn settled_by(letter: Letter) -> u64
+    ensures { λ r. ⌜ r ≡ bit (isNotice (letter .body)) ⌝ }
+{
+    let body = letter.body;
+    match body {
+        Body::Request => 0,
+        Body::Reply(_) => 0,
+        Body::Notice(_, _) => 1,
+    }
+}
+
+fn pick(on: bool, a: u64, b: u64) -> u64
+    ensures { λ r. ⌜ r ≡ (if on then a else b) ⌝ }
+{
+    if on { a } else { b }
+}
+
+fn one_if(on: bool) -> u64
+    ensures { λ r. ⌜ r ≡ bit on ⌝ }
+{
+    if on { 1 } else { 0 }
+}
+
+// A request that is put off.
+fn asked_words(w: Words, k: u8) -> Words
+    ensures { λ r. ⌜ r ≡ wordsWith w k (setAsked true (marksAt w k)) ⌝ }
+{
+    let m = marks::marks_at(w, k);
+    let asked = Marks {
+        token: m.token,
+        turn: m.turn,
+        testing: m.testing,
+        asked: true, // the token comes when the test ends
+        quiet: m.quiet,
+    };
+    marks::with_marks(w, k, asked)
+}
+
+// A request that is answered: testing and asked off, token on, turn off.
+fn requested_words(w: Words, k: u8) -> Words
+    ensures { λ r. ⌜ r ≡ wordsWith w k (requestedMarks (marksAt w k)) ⌝ }
+{
+    let m = marks::marks_at(w, k);
+    let rested = Marks {
+        token: true,
+        turn: false, // or the next silent interval would test too early
+        testing: false,
+        asked: false,
+        quiet: m.quiet,
+    };
+    marks::with_marks(w, k, rested)
+}
+
+// A reply to a test on link k: testing and asked off.
 fn replied_words(w: Words, k: u8) -> Words
     ensures { λ r. ⌜ r ≡ wordsWith w k (repliedMarks (marksAt w k)) ⌝ }
 {
@@ -25,129 +82,158 @@ fn replied_words(w: Words, k: u8) -> Words
     let ended = Marks {
         token: m.token,
         turn: m.turn,
-        testing: false,
+        testing: false, // the test is over
         asked: false,
         quiet: m.quiet,
     };
     marks::with_marks(w, k, ended)
 }
 
-// A reply that heals: everything that is known is told, and what is out of reach then is purged.
-fn hear_heals(net: Net, me: u8, k: u8, to: u16, st: Station) -> Acted
-    requires { ⌜ k < linkCount net ⌝ }
-    ensures { λ r. ⌜ Acts net me st (heals (networkOf net) me k to (holdingOf net st)) r ⌝ }
+// A request is answered: over a link that was down all that is known is told, but of the link itself; last comes the reply.
+fn plan_answer(k: u8, c: u16, condition: Condition, w: Words) -> Plan
+    ensures { λ r. ⌜ AnswerPlans k c condition w r ⌝ }
 {
-    let i = k as usize;
-    let words = replied_words(st.marks, k);
-    let mut counters = st.counters;
-    counters[i] = to;
-    let subjects = sending::known_links(net.links, counters);
-    let ways = sending::open_ways(net, me, st.marks.quiet);
-    let kept = purging::purged(net, counters, me);
-    let condition = st.condition;
-    Acted {
-        station: Station {
-            condition,
-            counters: kept,
-            marks: words,
-        },
-        send: Sending {
+    let after = requested_words(w, k);
+    let down = !counters::is_even(c);
+    let others = words::put(18446744073709551615, k, false);
+    let subjects = pick(down, others, 0);
+    let ways = words::put(0, k, true);
+    Plan {
+        answer: 0,
+        condition,
+        marks: after,
+        resets: false,
+        sets: false,
+        at: 0,
+        counter: 0,
+        purges: false,
+        knows: down,
+        sends: Sending {
             requests: 0,
             subjects,
             ways,
-            told: counters, // as they were before the purge
+            replies: true,
+            reply: c,
+            link: k,
+        },
+        counts: Tally {
+            settled: 0,
+            raised: 0,
+            dropped: 0,
+        },
+    }
+}
+
+// A reply to a test. It heals if one of the two counters was odd: everything that is known is told, and what is out of reach then is
+// purged. Else it levels two even ones: this link alone is told.
+fn plan_reply(own: u64, k: u8, c: u16, to: u16, heals: bool, condition: Condition, w: Words) -> Plan
+    ensures { λ r. ⌜ ReplyPlans own k c to heals condition w r ⌝ }
+{
+    let after = replied_words(w, k);
+    let alone = words::put(0, k, true);
+    let subjects = pick(heals, 18446744073709551615, alone);
+    let ways = words::without(own, w.quiet);
+    Plan {
+        answer: 0,
+        condition,
+        marks: after,
+        resets: false,
+        sets: true,
+        at: k,
+        counter: to,
+        purges: heals,
+        knows: heals,
+        sends: Sending {
+            requests: 0,
+            subjects,
+            ways,
             replies: false,
             reply: 0,
             link: 0,
         },
-    }
-}
-
-// A reply that levels two even counters: this link alone is told.
-fn hear_levels(net: Net, me: u8, k: u8, to: u16, st: Station) -> Acted
-    requires { ⌜ k < linkCount net ⌝ }
-    ensures { λ r. ⌜ Acts net me st (levels (networkOf net) me k to (holdingOf net st)) r ⌝ }
-{
-    let i = k as usize;
-    let words = replied_words(st.marks, k);
-    let mut counters = st.counters;
-    counters[i] = to;
-    let ways = sending::open_ways(net, me, st.marks.quiet);
-    let condition = st.condition;
-    Acted {
-        station: Station {
-            condition,
-            counters,
-            marks: words,
+        counts: Tally {
+            settled: 0,
+            raised: one_if(c < to),
+            dropped: 0,
         },
-        send: sending::one_notice(k, ways, counters),
-    }
-}
-
-// A reply with an equal, even counter: the test is over.
-fn hear_equal(net: Net, me: u8, k: u8, st: Station) -> Acted
-    requires { ⌜ k < linkCount net ⌝ }
-    ensures { λ r. ⌜ Acts net me st (unchanged (marked k (repliedMarks (marksAt (st .marks) k)) (holdingOf net st))) r ⌝ }
-{
-    let words = replied_words(st.marks, k);
-    let counters = st.counters;
-    let condition = st.condition;
-    Acted {
-        station: Station {
-            condition,
-            counters,
-            marks: words,
-        },
-        send: sending::silence(counters),
     }
 }
 
 // A newer notice: taken, and sent on wherever it did not come from.
-fn hear_notice(net: Net, me: u8, k: u8, j: u8, c: u16, st: Station) -> Acted
-    requires { ⌜ (k < linkCount net) × (j < linkCount net) ⌝ }
-    ensures { λ r. ⌜ Acts net me st (taken (networkOf net) me k j c (holdingOf net st)) r ⌝ }
+fn plan_take(own: u64, k: u8, j: u8, to: u16, condition: Condition, w: Words) -> Plan
+    ensures { λ r. ⌜ TakePlans own k j to condition w r ⌝ }
 {
-    let i = j as usize;
-    let mut counters = st.counters;
-    counters[i] = c;
-    let ways = sending::ways_but(net, me, st.marks.quiet, k);
-    let words = st.marks;
-    let condition = st.condition;
-    Acted {
-        station: Station {
-            condition,
-            counters,
-            marks: words,
+    let subjects = words::put(0, j, true);
+    let ways = words::put(words::without(own, w.quiet), k, false); // not back
+    Plan {
+        answer: 0,
+        condition,
+        marks: w,
+        resets: false,
+        sets: true,
+        at: j,
+        counter: to,
+        purges: false, // or one notice could circle a ring for ever
+        knows: false,
+        sends: Sending {
+            requests: 0,
+            subjects,
+            ways,
+            replies: false,
+            reply: 0,
+            link: 0,
         },
-        send: sending::one_notice(j, ways, counters),
+        counts: Tally {
+            settled: 1,
+            raised: 1,
+            dropped: 0,
+        },
     }
 }
 
-// A letter arrives. What is gone, has no effect or would overflow changes nothing and sends nothing.
-pub fn receive(net: Net, me: u8, letter: Letter, st: Station) -> Acted
-    ensures { λ r. ⌜ Acts net me st (received (networkOf net) me letter (holdingOf net st)) r ⌝ }
+// What a letter that is heard comes to, by what it does.
+fn plan_effect(own: u64, k: u8, c: u16, effect: Effect, condition: Condition, w: Words) -> Plan
+    ensures { λ r. ⌜ EffectPlans own k c effect condition w r ⌝ }
 {
-    let link = letter.link;
-    let counters = st.counters;
-    if words::at_most_64(net.links) as u16 <= link {
-        return Acted {
-            station: st,
-            send: sending::silence(counters),
-        };
-    }
-    let k = link as u8;
-    let said = hearing::hearing(net, me, letter, st);
-    let Heard::Does(effect) = said else {
-        return Acted {
-            station: st,
-            send: sending::silence(counters),
-        };
-    };
     match effect {
-        Effect::Asks => answering::hear_request(net, me, k, letter.sender, st),
-        Effect::Heals(to) => hear_heals(net, me, k, to, st),
-        Effect::Levels(to) => hear_levels(net, me, k, to, st),
-        Effect::Equal => hear_equal(net, me, k, st),
-        Effect::Takes(j, c) => hear_notice(net, me, k, j, c, st),
+        Effect::Defers => station_plan::staying(0, 0, 0, condition, asked_words(w, k)),
+        Effect::Answers => plan_answer(k, c, condition, w),
+        Effect::Heals(to) => plan_reply(own, k, c, to, true, condition, w),
+        Effect::Levels(to) => plan_reply(own, k, c, to, false, condition, w),
+        Effect::Equal => station_plan::staying(0, 0, 0, condition, replied_words(w, k)),
+        Effect::Takes(j, to) => plan_take(own, k, j, to, condition, w),
     }
+}
+
+// What becomes of a letter that does nothing: refused, dropped, or without effect.
+fn plan_drop(said: Heard, settled: u64, condition: Condition, w: Words) -> Plan
+    ensures { λ r. ⌜ r ≡ dropping said settled condition w ⌝ }
+{
+    match said {
+        Heard::Gone => station_plan::staying(0, settled, 1, condition, w),
+        Heard::Nothing => station_plan::staying(0, settled, 0, condition, w),
+        Heard::Overflows => station_plan::staying(8, 0, 0, condition, w),
+        Heard::Does(_) => station_plan::staying(0, settled, 0, condition, w),
+    }
+}
+
+// 7. A letter arrives on link k.
+pub fn plan_letter(
+    own: u64,
+    me: u8,
+    k: u8,
+    letter: Letter,
+    c: u16,
+    told: u16,
+    condition: Condition,
+    w: Words,
+) -> Plan
+    ensures { λ r. ⌜ LetterPlans own me k letter c told condition w r ⌝ }
+{
+    let body = letter.body;
+    let said = hearing::hearing(me, k, letter.sender, body, c, told, condition, w);
+    let Heard::Does(effect) = said else {
+        return plan_drop(said, settled_by(letter), condition, w);
+    };
+    plan_effect(own, k, c, effect, condition, w)
 }

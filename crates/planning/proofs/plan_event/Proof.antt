@@ -1,90 +1,164 @@
-use Prim.Native.Nat.{_≤_}
-use mathlib.Core.Path.{refl}
-use native.Mathlib.Omega.{arith}
-use lib.ListN.{length}
-use Rattle.net.specs.Values.{networkOf}
-use Rattle.net.proofs.ValueLaws.{links-of}
-use Rattle.station.specs.Acts.{kindOf}
-use Rattle.station.specs.Values.{holdingOf}
+use borrow.Author.Tests.{not-true, not-false}
 use Rattle.station.proofs.Laid.{Fit}
-use Rattle.world.specs.World.{act, delivery, loss, sortOf}
-use Rattle.world.proofs.Sorts.{sort-delivery, sort-loss}
-use Rattle.planning.proofs.Drafts.{refuses}
-use Rattle.planning.proofs.Events.{not-there, by-sort, loss-plans}
-use Rattle.concerning.proofs.Present.{sort-else, kind-small}
+use Rattle.station.specs.declared.Kind.the-variants.{NoSuch, Start, Stop, Recovery, IntervalEnd, TimeoutEnd, QuietEnd, Delivery, Loss}
+use Rattle.planning.proofs.ByKind.{none-there, by-kind, no-such, loss-done}
 use borrow.Author.Needs.{needs}
 use Rattle.planning.proofs.plan_event.Statement.{statement}
 use Rattle.planning.proofs.plan_event.Tie as tie
 
-fit : (c : tie.Start) → Fit (c .args .st .marks)
+fit : (c : tie.Start) → Fit (c .args .w)
 fit c = record { token = search needs; turn = search needs; testing = search needs; asked = search needs; quiet = search needs }
 
-few : (c : tie.Start) → length (networkOf (c .args .net) .links) ≤ 64
-few c = omega (arith, links-of (c .args .net))
-
-there-requires : tie.Need-there-requires
-there-requires c κs = search needs
-
-stays-requires : tie.Need-stays-requires
-stays-requires c κs = search needs
+staying-requires : tie.Need-staying-requires
+staying-requires c κs = search needs
 
 returns : tie.Need-returns
 returns c =
-    let a = c .before .before .before .args in
-    refuses _ _ _ _ _ _ _ _ _ 6 refl _ (c .stays .ensures)
-    (not-there (networkOf (a .net)) (a .flying) (a .a) (a .b) (a .me) (a .letter) (holdingOf (a .net) (a .st)) (sortOf (a .kind)) _ (c .before .before .there .ensures) (c .before .if1 .taken))
+    let a = c .before .before .args in
+    none-there (a .there) (a .kind) (a .own) (a .me) (a .k) (a .letter) (a .c) (a .told) (a .condition) (a .w) _ (not-true _ (c .before .if1 .taken)) (c .staying .ensures)
+
+enum-told : tie.Need-enum-told
+enum-told c = search needs
+
+turning-requires : tie.Need-turning-requires
+turning-requires c κs = search needs
+
+enum-told-2 : tie.Need-enum-told-2
+enum-told-2 c = search needs
+
+plan-start-requires : tie.Need-plan-start-requires
+plan-start-requires c κs = search needs
+
+enum-told-3 : tie.Need-enum-told-3
+enum-told-3 c = search needs
+
+plan-stop-requires : tie.Need-plan-stop-requires
+plan-stop-requires c κs = search needs
+
+enum-told-4 : tie.Need-enum-told-4
+enum-told-4 c = search needs
+
+plan-recovery-requires : tie.Need-plan-recovery-requires
+plan-recovery-requires c κs = search needs
+
+enum-told-5 : tie.Need-enum-told-5
+enum-told-5 c = search needs
+
+plan-interval-requires : tie.Need-plan-interval-requires
+plan-interval-requires c κs = search needs
+
+enum-told-6 : tie.Need-enum-told-6
+enum-told-6 c = search needs
+
+plan-timeout-requires : tie.Need-plan-timeout-requires
+plan-timeout-requires c κs = search needs
+
+enum-told-7 : tie.Need-enum-told-7
+enum-told-7 c = search needs
+
+plan-quiet-end-requires : tie.Need-plan-quiet-end-requires
+plan-quiet-end-requires c κs = search needs
+
+enum-told-8 : tie.Need-enum-told-8
+enum-told-8 c = search needs
 
 plan-letter-requires : tie.Need-plan-letter-requires
 plan-letter-requires c κs = search needs
 
-returns-2 : tie.Need-returns-2
-returns-2 c =
-    let a = c .before .before .before .before .args in
-    by-sort (a .net) (a .flying) (a .a) (a .b) (a .me) (a .letter) (a .st) (a .kind) delivery _ _ (sort-delivery (a .kind) (c .before .if2 .taken)) (c .before .before .before .there .ensures) (c .before .before .if1 .left) (c .plan-letter .ensures)
+enum-told-9 : tie.Need-enum-told-9
+enum-told-9 c = search needs
 
 settled-by-requires : tie.Need-settled-by-requires
 settled-by-requires c κs = search needs
 
-stays-requires-2 : tie.Need-stays-requires-2
-stays-requires-2 c κs = search needs
+staying-requires-2 : tie.Need-staying-requires-2
+staying-requires-2 c κs = search needs
+
+returns-2 : tie.Need-returns-2
+returns-2 c =
+    let a = c .before .before .before .before .args in
+    by-kind (a .there) (a .kind) (a .own) (a .me) (a .k) (a .letter) (a .c) (a .told) (a .condition) (a .w) _ NoSuch (not-false _ (c .before .before .before .if1 .left)) (c .before .enum-told .given .1)
+    (λ net st like o ec m. no-such net (a .me) st (a .condition) (a .w) like (fit (c .before .before .before .before)) (a .k) (a .letter) _ (c .turning .ensures))
 
 returns-3 : tie.Need-returns-3
 returns-3 c =
-    let a = c .before .before .before .before .before .before .args in
-    by-sort (a .net) (a .flying) (a .a) (a .b) (a .me) (a .letter) (a .st) (a .kind) loss _ _ (sort-loss (a .kind) (c .before .before .if3 .taken)) (c .before .before .before .before .before .there .ensures) (c .before .before .before .before .if1 .left)
-    (loss-plans (a .net) (a .flying) (a .a) (a .b) (a .me) (a .letter) (a .st) (a .kind) _ _ (fit (c .before .before .before .before .before .before)) (c .stays2 .ensures) (c .before .settled-by .ensures))
-
-cast-plan-act : tie.Need-cast-plan-act
-cast-plan-act c =
     let a = c .before .before .before .before .args in
-    omega (arith, kind-small (networkOf (a .net)) (a .flying) (a .a) (a .b) (few (c .before .before .before .before)) (a .kind) _ (c .before .if2 .left) (c .if3 .left) (c .before .before .before .there .ensures) (c .before .before .if1 .left))
-
-cast-plan-act-2 : tie.Need-cast-plan-act-2
-cast-plan-act-2 c =
-    let a = c .before .before .before .before .args in
-    omega (arith, kind-small (networkOf (a .net)) (a .flying) (a .a) (a .b) (few (c .before .before .before .before)) (a .kind) _ (c .before .if2 .left) (c .if3 .left) (c .before .before .before .there .ensures) (c .before .before .if1 .left))
-
-plan-act-requires : tie.Need-plan-act-requires
-plan-act-requires c κs = search needs
+    by-kind (a .there) (a .kind) (a .own) (a .me) (a .k) (a .letter) (a .c) (a .told) (a .condition) (a .w) _ Start (not-false _ (c .before .before .before .if1 .left)) (c .before .enum-told2 .given .1)
+    (λ net st like o ec m. c .plan-start .ensures (a .me) net st like o (a .k) (a .letter))
 
 returns-4 : tie.Need-returns-4
 returns-4 c =
+    let a = c .before .before .before .before .args in
+    by-kind (a .there) (a .kind) (a .own) (a .me) (a .k) (a .letter) (a .c) (a .told) (a .condition) (a .w) _ Stop (not-false _ (c .before .before .before .if1 .left)) (c .before .enum-told3 .given .1)
+    (λ net st like o ec m. c .plan-stop .ensures (a .me) net st like (a .k) (a .letter))
+
+returns-5 : tie.Need-returns-5
+returns-5 c =
+    let a = c .before .before .before .before .args in
+    by-kind (a .there) (a .kind) (a .own) (a .me) (a .k) (a .letter) (a .c) (a .told) (a .condition) (a .w) _ Recovery (not-false _ (c .before .before .before .if1 .left)) (c .before .enum-told4 .given .1)
+    (λ net st like o ec m. c .plan-recovery .ensures (a .me) net st like o (a .k) (a .letter))
+
+returns-6 : tie.Need-returns-6
+returns-6 c =
+    let a = c .before .before .before .before .args in
+    by-kind (a .there) (a .kind) (a .own) (a .me) (a .k) (a .letter) (a .c) (a .told) (a .condition) (a .w) _ IntervalEnd (not-false _ (c .before .before .before .if1 .left)) (c .before .enum-told5 .given .1)
+    (λ net st like o ec m. c .plan-interval .ensures (a .me) net st like (m .link tt) (a .letter))
+
+returns-7 : tie.Need-returns-7
+returns-7 c =
+    let a = c .before .before .before .before .args in
+    by-kind (a .there) (a .kind) (a .own) (a .me) (a .k) (a .letter) (a .c) (a .told) (a .condition) (a .w) _ TimeoutEnd (not-false _ (c .before .before .before .if1 .left)) (c .before .enum-told6 .given .1)
+    (λ net st like o ec m. c .plan-timeout .ensures (a .me) net st like o (m .link tt) ec (a .letter))
+
+returns-8 : tie.Need-returns-8
+returns-8 c =
+    let a = c .before .before .before .before .args in
+    by-kind (a .there) (a .kind) (a .own) (a .me) (a .k) (a .letter) (a .c) (a .told) (a .condition) (a .w) _ QuietEnd (not-false _ (c .before .before .before .if1 .left)) (c .before .enum-told7 .given .1)
+    (λ net st like o ec m. c .plan-quiet-end .ensures (a .me) net st like (m .link tt) (a .letter))
+
+returns-9 : tie.Need-returns-9
+returns-9 c =
+    let a = c .before .before .before .before .args in
+    by-kind (a .there) (a .kind) (a .own) (a .me) (a .k) (a .letter) (a .c) (a .told) (a .condition) (a .w) _ Delivery (not-false _ (c .before .before .before .if1 .left)) (c .before .enum-told8 .given .1)
+    (λ net st like o ec m. c .plan-letter .ensures net st like o (m .link tt) ec (m .letter tt) (m .subject tt) (m .tells tt) (a .k))
+
+returns-10 : tie.Need-returns-10
+returns-10 c =
     let a = c .before .before .before .before .before .args in
-    by-sort (a .net) (a .flying) (a .a) (a .b) (a .me) (a .letter) (a .st) (a .kind) (act (kindOf (a .kind))) _ _ (sort-else (a .kind) (c .before .before .if2 .left) (c .before .if3 .left)) (c .before .before .before .before .there .ensures) (c .before .before .before .if1 .left) (c .plan-act .ensures)
+    by-kind (a .there) (a .kind) (a .own) (a .me) (a .k) (a .letter) (a .c) (a .told) (a .condition) (a .w) _ Loss (not-false _ (c .before .before .before .before .if1 .left)) (c .before .before .enum-told9 .given .1)
+    (λ net st like o ec m. loss-done net (a .me) st (a .condition) (a .w) like (fit (c .before .before .before .before .before)) (a .k) (a .letter) _ _ (c .before .settled-by .ensures) (c .staying2 .ensures))
 
 pub plan-event-spec : {M : Type 1} → statement M
 plan-event-spec =
     tie.close
     (tie.spec
-    there-requires
-    stays-requires
+    staying-requires
     returns
+    enum-told
+    turning-requires
+    enum-told-2
+    plan-start-requires
+    enum-told-3
+    plan-stop-requires
+    enum-told-4
+    plan-recovery-requires
+    enum-told-5
+    plan-interval-requires
+    enum-told-6
+    plan-timeout-requires
+    enum-told-7
+    plan-quiet-end-requires
+    enum-told-8
     plan-letter-requires
-    returns-2
+    enum-told-9
     settled-by-requires
-    stays-requires-2
+    staying-requires-2
+    returns-2
     returns-3
-    cast-plan-act
-    cast-plan-act-2
-    plan-act-requires
-    returns-4)
+    returns-4
+    returns-5
+    returns-6
+    returns-7
+    returns-8
+    returns-9
+    returns-10)

@@ -1,0 +1,4 @@
+pub mod Small
+pub mod Started
+pub mod Recovery
+pub mod Events

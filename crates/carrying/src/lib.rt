@@ -1,0 +1,58 @@
+// Carrying a plan out at a station: the table that the notices tell, what of it is sent, and the table that the event leaves. Inner
+// doors: the call is the network's step.
+ghost use mathlib.Core.Path.{_≡_};
+ghost use Prim.Native.Nat.{min};
+ghost use Rattle.carrying.specs.Carrying.{toldBy, narrowed, keptBy};
+use counters::Counters;
+use net::Net;
+use sending::Sending;
+
+// The table with the one counter set: what the notices tell.
+pub fn told_table(sets: bool, at: u8, counter: u16, table: Counters) -> Counters
+    ensures { λ r. ⌜ r ≡ toldBy sets at counter table ⌝ }
+{
+    if !sets {
+        return table;
+    }
+    if 64 <= at {
+        return table;
+    }
+    let i = at as usize;
+    let mut next = table;
+    next[i] = counter;
+    next
+}
+
+// What is sent: where the plan says so, only what is known is told of.
+pub fn narrow(knows: bool, links: u8, table: Counters, sends: Sending) -> Sending
+    ensures { λ r. ⌜ r ≡ narrowed knows (min links 64) table sends ⌝ }
+{
+    if !knows {
+        return sends;
+    }
+    let known = sending::known_links(links, table);
+    let unknown = words::without(sends.subjects, known);
+    let subjects = words::without(sends.subjects, unknown);
+    Sending {
+        requests: sends.requests,
+        subjects,
+        ways: sends.ways,
+        replies: sends.replies,
+        reply: sends.reply,
+        link: sends.link,
+    }
+}
+
+// The table that the event leaves: every counter 1, or what is out of reach purged, or as it is told.
+pub fn kept_table(net: Net, me: u8, resets: bool, purges: bool, table: Counters) -> Counters
+    ensures { λ r. ⌜ r ≡ keptBy net me resets purges table ⌝ }
+{
+    if resets {
+        return station::fresh_counters(net.links);
+    }
+    if purges {
+        let working = reach::working_links(net.links, table);
+        return purging::purged(net, working, table, me);
+    }
+    table
+}

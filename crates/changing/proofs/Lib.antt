@@ -1,3 +1,0 @@
-pub mod Started
-pub mod Recovery
-pub mod Spoken

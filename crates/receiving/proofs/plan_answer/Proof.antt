@@ -1,0 +1,37 @@
+use mathlib.Core.Path.{refl}
+use Rattle.receiving.proofs.Effects.{answer-acts}
+use borrow.Author.Needs.{needs}
+use Rattle.receiving.proofs.plan_answer.Statement.{statement}
+use Rattle.receiving.proofs.plan_answer.Tie as tie
+
+requested-words-requires : tie.Need-requested-words-requires
+requested-words-requires c κs = search needs
+
+is-even-requires : tie.Need-is-even-requires
+is-even-requires c κs = search needs
+
+put-requires : tie.Need-put-requires
+put-requires c κs = search needs
+
+pick-requires : tie.Need-pick-requires
+pick-requires c κs = search needs
+
+put-requires-2 : tie.Need-put-requires-2
+put-requires-2 c κs = search needs
+
+returns : tie.Need-returns
+returns c =
+    let a = c .before .before .before .before .before .args in
+    λ own s net st like o h ec t. answer-acts net s st (a .condition) (a .w) like (a .k) h 0 (a .c) _ _ _ _ _ _ _ ec (c .before .before .before .before .requested-words .ensures) (c .before .before .before .is-even .ensures) refl (c .before .before .put .ensures)
+    (c .before .pick .ensures) (c .put2 .ensures) refl
+
+pub plan-answer-spec : {M : Type 1} → statement M
+plan-answer-spec =
+    tie.close
+    (tie.spec
+    requested-words-requires
+    is-even-requires
+    put-requires
+    pick-requires
+    put-requires-2
+    returns)

@@ -1,0 +1,89 @@
+// A plan: what an event comes to at the one station that it concerns, in words. It holds no table and no station, and is made from the
+// station's condition, its five words of marks, its own links and the counters concerned. Nothing is stored here; the network's step
+// does that, by crate carrying. Here is what a plan says and must say; the plans are made by acting (events 1 to 6), receiving (a
+// letter) and planning (any event).
+ghost use mathlib.Core.Path.{_≡_};
+ghost use Rattle.station_plan.specs.Plans.{stays, turns};
+use marks::Words;
+use sending::Sending;
+use station::Condition;
+use tally::Tally;
+
+// A plan: the number that says no, or 0 and what becomes of the station, what it sends, and what is added to the tally.
+pub struct Plan {
+    pub answer: u8,
+    pub condition: Condition,
+    pub marks: Words,
+    // every counter becomes 1
+    pub resets: bool,
+    // one counter is set
+    pub sets: bool,
+    pub at: u8,
+    pub counter: u16,
+    // what is out of reach then is purged, after all that is told is told
+    pub purges: bool,
+    // of the subjects only those are told of that are known: their counter is above 1
+    pub knows: bool,
+    pub sends: Sending,
+    pub counts: Tally,
+}
+
+// Nothing changes and nothing is sent: refused, or a letter is gone.
+pub fn staying(number: u8, settled: u64, dropped: u64, condition: Condition, w: Words) -> Plan
+    ensures { λ r. ⌜ r ≡ stays number settled dropped condition w ⌝ }
+{
+    Plan {
+        answer: number,
+        condition,
+        marks: w,
+        resets: false,
+        sets: false,
+        at: 0,
+        counter: 0,
+        purges: false,
+        knows: false,
+        sends: Sending {
+            requests: 0,
+            subjects: 0, // silence tells of nothing
+            ways: 0, // and on no link
+            replies: false,
+            reply: 0,
+            link: 0,
+        },
+        counts: Tally {
+            settled,
+            raised: 0,
+            dropped,
+        },
+    }
+}
+
+// The condition and the marks change, and requests are sent.
+pub fn turning(condition: Condition, w: Words, requests: u64, resets: bool) -> Plan
+    ensures { λ r. ⌜ r ≡ turns condition w requests resets ⌝ }
+{
+    Plan {
+        answer: 0,
+        condition,
+        marks: w,
+        resets,
+        sets: false,
+        at: 0,
+        counter: 0,
+        purges: false,
+        knows: false,
+        sends: Sending {
+            requests,
+            subjects: 0,
+            ways: 0,
+            replies: false,
+            reply: 0,
+            link: 0,
+        },
+        counts: Tally {
+            settled: 0,
+            raised: 0,
+            dropped: 0,
+        },
+    }
+}
