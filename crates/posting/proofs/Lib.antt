@@ -1,3 +1,4 @@
+pub mod Counts
 pub mod LinkLaws
 pub mod PostLaws
 pub mod Made

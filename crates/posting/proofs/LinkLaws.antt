@@ -22,7 +22,7 @@ use Rattle.lists.proofs.Heads.{fails-still, keep-head, keep-nothing}
 use Rattle.words.specs.Sets.{wordBy}
 use Rattle.words.proofs.WordLaws.{in-by, by-ext, by-none, off-fits, off-is}
 use Rattle.station.specs.Values.{membersOf}
-use Rattle.station.proofs.Sent.{keep-same, members-none}
+use Rattle.station.proofs.Sent.{keep-same}
 use Rattle.posting.specs.Links.{someIn, lowestIn, lessLowest}
 
 -- ---- its links
@@ -35,7 +35,8 @@ pub some-members : (w : ℕ) → someIn w ≡ true → membersOf w ≡ lowestIn 
 unfolding someIn lowestIn lessLowest membersOf
 some-members w e =
     keep-head (inWord w) 0 64 e
-    ∙ ap {B = List ℕ} (λ l. firstOf (inWord w) (below 64) 0 ∷ l) (sym (members-made (λ t. if eqb t (firstOf (inWord w) (below 64) 0) then false else inWord w t)))
+    ∙ ap {B = List ℕ} (λ l. firstOf (inWord w) (below 64) 0 ∷ l)
+    (sym (members-made (λ t. if eqb t (firstOf (inWord w) (below 64) 0) then false else inWord w t)))
 
 pub no-members : (w : ℕ) → someIn w ≡ false → membersOf w ≡ []
 unfolding someIn membersOf
@@ -73,7 +74,8 @@ module _ (w : ℕ) (h : w < 2 ^ 64) where
   pub less-is : trailingZeros 64 w < 64 → w - (1 * 2 ^ trailingZeros 64 w) % 2 ^ 64 ≡ lessLowest w
   unfolding lessLowest
   less-is l =
-      off-is w (trailingZeros 64 w) false h l (has l) refl ∙ ap (λ (z : ℕ). wordBy (λ t. if eqb t z then false else inWord w t)) (lowest-is l)
+      off-is w (trailingZeros 64 w) false h l (has l) refl
+      ∙ ap (λ (z : ℕ). wordBy (λ t. if eqb t z then false else inWord w t)) (lowest-is l)
 
   pub less-none : 64 ≤ trailingZeros 64 w → w ≡ lessLowest w
   unfolding lessLowest
@@ -88,12 +90,6 @@ none-in-it w e t l = go (inWord w t) refl
     go : (b : Bool) → inWord w t ≡ b → inWord w t ≡ false
     go true q = absurd (subst T e (any-in (inWord w) 64 0 t l (is-T (inWord w (0 + t)) (ap (inWord w) (zero-add t) ∙ q))))
     go false q = q
-
--- without its lowest link a word without links has none
-pub no-members-less : (w : ℕ) → someIn w ≡ false → membersOf (lessLowest w) ≡ []
-unfolding lessLowest
-no-members-less w e =
-    ap membersOf (sym (by-none (λ t. if eqb t (lowestIn w) then false else inWord w t) (λ t l. fails-still (inWord w) (lowestIn w) t (none-in-it w e t l)))) ∙ members-none
 
 zero-none : someIn 0 ≡ false
 unfolding someIn
@@ -110,3 +106,10 @@ some-is w h = go (someIn w) refl
         never q = subst T zero-none (is-T (someIn 0) (subst (λ (x : ℕ). someIn x ≡ true) q e))
     go false e =
         ap not (eq-eqb w 0 (by-ext w (inWord w) h (λ t l. refl) ∙ sym (by-none (inWord w) (none-in-it w e)))) ∙ sym e
+
+-- the same for what the code's test was
+pub some-seen : (w : ℕ) → w < 2 ^ 64 → (w ≡ 0 → ⊥) → someIn w ≡ true
+some-seen w h n = sym (some-is w h) ∙ ap not (ne-eqb w 0 n)
+
+pub none-seen : (w : ℕ) → w ≡ 0 → someIn w ≡ false
+none-seen w e = ap someIn e ∙ zero-none

@@ -1,33 +1,60 @@
--- What the code puts together from its parts: the first letter and what is left after it. Assumes nothing.
-use Prim.Native.Nat.{ℕ}
-use mathlib.Core.Bool.{Bool, not, _&&_, _||_}
-use mathlib.Core.Path.{_≡_, _∙_}
-use lib.ListN.{getD}
-use Rattle.lists.specs.Lists.{if_then_else_}
-use Rattle.net.specs.declared.Body.{Body}
+-- What each case of the code answers: the first letter, and what is left after it. Assumes nothing.
+use Prim.Native.Nat.{ℕ, _^_, _<_}
+use mathlib.Core.Bool.{Bool, true, false}
+use mathlib.Core.Path.{_≡_, refl, sym, ap, ap₂, _∙_}
+use Rattle.net.specs.declared.Body.the-variants.{Request, Reply, Notice}
 use Rattle.station.specs.Acts.{letter}
 use Rattle.posting.specs.declared.Post.{Post}
 use Rattle.posting.specs.Links.{someIn, lowestIn, lessLowest}
-use Rattle.posting.specs.Post.{asks, tells, linkBy, bodyBy, firstLeft, restLeft}
+use Rattle.posting.specs.Post.{tells, firstBy, firstLeft, changedPost, restBy, restLeft}
+use Rattle.posting.proofs.LinkLaws.{some-seen, none-seen}
 
-pub first-made : (s : ℕ) (p : Post) (a t : Bool) (subject request way link : ℕ) (body : Body)
-    → a ≡ asks p → t ≡ tells p → subject ≡ lowestIn (p .subjects) → request ≡ lowestIn (p .requests) → way ≡ lowestIn (p .left)
-    → link ≡ linkBy a t request way (p .link) → body ≡ bodyBy a t subject (getD (p .told) subject 0) (p .reply) → letter s link body ≡ firstLeft s p
-unfolding firstLeft
-first-made s p a t subject request way link body ea et es er ew el eb =
-    let l = el ∙ (λ i. linkBy (ea i) (et i) (er i) (ew i) (p .link)) in
-    let b = eb ∙ (λ i. bodyBy (ea i) (et i) (es i) (getD (p .told) (es i) 0) (p .reply)) in
-    λ i. letter s (l i) (b i)
+-- ---- the first letter
+module _ (s c : ℕ) (p : Post) where
+  first-by : (a t : Bool) → someIn (p .requests) ≡ a → tells p ≡ t → firstBy a t s c p ≡ firstLeft s c p
+  unfolding firstLeft
+  first-by a t ea et = ap₂ (λ (x y : Bool). firstBy x y s c p) (sym ea) (sym et)
 
-pub rest-made : (p : Post) (a t l still : Bool) (requests subjects less one left later : ℕ)
-    → a ≡ asks p → t ≡ tells p → less ≡ lessLowest (p .left) → l ≡ (t && not (someIn less)) → requests ≡ lessLowest (p .requests)
-    → later ≡ lessLowest (p .subjects) → subjects ≡ (if l then later else p .subjects) → one ≡ (if t then less else p .left)
-    → left ≡ (if l then p .ways else one) → still ≡ ((a || t) && p .replies)
-    → _≡_ {A = Post} (record { requests = requests; subjects = subjects; ways = p .ways; left = left; told = p .told; replies = still; reply = p .reply; link = p .link }) (restLeft p)
-unfolding restLeft
-rest-made p a t l still requests subjects less one left later ea et en el er ej es eo ew eb =
-    let last = el ∙ (λ i. et i && not (someIn (en i))) in
-    let js = es ∙ (λ i. if last i then ej i else p .subjects) in
-    let ways = ew ∙ (λ i. if last i then p .ways else ((eo ∙ (λ k. if et k then en k else p .left)) i)) in
-    let replies = eb ∙ (λ i. (ea i || et i) && p .replies) in
-    λ i. record { requests = er i; subjects = js i; ways = p .ways; left = ways i; told = p .told; replies = replies i; reply = p .reply; link = p .link }
+  pub first-asks : (request : ℕ) → p .requests < 2 ^ 64 → (p .requests ≡ 0 → ⊥) → request ≡ lowestIn (p .requests)
+      → letter s request Request ≡ firstLeft s c p
+  first-asks request h n e =
+      ap (λ (x : ℕ). letter s x Request) e ∙ first-by true (tells p) (some-seen (p .requests) h n) refl
+
+  pub first-tells : (r : Bool) (way subject : ℕ) → p .requests ≡ 0 → r ≡ tells p → r ≡ true
+      → way ≡ lowestIn (p .left) → subject ≡ lowestIn (p .subjects) → letter s way (Notice subject c) ≡ firstLeft s c p
+  first-tells r way subject z er et ew ej =
+      ap₂ (λ (x y : ℕ). letter s x (Notice y c)) ew ej ∙ first-by false true (none-seen (p .requests) z) (sym er ∙ et)
+
+  pub first-replies : (r : Bool) → p .requests ≡ 0 → r ≡ tells p → r ≡ false → letter s (p .link) (Reply (p .reply)) ≡ firstLeft s c p
+  first-replies r z er et = first-by false false (none-seen (p .requests) z) (sym er ∙ et)
+
+-- ---- what is left after it
+module _ (p q : Post) where
+  rest-by : (a t m : Bool) → someIn (p .requests) ≡ a → tells p ≡ t → someIn (lessLowest (p .left)) ≡ m → restBy a t m p ≡ restLeft p
+  unfolding restLeft
+  rest-by a t m ea et em = λ i. restBy (sym ea i) (sym et i) (sym em i) p
+
+  pub rest-asks : (less : ℕ) → p .requests < 2 ^ 64 → (p .requests ≡ 0 → ⊥) → less ≡ lessLowest (p .requests)
+      → q ≡ changedPost p less (p .subjects) (p .left) (p .replies) → q ≡ restLeft p
+  rest-asks less h n e f =
+      f ∙ ap (λ (x : ℕ). changedPost p x (p .subjects) (p .left) (p .replies)) e
+      ∙ rest-by true (tells p) (someIn (lessLowest (p .left))) (some-seen (p .requests) h n) refl refl
+
+  pub rest-tells : (r : Bool) (less : ℕ) → p .requests ≡ 0 → r ≡ tells p → r ≡ true
+      → less < 2 ^ 64 → less ≡ lessLowest (p .left) → (less ≡ 0 → ⊥)
+      → q ≡ changedPost p (p .requests) (p .subjects) less (p .replies) → q ≡ restLeft p
+  rest-tells r less z er et h e n f =
+      f ∙ ap (λ (x : ℕ). changedPost p (p .requests) (p .subjects) x (p .replies)) e
+      ∙ rest-by false true true (none-seen (p .requests) z) (sym er ∙ et) (ap someIn (sym e) ∙ some-seen less h n)
+
+  pub rest-tells-last : (r : Bool) (less later : ℕ) → p .requests ≡ 0 → r ≡ tells p → r ≡ true
+      → less ≡ lessLowest (p .left) → less ≡ 0 → later ≡ lessLowest (p .subjects)
+      → q ≡ changedPost p (p .requests) later (p .ways) (p .replies) → q ≡ restLeft p
+  rest-tells-last r less later z er et e n l f =
+      f ∙ ap (λ (x : ℕ). changedPost p (p .requests) x (p .ways) (p .replies)) l
+      ∙ rest-by false true false (none-seen (p .requests) z) (sym er ∙ et) (ap someIn (sym e) ∙ none-seen less n)
+
+  pub rest-replies : (r : Bool) → p .requests ≡ 0 → r ≡ tells p → r ≡ false
+      → q ≡ changedPost p (p .requests) (p .subjects) (p .left) false → q ≡ restLeft p
+  rest-replies r z er et f =
+      f ∙ rest-by false false (someIn (lessLowest (p .left))) (none-seen (p .requests) z) (sym er ∙ et) refl

@@ -1,11 +1,16 @@
-// A sending is posted letter by letter: the first letter left, and what is left after it. So the network appends the
-// letters by one flat loop, and no list of them is built before. Every public function answers every input.
+// A sending is counted, since more letters than fit are refused, and posted letter by letter: the first letter left, and what is
+// left after it. So the network appends the letters by one flat loop, and no list of them is built before. The table that is told
+// is not in it: whoever owns the table reads the one counter that a notice tells. Each step goes by cases; to compute them all and
+// to pick takes longer. Every public function answers every input.
 ghost use mathlib.Core.Path.{_≡_};
-ghost use mathlib.Core.Bool.{not, _&&_, _||_};
+ghost use mathlib.Core.Bool.{_&&_};
+ghost use mathlib.Core.List.{List};
+ghost use Prim.Native.Nat.{ℕ};
+ghost use lib.ListN.{length};
 ghost use Rattle.lists.specs.Lists.{if_then_else_};
+ghost use Rattle.station.specs.Values.{membersOf, lettersOf};
 ghost use Rattle.posting.specs.Links.{someIn, lowestIn, lessLowest};
-ghost use Rattle.posting.specs.Post.{begunPost, linkBy, bodyBy, firstLeft, restLeft};
-use counters::Counters;
+ghost use Rattle.posting.specs.Post.{begunPost, changedPost, firstLeft, restLeft};
 use net::Body;
 use net::Letter;
 use sending::Sending;
@@ -16,20 +21,35 @@ pub struct Post {
     pub subjects: u64, // links still to be told of, the lowest of them being told now
     pub ways: u64, // on which each is told
     pub left: u64, // ways on which the lowest subject is still to be told
-    pub told: Counters,
     pub replies: bool,
     pub reply: u16,
     pub link: u8,
 }
 
-// ---- sets of links
+// ---- how many letters
 
-// Whether it has one.
-fn some(w: u64) -> bool
-    ensures { λ r. ⌜ r ≡ someIn w ⌝ }
+// How many links the word has.
+fn size(w: u64) -> u16
+    ensures { λ r. ⌜ r ≡ length (membersOf w) ⌝ }
 {
-    w != 0
+    u64::count_ones(w) as u16
 }
+
+fn bit(on: bool) -> u16
+    ensures { λ r. ⌜ r ≡ (if on then 1 else 0) ⌝ }
+{
+    if on { 1 } else { 0 }
+}
+
+// How many letters the sending means, whoever sends it and whatever table is told.
+pub fn count(send: Sending) -> u16
+    ensures { λ r. ⌜ ((s : ℕ) (told : List ℕ) → r ≡ length (lettersOf s told send)) ⌝ }
+{
+    let notices = size(send.subjects) * size(send.ways);
+    size(send.requests) + notices + bit(send.replies)
+}
+
+// ---- sets of links
 
 // The lowest of them, 0 where there is none.
 fn lowest(w: u64) -> u8
@@ -47,71 +67,14 @@ fn less_lowest(w: u64) -> u64
     if z < 64 { w - (1u64 << z) } else { w }
 }
 
-// ---- choices
-
-fn pick(on: bool, a: u64, b: u64) -> u64
-    ensures { λ r. ⌜ r ≡ (if on then a else b) ⌝ }
+// Whether the first letter left is a notice, once no request is.
+fn tells(subjects: u64, left: u64) -> bool
+    ensures { λ r. ⌜ r ≡ (someIn subjects && someIn left) ⌝ }
 {
-    if on { a } else { b }
-}
-
-// Whether the first letter left is a notice.
-fn tells_next(requests: u64, subjects: u64, left: u64) -> bool
-    ensures { λ r. ⌜ r ≡ (not (someIn requests) && (someIn subjects && someIn left)) ⌝ }
-{
-    if some(requests) {
-        return false;
-    }
-    if some(subjects) {
-        return some(left);
+    if subjects != 0 {
+        return left != 0;
     }
     false
-}
-
-// Whether it is the last of its subject: the word less of the ways left after it has none.
-fn tells_last(tells: bool, less: u64) -> bool
-    ensures { λ r. ⌜ r ≡ (tells && not (someIn less)) ⌝ }
-{
-    if tells {
-        return !some(less);
-    }
-    false
-}
-
-// Whether the reply is still to come: the letter before it was another.
-fn still_replies(asks: bool, tells: bool, replies: bool) -> bool
-    ensures { λ r. ⌜ r ≡ ((asks || tells) && replies) ⌝ }
-{
-    if asks {
-        return replies;
-    }
-    if tells {
-        return replies;
-    }
-    false
-}
-
-// The link of the first letter left: of a request, of a notice or of the reply.
-fn link_by(asks: bool, tells: bool, request: u8, way: u8, reply: u8) -> u8
-    ensures { λ r. ⌜ r ≡ linkBy asks tells request way reply ⌝ }
-{
-    if asks {
-        return request;
-    }
-    if tells { way } else { reply }
-}
-
-// What it says.
-fn body_by(asks: bool, tells: bool, subject: u8, counter: u16, reply: u16) -> Body
-    ensures { λ r. ⌜ r ≡ bodyBy asks tells subject counter reply ⌝ }
-{
-    if asks {
-        return Body::Request;
-    }
-    if tells {
-        return Body::Notice(subject, counter);
-    }
-    Body::Reply(reply)
 }
 
 // ---- posting
@@ -120,39 +83,65 @@ fn body_by(asks: bool, tells: bool, subject: u8, counter: u16, reply: u16) -> Bo
 pub fn begun(send: Sending) -> Post
     ensures { λ r. ⌜ r ≡ begunPost send ⌝ }
 {
-    let told = send.told;
     Post {
         requests: send.requests,
         subjects: send.subjects,
         ways: send.ways,
         left: send.ways, // all of them for the first subject
-        told,
         replies: send.replies,
         reply: send.reply,
         link: send.link,
     }
 }
 
-// The first letter left, from the station me; where none is left, any.
-pub fn first(post: Post, me: u8) -> Letter
-    ensures { λ r. ⌜ r ≡ firstLeft me post ⌝ }
+// The link that the next notice tells of, 0 where none is left.
+pub fn subject(post: Post) -> u8
+    ensures { λ r. ⌜ r ≡ lowestIn (post .subjects) ⌝ }
 {
-    let asks = some(post.requests);
-    let tells = tells_next(post.requests, post.subjects, post.left);
-    let subject = lowest(post.subjects);
-    let i = subject as usize;
-    let link = link_by(
-        asks,
-        tells,
-        lowest(post.requests),
-        lowest(post.left),
-        post.link,
-    );
-    let body = body_by(asks, tells, subject, post.told[i], post.reply);
+    lowest(post.subjects) // its counter is the one to be told
+}
+
+// The first letter left, from the station me, where a notice tells this counter; where none is left, any.
+pub fn first(post: Post, me: u8, counter: u16) -> Letter
+    ensures { λ r. ⌜ r ≡ firstLeft me counter post ⌝ }
+{
+    let sender = me as u16;
+    if post.requests != 0 {
+        let link = lowest(post.requests) as u16;
+        return Letter {
+            link,
+            sender,
+            body: Body::Request,
+        };
+    }
+    if tells(post.subjects, post.left) {
+        let link = lowest(post.left) as u16;
+        return Letter {
+            link,
+            sender, // whatever the link
+            body: Body::Notice(lowest(post.subjects), counter),
+        };
+    }
+    let link = post.link as u16;
     Letter {
-        link: link as u16,
-        sender: me as u16,
-        body,
+        link,
+        sender,
+        body: Body::Reply(post.reply),
+    }
+}
+
+// The same with this still to come.
+fn changed(post: Post, requests: u64, subjects: u64, left: u64, replies: bool) -> Post
+    ensures { λ r. ⌜ r ≡ changedPost post requests subjects left replies ⌝ }
+{
+    Post {
+        requests,
+        subjects,
+        ways: post.ways,
+        left,
+        replies,
+        reply: post.reply,
+        link: post.link,
     }
 }
 
@@ -160,19 +149,27 @@ pub fn first(post: Post, me: u8) -> Letter
 pub fn rest(post: Post) -> Post
     ensures { λ r. ⌜ r ≡ restLeft post ⌝ }
 {
-    let told = post.told;
-    let asks = some(post.requests);
-    let tells = tells_next(post.requests, post.subjects, post.left);
-    let less = less_lowest(post.left);
-    let last = tells_last(tells, less);
-    Post {
-        requests: less_lowest(post.requests),
-        subjects: pick(last, less_lowest(post.subjects), post.subjects),
-        ways: post.ways,
-        left: pick(last, post.ways, pick(tells, less, post.left)),
-        told,
-        replies: still_replies(asks, tells, post.replies),
-        reply: post.reply,
-        link: post.link,
+    if post.requests != 0 {
+        return changed(
+            post,
+            less_lowest(post.requests),
+            post.subjects,
+            post.left,
+            post.replies,
+        );
     }
+    if tells(post.subjects, post.left) {
+        let less = less_lowest(post.left);
+        if less != 0 {
+            return changed(post, post.requests, post.subjects, less, post.replies);
+        }
+        return changed(
+            post,
+            post.requests,
+            less_lowest(post.subjects),
+            post.ways, // all of them again
+            post.replies,
+        );
+    }
+    changed(post, post.requests, post.subjects, post.left, false)
 }

@@ -1,62 +1,57 @@
-use native.Mathlib.Omega.{arith}
-use Rattle.posting.proofs.LinkLaws.{lowest-lt}
-use Rattle.posting.proofs.Made.{first-made}
+use Rattle.posting.proofs.Made.{first-asks, first-tells, first-replies}
 use borrow.Author.Needs.{needs}
 use Rattle.posting.proofs.first.Statement.{statement}
 use Rattle.posting.proofs.first.Tie as tie
 
-some-requires : tie.Need-some-requires
-some-requires c κs = search needs
-
-tells-next-requires : tie.Need-tells-next-requires
-tells-next-requires c κs = search needs
-
 lowest-requires : tie.Need-lowest-requires
 lowest-requires c κs = search needs
 
-cast-i : tie.Need-cast-i
-cast-i c = search needs
+cast-link : tie.Need-cast-link
+cast-link c = search needs
+
+returns : tie.Need-returns
+returns c =
+    let a = c .before .before .before .args in
+    first-asks (a .me) (a .counter) (a .post) _ (search needs) (c .before .if1 .taken) (c .lowest .ensures)
+
+tells-requires : tie.Need-tells-requires
+tells-requires c κs = search needs
 
 lowest-requires-2 : tie.Need-lowest-requires-2
 lowest-requires-2 c κs = search needs
 
+cast-link-2 : tie.Need-cast-link-2
+cast-link-2 c = search needs
+
 lowest-requires-3 : tie.Need-lowest-requires-3
 lowest-requires-3 c κs = search needs
 
-link-by-requires : tie.Need-link-by-requires
-link-by-requires c κs = search needs
+returns-2 : tie.Need-returns-2
+returns-2 c =
+    let a = c .before .before .before .before .before .before .args in
+    first-tells (a .me) (a .counter) (a .post) _ _ _ (c .before .before .before .before .if1 .left)
+    (c .before .before .before .tells .ensures) (c .before .before .if2 .taken) (c .before .lowest2 .ensures) (c .lowest3 .ensures)
 
-mul-body-by : tie.Need-mul-body-by
-mul-body-by c = search needs
+cast-link-3 : tie.Need-cast-link-3
+cast-link-3 c = search needs
 
-element-copy-out-body-by : tie.Need-element-copy-out-body-by
-element-copy-out-body-by c = omega (arith, c .before .before .before .lowest .ensures, lowest-lt (c .before .before .before .before .before .before .args .t1 .subjects))
-
-body-by-requires : tie.Need-body-by-requires
-body-by-requires c κs = search needs
-
-cast-t19 : tie.Need-cast-t19
-cast-t19 c = search needs
-
-returns : tie.Need-returns
-returns c =
-    let a = c .before .before .before .before .before .before .before .before .args in
-    first-made (a .me) (a .t1) _ _ _ _ _ _ _
-    (c .before .before .before .before .before .before .before .some .ensures) (c .before .before .before .before .before .before .tells-next .ensures) (c .before .before .before .before .before .lowest .ensures) (c .before .before .before .before .lowest2 .ensures) (c .before .before .before .lowest3 .ensures) (c .before .before .link-by .ensures) (c .body-by .ensures)
+returns-3 : tie.Need-returns-3
+returns-3 c =
+    let a = c .before .before .before .before .before .args in
+    first-replies (a .me) (a .counter) (a .post) _ (c .before .before .before .if1 .left)
+    (c .before .before .tells .ensures) (c .before .if2 .left)
 
 pub first-spec : {M : Type 1} → statement M
 first-spec =
     tie.close
     (tie.spec
-    some-requires
-    tells-next-requires
     lowest-requires
-    cast-i
+    cast-link
+    returns
+    tells-requires
     lowest-requires-2
+    cast-link-2
     lowest-requires-3
-    link-by-requires
-    mul-body-by
-    element-copy-out-body-by
-    body-by-requires
-    cast-t19
-    returns)
+    returns-2
+    cast-link-3
+    returns-3)

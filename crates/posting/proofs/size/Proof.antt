@@ -1,8 +1,8 @@
 use native.Mathlib.Omega.{arith}
 use lib.Count.{ones-le}
-use Rattle.letter_count.proofs.Counts.{ones-members}
-use Rattle.letter_count.proofs.size.Statement.{statement}
-use Rattle.letter_count.proofs.size.Tie as tie
+use Rattle.posting.proofs.Counts.{ones-members}
+use Rattle.posting.proofs.size.Statement.{statement}
+use Rattle.posting.proofs.size.Tie as tie
 
 cast-result : tie.Need-cast-result
 cast-result c = omega (arith, ones-le 64 (c .args .w) (c .fits .w .fits))

@@ -1,8 +1,8 @@
 use native.Mathlib.Omega.{arith}
-use Rattle.letter_count.proofs.Counts.{count-made, few, few-notices, one-reply}
+use Rattle.posting.proofs.Counts.{count-made, few, few-notices, one-reply}
 use borrow.Author.Needs.{needs}
-use Rattle.letter_count.proofs.count.Statement.{statement}
-use Rattle.letter_count.proofs.count.Tie as tie
+use Rattle.posting.proofs.count.Statement.{statement}
+use Rattle.posting.proofs.count.Tie as tie
 
 size-requires : tie.Need-size-requires
 size-requires c κs = search needs
@@ -17,18 +17,25 @@ size-requires-3 : tie.Need-size-requires-3
 size-requires-3 c κs = search needs
 
 add-result : tie.Need-add-result
-add-result c = omega (arith, few _ _ (c .size3 .ensures), few-notices _ _ _ _ (c .before .before .size .ensures) (c .before .size2 .ensures))
+add-result c =
+    omega (arith, few _ _ (c .size3 .ensures), few-notices _ _ _ _ (c .before .before .size .ensures) (c .before .size2 .ensures))
 
 bit-requires : tie.Need-bit-requires
 bit-requires c κs = search needs
 
 add-result-2 : tie.Need-add-result-2
 add-result-2 c =
-    omega (arith, one-reply (c .before .before .before .before .args .send .replies) _ (c .bit .ensures), few _ _ (c .before .size3 .ensures), few-notices _ _ _ _ (c .before .before .before .size .ensures) (c .before .before .size2 .ensures))
+    omega (
+      arith,
+      one-reply (c .before .before .before .before .args .send .replies) _ (c .bit .ensures),
+      few _ _ (c .before .size3 .ensures),
+      few-notices _ _ _ _ (c .before .before .before .size .ensures) (c .before .before .size2 .ensures),
+    )
 
 returns : tie.Need-returns
-returns c s =
-    count-made s (c .before .before .before .before .args .send) _ _ _ _ (c .before .size3 .ensures) (c .before .before .before .size .ensures) (c .before .before .size2 .ensures) (c .bit .ensures)
+returns c s told =
+    count-made s told (c .before .before .before .before .args .send) _ _ _ _
+    (c .before .size3 .ensures) (c .before .before .before .size .ensures) (c .before .before .size2 .ensures) (c .bit .ensures)
 
 pub count-spec : {M : Type 1} → statement M
 count-spec =

@@ -41,15 +41,18 @@ one-or-none : (b : Bool) (x : Letter) → length (if b then (x ∷ []) else []) 
 one-or-none true x = refl
 one-or-none false x = refl
 
-pub count-made : (s : ℕ) (x : Sending) (requests subjects ways reply : ℕ) → requests ≡ length (membersOf (x .requests)) → subjects ≡ length (membersOf (x .subjects))
-    → ways ≡ length (membersOf (x .ways)) → reply ≡ (if x .replies then 1 else 0) → requests + subjects * ways + reply ≡ length (lettersOf s x)
+pub count-made : (s : ℕ) (told : List ℕ) (x : Sending) (requests subjects ways reply : ℕ)
+    → requests ≡ length (membersOf (x .requests)) → subjects ≡ length (membersOf (x .subjects))
+    → ways ≡ length (membersOf (x .ways)) → reply ≡ (if x .replies then 1 else 0)
+    → requests + subjects * ways + reply ≡ length (lettersOf s told x)
 unfolding lettersOf
-count-made s x requests subjects ways reply er es ew eb =
+count-made s told x requests subjects ways reply er es ew eb =
     let rs = onEach s Request (membersOf (x .requests)) in
-    let notices = tell s (λ j. getD (x .told) j 0) (membersOf (x .subjects)) (membersOf (x .ways)) in
+    let notices = tell s (λ j. getD told j 0) (membersOf (x .subjects)) (membersOf (x .ways)) in
     let last = (if x .replies then (letter s (x .link) (Reply (x .reply)) ∷ []) else []) in
     let r : requests ≡ length rs = er ∙ sym (length-map (membersOf (x .requests)) (λ k. letter s k Request)) in
-    let n : subjects * ways ≡ length notices = ap₂ (λ (a b : ℕ). a * b) es ew ∙ sym (length-tell s (λ j. getD (x .told) j 0) (membersOf (x .subjects)) (membersOf (x .ways))) in
+    let n : subjects * ways ≡ length notices =
+    ap₂ (λ (a b : ℕ). a * b) es ew ∙ sym (length-tell s (λ j. getD told j 0) (membersOf (x .subjects)) (membersOf (x .ways))) in
     let l : reply ≡ length last = eb ∙ sym (one-or-none (x .replies) (letter s (x .link) (Reply (x .reply)))) in
     omega (arith, length-append rs (notices ++ last), length-append notices last)
 
