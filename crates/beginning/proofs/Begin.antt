@@ -13,8 +13,9 @@ use Rattle.lists.proofs.Tests.{is-T}
 use Rattle.lists.proofs.Numbers.{length-map-below}
 use Rattle.net.specs.declared.Letter.{Letter}
 use Rattle.net.specs.declared.Net.{Net}
-use Rattle.net.specs.Values.{networkOf, netHolds}
-use Rattle.net.proofs.Good.{few-stations}
+use Rattle.net.specs.Values.{networkOf}
+use Rattle.sheet_rules.specs.Values.{netHolds}
+use Rattle.sheet_rules.proofs.Good.{few-stations}
 use Rattle.net.proofs.ValueLaws.{stations-of}
 use Rattle.station.specs.declared.Station.{Station}
 use Rattle.station.specs.Holding.{Holding}

@@ -2,8 +2,9 @@
 use mathlib.Core.Path.{_≡_, refl}
 use lib.Dec.{T}
 use Rattle.net.specs.declared.Net.{Net}
-use Rattle.net.specs.Values.{networkOf, netHolds}
-use Rattle.net.proofs.Good.{sheet-good}
+use Rattle.net.specs.Values.{networkOf}
+use Rattle.sheet_rules.specs.Values.{netHolds}
+use Rattle.sheet_rules.proofs.Good.{sheet-good}
 use Rattle.world.specs.World.{fresh}
 use Rattle.world.proofs.Keeps.{fresh-formed}
 use Rattle.state.specs.declared.State.{State}

@@ -2,7 +2,8 @@
 use lib.ListN.{replicate}
 use Rattle.lists.specs.Lists.{if_then_else_}
 use Rattle.net.specs.declared.Net.{Net}
-use Rattle.net.specs.Values.{networkOf, netHolds}
+use Rattle.net.specs.Values.{networkOf}
+use Rattle.sheet_rules.specs.Values.{netHolds}
 use Rattle.station.specs.Values.{blank}
 use Rattle.world.specs.World.{noLetter, fresh}
 use Rattle.state.specs.declared.State.{State}

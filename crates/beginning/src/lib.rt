@@ -1,6 +1,8 @@
 // The state right after a sheet is read: every station down, no letter in flight.
 ghost use mathlib.Core.Path.{_≡_};
-ghost use Rattle.station.specs.Values.{blank};
+ghost use Rattle.net.specs.Values.{networkOf};
+ghost use Rattle.station.specs.Acts.{stopped};
+ghost use Rattle.station.specs.Values.{laid, blank};
 ghost use Rattle.world.specs.World.{noLetter};
 ghost use Rattle.beginning.specs.Beginning.{begunOf};
 use marks::Words;
@@ -33,6 +35,23 @@ fn no_station() -> Station
     }
 }
 
+// Down, counters 1, no mark.
+fn down_station(net: Net) -> Station
+    ensures { λ r. ⌜ r ≡ laid net blank (stopped (networkOf net) 0 .holding) ⌝ }
+{
+    Station {
+        condition: Condition::Down,
+        counters: station::fresh_counters(net.links),
+        marks: Words {
+            token: 0,
+            turn: 0,
+            testing: 0,
+            asked: 0,
+            quiet: 0,
+        },
+    }
+}
+
 fn no_letter() -> Letter
     ensures { λ r. ⌜ r ≡ noLetter ⌝ }
 {
@@ -51,7 +70,7 @@ pub fn fresh(net: Net) -> Begun
     let mut stations = [nobody; 32];
     let unused = no_letter();
     let letters = [unused; 4096];
-    if !net::keeps_sheet_rules(net) {
+    if !sheet_rules::keeps_sheet_rules(net) {
         return Begun {
             answer: 11,
             state: State {
@@ -62,7 +81,7 @@ pub fn fresh(net: Net) -> Begun
             },
         };
     }
-    let down = changing::stop(net);
+    let down = down_station(net);
     let n = net.stations;
     for i in 0..n {
         let at = i as usize;

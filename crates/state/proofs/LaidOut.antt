@@ -19,8 +19,9 @@ use Rattle.net.specs.declared.Letter.{Letter}
 use Rattle.net.specs.declared.Net.{Net}
 use Rattle.net.specs.Network.{Network}
 use Rattle.net.specs.Letters.{letterHolds}
-use Rattle.net.specs.Values.{networkOf, linkCount, netHolds}
-use Rattle.net.proofs.Good.{few-stations}
+use Rattle.net.specs.Values.{networkOf, linkCount}
+use Rattle.sheet_rules.specs.Values.{netHolds}
+use Rattle.sheet_rules.proofs.Good.{few-stations}
 use Rattle.net.proofs.ValueLaws.{stations-of, links-of}
 use Rattle.station.specs.declared.Station.{Station}
 use Rattle.station.specs.Holding.{Holding, holdingHolds}

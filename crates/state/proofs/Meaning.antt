@@ -20,10 +20,12 @@ use Rattle.net.specs.declared.Body.{Body}
 use Rattle.net.specs.declared.Body.the-variants.{Request, Reply, Notice}
 use Rattle.net.specs.declared.Letter.{Letter}
 use Rattle.net.specs.declared.Net.{Net}
-use Rattle.net.specs.Network.{Network, sheetHolds}
+use Rattle.net.specs.Network.{Network}
+use Rattle.sheet_rules.specs.Rules.{sheetHolds}
 use Rattle.net.specs.Letters.{letterHolds}
-use Rattle.net.specs.Values.{networkOf, linkCount, isZero, netHolds}
-use Rattle.net.proofs.Good.{few-stations, sheet-good}
+use Rattle.net.specs.Values.{networkOf, linkCount, isZero}
+use Rattle.sheet_rules.specs.Values.{netHolds}
+use Rattle.sheet_rules.proofs.Good.{few-stations, sheet-good}
 use Rattle.net.proofs.ValueLaws.{stations-of, links-of}
 use Rattle.station.specs.declared.Station.{Station}
 use Rattle.station.specs.Holding.{Holding, holdingHolds}

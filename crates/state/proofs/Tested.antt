@@ -1,21 +1,22 @@
 -- What the test of a whole state has seen, place by place, is the definition. Assumes nothing.
-use Prim.Native.Nat.{ℕ, _+_, _-_, _≤_, _<_, min}
+use Prim.Native.Nat.{ℕ, _+_, _-_, _*_, _≤_, _<_, min}
 use mathlib.Core.Bool.{Bool, true, false, not, _&&_, _||_}
 use mathlib.Core.Path.{_≡_, refl, sym, ap, ap₂, _∙_, subst, subst⁻¹}
 use mathlib.Core.List.{List, [], _∷_}
 use native.Mathlib.Decide.{decLt, ℕ-discrete}
 use native.Mathlib.Omega.{arith}
-use lib.Dec.{T, ltb, leb, leb→le}
+use lib.Dec.{T, eqb, ltb, leb, leb→le}
 use lib.ListN.{length, getD}
-use borrow.Author.Tests.{lt-ltb, le-ltb, le-leb}
+use borrow.Author.Tests.{eq-eqb, ne-eqb, lt-ltb, le-ltb, le-leb}
 use Rattle.lists.specs.Lists.{if_then_else_, every, below}
 use Rattle.lists.proofs.Tests.{and-l, and-r, and-i, and-no, and-yes, T-is, is-T, same-test, every-append, or-left}
 use Rattle.lists.proofs.Numbers.{below-at, at-below, below-snoc, all-fails}
 use Rattle.net.specs.declared.Letter.{Letter}
 use Rattle.net.specs.declared.Net.{Net}
 use Rattle.net.specs.Letters.{letterHolds}
-use Rattle.net.specs.Values.{networkOf, linkCount, netHolds}
-use Rattle.net.proofs.Good.{few-places}
+use Rattle.net.specs.Values.{networkOf, linkCount}
+use Rattle.sheet_rules.specs.Values.{netHolds}
+use Rattle.sheet_rules.proofs.Good.{few-places}
 use Rattle.carried.specs.Carried.{letterTest}
 use Rattle.carried.proofs.LetterTests.{letter-is, letter-past}
 use Rattle.state.specs.declared.State.{State}
@@ -58,6 +59,27 @@ letter-seen net x r k t e d = d ∙ ap (λ (n : ℕ). letterTest n (getD (net .l
         same : k ≡ x .link
         same = omega arith
     go (no h) = letter-past net x (getD (net .low) k 0) (getD (net .high) k 0) (omega arith)
+
+-- ---- an unused place, as one number
+pub sum-zero : (a b : ℕ) (c : Bool) → eqb b 0 ≡ c → eqb (a + b) 0 ≡ (eqb a 0 && c)
+sum-zero a b c e = go (ℕ-discrete a 0) (ℕ-discrete b 0) ∙ ap (λ (x : Bool). eqb a 0 && x) e
+  where
+    go : Dec (a ≡ 0) → Dec (b ≡ 0) → eqb (a + b) 0 ≡ (eqb a 0 && eqb b 0)
+    go (yes p) (yes q) = eq-eqb (a + b) 0 (omega arith) ∙ sym (ap₂ (λ (x y : Bool). x && y) (eq-eqb a 0 p) (eq-eqb b 0 q))
+    go (yes p) (no q) = ne-eqb (a + b) 0 (λ r. q (omega arith)) ∙ sym (ap₂ (λ (x y : Bool). x && y) (eq-eqb a 0 p) (ne-eqb b 0 q))
+    go (no p) d = ne-eqb (a + b) 0 (λ r. p (omega arith)) ∙ sym (ap (λ (x : Bool). x && eqb b 0) (ne-eqb a 0 p))
+
+same-zero : (a b : ℕ) → (a ≡ 0 → b ≡ 0) → (b ≡ 0 → a ≡ 0) → eqb a 0 ≡ eqb b 0
+same-zero a b f g = go (ℕ-discrete a 0)
+  where
+    go : Dec (a ≡ 0) → eqb a 0 ≡ eqb b 0
+    go (yes p) = eq-eqb a 0 p ∙ sym (eq-eqb b 0 (f p))
+    go (no p) = ne-eqb a 0 p ∙ sym (ne-eqb b 0 (λ q. p (g q)))
+
+pub word-zero : (l s t : ℕ) (b : Bool) → eqb t 0 ≡ b → eqb (l + s * 65536 + t * 4294967296) 0 ≡ (eqb l 0 && eqb s 0 && b)
+word-zero l s t b e =
+    sum-zero (l + s * 65536) (t * 4294967296) b (same-zero (t * 4294967296) t (λ p. omega arith) (λ p. omega arith) ∙ e)
+    ∙ ap (λ (x : Bool). x && b) (sum-zero l (s * 65536) (eqb s 0) (same-zero (s * 65536) s (λ p. omega arith) (λ p. omega arith)))
 
 module _ (s : State) where
   abbrev frame : Bool

@@ -13,7 +13,8 @@ use Rattle.net.specs.declared.Body.the-variants.{Request, Reply, Notice}
 use Rattle.net.specs.declared.Letter.{Letter}
 use Rattle.net.specs.declared.Net.{Net}
 use Rattle.net.specs.Letters.{letterHolds}
-use Rattle.net.specs.Values.{networkOf, isZero, netHolds}
+use Rattle.net.specs.Values.{networkOf, isZero}
+use Rattle.sheet_rules.specs.Values.{netHolds}
 use Rattle.marks.specs.declared.Words.{Words}
 use Rattle.station.specs.declared.Station.{Station}
 use Rattle.station.specs.declared.Condition.the-variants.{Down}

@@ -1,9 +1,9 @@
 // The whole network as one value: what every station holds and the letters in flight, and its test (11).
 ghost use mathlib.Core.Path.{_≡_};
 ghost use mathlib.Core.Bool.{true, _&&_};
-ghost use Prim.Native.Nat.{min};
-ghost use lib.Dec.{leb};
-ghost use Rattle.net.specs.Values.{netHolds};
+ghost use Prim.Native.Nat.{min, _≤_, _<_};
+ghost use lib.Dec.{leb, eqb};
+ghost use Rattle.sheet_rules.specs.Values.{netHolds};
 ghost use Rattle.station.specs.Holding.{isDown};
 ghost use Rattle.state.specs.State.{isRequest, isBlank, isNoLetter, noWord, stationPlace, stateHolds, Fits, Sized};
 use marks::Words;
@@ -74,25 +74,24 @@ fn station_place(net: Net, i: u8, st: Station) -> bool
     is_blank(st)
 }
 
-fn is_request(b: Body) -> bool
-    ensures { λ r. ⌜ r ≡ isRequest b ⌝ }
+// 0 of a request, which an unused place holds, and of nothing else.
+fn tag_of(b: Body) -> u64
+    ensures { λ r. ⌜ (eqb r 0 ≡ isRequest b) × (r ≤ 2) ⌝ }
 {
     match b {
-        Body::Request => true,
-        Body::Reply(c) => false,
-        Body::Notice(j, c) => false,
+        Body::Request => 0,
+        Body::Reply(c) => 1,
+        Body::Notice(j, c) => 2,
     }
 }
 
-// Whether the places seen so far and this one are zero.
-fn still_zero(clean: bool, x: Letter) -> bool
-    ensures { λ r. ⌜ r ≡ (clean && isNoLetter x) ⌝ }
+// 0 of an unused place of the letters, and of nothing else. Its parts stand side by side as in memory, so that it is one load; the words of
+// all unused places are added up with no jump between them.
+fn word_of(x: Letter) -> u64
+    ensures { λ r. ⌜ (eqb r 0 ≡ isNoLetter x) × (r < 17179869184) ⌝ }
 {
     let body = x.body;
-    both(
-        clean,
-        both(both(x.link == 0, x.sender == 0), is_request(body)),
-    )
+    x.link as u64 + x.sender as u64 * 65536 + tag_of(body) * 4294967296
 }
 
 // A place of the links' room, whatever the number.
@@ -106,7 +105,7 @@ fn in_room(link: u16) -> usize
 fn frame_holds(net: Net, flying: u16) -> bool
     ensures { λ r. ⌜ r ≡ (netHolds net && leb flying 4096) ⌝ }
 {
-    both(net::keeps_sheet_rules(net), flying <= 4096)
+    both(sheet_rules::keeps_sheet_rules(net), flying <= 4096)
 }
 
 // Whether the state is well formed. Where not, a call that is given it refuses with 11.
@@ -133,11 +132,11 @@ pub fn well_formed(s: State) -> bool
             return false;
         }
     }
-    let mut clean = true;
+    let mut rest: u64 = 0;
     for j in flying..4096u16 {
         let at = j as usize;
         let x = s.letters[at];
-        clean = still_zero(clean, x);
+        rest += word_of(x);
     }
-    clean
+    rest == 0
 }

@@ -31,8 +31,8 @@ returns : tie.Need-returns Inv-loop μ-loop
 returns c =
     begun-bad (c .before .before .before .before .args .net) _ (c .before .keeps-sheet-rules .ensures) _ _ (c .before .before .before .no-station .ensures) (c .before .before .no-letter .ensures) (not-true _ (c .if1 .taken))
 
-stop-requires : tie.Need-stop-requires Inv-loop μ-loop
-stop-requires c κs = search needs
+down-station-requires : tie.Need-down-station-requires Inv-loop μ-loop
+down-station-requires c κs = search needs
 
 loop-holds : tie.Need-loop-holds Inv-loop μ-loop
 loop-holds c = (omega arith, refl)
@@ -54,7 +54,7 @@ loop-less c = omega arith
 
 loop-again : tie.Need-loop-again Inv-loop μ-loop
 loop-again c =
-    let d : Station = c .before .before .stop .result in
+    let d : Station = c .before .before .down-station .result in
     let old : List Station = replicate 32 (c .before .before .before .before .before .before .no-station .result) in
     let few = good-stations (c .before .before .before .before .before .before .before .args .net) (c .before .before .before .before .keeps-sheet-rules .result) (c .before .before .before .before .keeps-sheet-rules .ensures) (not-false _ (c .before .before .before .if1 .left)) in (
       omega arith,
@@ -65,8 +65,8 @@ loop-again c =
 returns-2 : tie.Need-returns-2 Inv-loop μ-loop
 returns-2 c =
     let end : c .before .loop .i ≡ c .before .before .before .before .before .before .before .args .net .stations = omega arith in
-    begun-good (c .before .before .before .before .before .before .before .args .net) _ (c .before .before .before .before .keeps-sheet-rules .ensures) _ _ (c .before .before .before .before .before .before .no-station .ensures) (c .before .before .before .before .before .no-letter .ensures) _ _ (c .before .before .before .before .before .before .before .args .net .stations) (not-false _ (c .before .before .before .if1 .left)) refl (c .before .before .stop .ensures)
-    (c .before .loop .inv .1 ∙ ap (filled (λ (t : ℕ). c .before .before .stop .result) (replicate 32 (c .before .before .before .before .before .before .no-station .result))) end)
+    begun-good (c .before .before .before .before .before .before .before .args .net) _ (c .before .before .before .before .keeps-sheet-rules .ensures) _ _ (c .before .before .before .before .before .before .no-station .ensures) (c .before .before .before .before .before .no-letter .ensures) _ _ (c .before .before .before .before .before .before .before .args .net .stations) (not-false _ (c .before .before .before .if1 .left)) refl (c .before .before .down-station .ensures)
+    (c .before .loop .inv .1 ∙ ap (filled (λ (t : ℕ). c .before .before .down-station .result) (replicate 32 (c .before .before .before .before .before .before .no-station .result))) end)
 
 pub fresh-spec : {M : Type 1} → statement M
 fresh-spec =
@@ -78,7 +78,7 @@ fresh-spec =
     no-letter-requires
     keeps-sheet-rules-requires
     returns
-    stop-requires
+    down-station-requires
     loop-holds
     cast-at
     mul-stations

@@ -1,11 +1,12 @@
 use Rattle.state.proofs.well_formed.Statement.{statement}
 use Rattle.state.proofs.well_formed.Tie as tie
-use Prim.Native.Nat.{ℕ, _≤_, _<_, _-_, _+_}
+use Prim.Native.Nat.{ℕ, _≤_, _<_, _-_, _+_, _*_}
 use mathlib.Core.Bool.{Bool, true, false, _&&_}
 use mathlib.Core.Path.{_≡_, refl, sym, ap, ap₂, _∙_}
 use native.Mathlib.Omega.{arith}
 use borrow.Author.Needs.{needs}
 use mathlib.Core.List.{map}
+use lib.Dec.{eqb}
 use lib.ListN.{length, length-map}
 use Rattle.station.proofs.Station as StationType
 use Rattle.net.proofs.Letter as LetterType
@@ -15,7 +16,7 @@ use Rattle.net.specs.Values.{networkOf}
 use borrow.Author.Tests.{not-true, not-false}
 use Rattle.lists.proofs.Tests.{is-T}
 use Rattle.state.proofs.Places.{restAt}
-use Rattle.state.proofs.Tested.{upto-more, upto-none, frame-net, frame-few, letter-seen, StationSeen, LetterSeen, refused, frame-bad, station-bad, letter-bad, rest-none, rest-more, all-seen, seen-sized}
+use Rattle.state.proofs.Tested.{upto-more, upto-none, frame-net, frame-few, letter-seen, StationSeen, LetterSeen, refused, frame-bad, station-bad, letter-bad, rest-none, sum-zero, rest-more, all-seen, seen-sized}
 use Rattle.state.specs.State.{stationIn, letterIn, stationPlace, letterPlace, isNoLetter, Fits, Ends64}
 
 abbrev Inv-loop : tie.InvT-loop
@@ -31,10 +32,10 @@ abbrev μ-loop2 : tie.MeasureT-loop2
 μ-loop2 s net flying j₀ j = flying - j
 
 abbrev Inv-loop3 : tie.InvT-loop3
-Inv-loop3 s flying clean₀ j₀ clean j = (flying ≤ j) × (j ≤ 4096) × (clean ≡ every (restAt s flying) (below j))
+Inv-loop3 s flying rest₀ j₀ rest j = (flying ≤ j) × (j ≤ 4096) × (rest ≤ j * 17179869184) × (eqb rest 0 ≡ every (restAt s flying) (below j))
 
 abbrev μ-loop3 : tie.MeasureT-loop3
-μ-loop3 s flying clean₀ j₀ clean j = 4096 - j
+μ-loop3 s flying rest₀ j₀ rest j = 4096 - j
 
 stations-long : (c : tie.Start Inv-loop μ-loop Inv-loop2 μ-loop2 Inv-loop3 μ-loop3) → length (c .args .t1 .stations) ≡ 32
 stations-long c =
@@ -138,7 +139,7 @@ loop2-again c =
 loop3-holds : tie.Need-loop3-holds Inv-loop μ-loop Inv-loop2 μ-loop2 Inv-loop3 μ-loop3
 loop3-holds c =
     let s = c .before .before .before .before .before .before .before .args .t1 in
-    (omega arith, frame-few (s .net) (s .flying) _ (c .before .before .before .before .before .frame-holds .ensures) (not-false _ (c .before .before .before .before .if1 .left)), rest-none s)
+    (omega arith, frame-few (s .net) (s .flying) _ (c .before .before .before .before .before .frame-holds .ensures) (not-false _ (c .before .before .before .before .if1 .left)), omega arith, rest-none s)
 
 cast-at-3 : tie.Need-cast-at-3 Inv-loop μ-loop Inv-loop2 μ-loop2 Inv-loop3 μ-loop3
 cast-at-3 c = omega arith
@@ -150,9 +151,11 @@ element-copy-out-x-2 :
     tie.Need-element-copy-out-x-2 Inv-loop μ-loop Inv-loop2 μ-loop2 Inv-loop3 μ-loop3
 element-copy-out-x-2 c = omega arith
 
-still-zero-requires :
-    tie.Need-still-zero-requires Inv-loop μ-loop Inv-loop2 μ-loop2 Inv-loop3 μ-loop3
-still-zero-requires c κs = search needs
+word-of-requires : tie.Need-word-of-requires Inv-loop μ-loop Inv-loop2 μ-loop2 Inv-loop3 μ-loop3
+word-of-requires c κs = search needs
+
+add-rest : tie.Need-add-rest Inv-loop μ-loop Inv-loop2 μ-loop2 Inv-loop3 μ-loop3
+add-rest c = omega (arith, c .word-of .ensures .1)
 
 add-j-2 : tie.Need-add-j-2 Inv-loop μ-loop Inv-loop2 μ-loop2 Inv-loop3 μ-loop3
 add-j-2 c = omega arith
@@ -163,7 +166,12 @@ loop3-less c = omega arith
 loop3-again : tie.Need-loop3-again Inv-loop μ-loop Inv-loop2 μ-loop2 Inv-loop3 μ-loop3
 loop3-again c =
     let s = c .before .before .before .before .before .before .before .before .before .before .before .args .t1 in
-    (omega arith, omega arith, rest-more s _ _ (c .before .before .before .loop3 .j) (c .before .before .before .loop3 .inv .0) (c .before .before .before .loop3 .inv .2) (c .still-zero .ensures))
+    let l = c .before .before .before .loop3 in (
+      omega arith,
+      omega arith,
+      omega (arith, l .inv .2, c .word-of .ensures .1),
+      rest-more s _ _ (l .j) (l .inv .0) (l .inv .3) (sum-zero (l .rest) (c .word-of .result) _ (c .word-of .ensures .0)),
+    )
 
 returns-4 : tie.Need-returns-4 Inv-loop μ-loop Inv-loop2 μ-loop2 Inv-loop3 μ-loop3
 returns-4 c =
@@ -172,7 +180,7 @@ returns-4 c =
     let f : ((t : ℕ) → t < 32 → StationSeen s t) = λ t h. c .before .before .before .before .before .loop .inv .1 t (omega arith) in
     let g : ((t : ℕ) → t < s .flying → LetterSeen s t) = λ t h. c .before .before .before .loop2 .inv .1 t (omega arith) in
     let j : c .before .loop3 .j ≡ 4096 = omega arith in
-    let e = c .before .loop3 .inv .2 ∙ ap (λ (k : ℕ). every (restAt s (s .flying)) (below k)) j in
+    let e = c .before .loop3 .inv .3 ∙ ap (λ (k : ℕ). every (restAt s (s .flying)) (below k)) j in
     (all-seen s _ n f g e, seen-sized s _ n f g e (ends-long (c .before .before .before .before .before .before .before .before .before)) (stations-long (c .before .before .before .before .before .before .before .before .before)) (letters-long (c .before .before .before .before .before .before .before .before .before)))
 
 pub well-formed-spec : {M : Type 1} → statement M
@@ -212,7 +220,8 @@ well-formed-spec =
     cast-at-3
     mul-x-2
     element-copy-out-x-2
-    still-zero-requires
+    word-of-requires
+    add-rest
     add-j-2
     loop3-less
     loop3-again
