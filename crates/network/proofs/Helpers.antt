@@ -8,23 +8,9 @@ use borrow.Author.Tests.{eq-eqb, ne-eqb, lt-ltb, le-ltb, not-true, not-false}
 use Rattle.lists.specs.Lists.{if_then_else_}
 use Rattle.lists.proofs.Tests.{if-elim}
 use Rattle.net.specs.declared.Letter.{Letter}
-use Rattle.station.specs.Acts.{kindOf}
-use Rattle.world.specs.World.{Sort, act, delivery, loss, sortOf, noLetter}
-use Rattle.planning.specs.Plan.{takesAs}
+use Rattle.world.specs.World.{noLetter}
 use Rattle.concerning.specs.Concerned.{inRoom}
-use Rattle.network.specs.Parts.{placeBy, leftBy, numberBy}
-
-module _ (kind : ℕ) where
-  pub leaves-seven : kind ≡ 7 → true ≡ takesAs (sortOf kind)
-  leaves-seven e = sym (ap (λ (b : Bool). takesAs (if b then delivery else (if eqb kind 8 then loss else act (kindOf kind)))) (eq-eqb kind 7 e))
-
-  pub leaves-else : (kind ≡ 7 → ⊥) → eqb kind 8 ≡ takesAs (sortOf kind)
-  leaves-else n =
-      go (eqb kind 8) ∙ sym (ap (λ (b : Bool). takesAs (if b then delivery else (if eqb kind 8 then loss else act (kindOf kind)))) (ne-eqb kind 7 n))
-    where
-      go : (b : Bool) → b ≡ takesAs (if b then loss else act (kindOf kind))
-      go true = refl
-      go false = refl
+use Rattle.network.specs.Parts.{placeBy, fewerBy, numberBy}
 
 pub place-there : (a : ℕ) → a < 4096 → a ≡ placeBy a
 place-there a h = sym (ap (λ (b : Bool). if b then a else 0) (lt-ltb a 4096 h))
@@ -39,11 +25,11 @@ pub room-few : (n r : ℕ) → r ≡ inRoom n → r < 32
 room-few n r e = subst⁻¹ (λ (n : ℕ). n < 32) e (if-elim (λ (n : ℕ). n < 32) (ltb n 32) (λ t. ltb→lt n 32 t) (λ t. omega arith))
 
 module _ (leaves : Bool) where
-  pub left-all : (n : ℕ) → leaves ≡ false → n ≡ leftBy leaves n
-  left-all n e = sym (ap (λ (b : Bool). leftBy b n) e)
+  pub left-all : (n : ℕ) → leaves ≡ false → n ≡ fewerBy leaves n
+  left-all n e = sym (ap (λ (b : Bool). fewerBy b n) e)
 
-  pub left-less : (n r : ℕ) → leaves ≡ true → r ≡ n - 1 → r ≡ leftBy leaves n
-  left-less n r e h = h ∙ sym (ap (λ (b : Bool). leftBy b n) e)
+  pub left-less : (n r : ℕ) → leaves ≡ true → r ≡ n - 1 → r ≡ fewerBy leaves n
+  left-less n r e h = h ∙ sym (ap (λ (b : Bool). fewerBy b n) e)
 
   pub freed-is : (x : Letter) → leaves ≡ true → noLetter ≡ (if leaves then noLetter else x)
   freed-is x e = sym (ap (λ (b : Bool). if b then noLetter else x) e)

@@ -1,208 +1,225 @@
--- What the step knows before it changes anything: the plan that it made from the state is the world's. Assumes nothing.
-use Prim.Native.Nat.{ℕ, _+_, _-_, _≤_, _<_}
+-- What the step knows before it changes anything: what it looked at is what the event concerns, and the plan that it made is what the
+-- event comes to in the world. Made.antt goes on from there.
+use Prim.Native.Nat.{ℕ, _%_, _≤_, _<_}
 use mathlib.Core.Bool.{Bool, true, false, not, _&&_}
 use mathlib.Core.Path.{_≡_, refl, sym, ap, ap₂, _∙_, subst, subst⁻¹}
-use mathlib.Core.List.{List, [], _++_}
-use native.Mathlib.Decide.{decLt, ℕ-discrete}
+use native.Mathlib.Decide.{decLt}
+use native.Mathlib.Nat.{mod-eq-of-lt}
 use native.Mathlib.Omega.{arith}
-use borrow.Author.Tests.{eq-eqb, ne-eqb, lt-ltb, le-ltb, le-leb, lt-leb}
-use lib.Dec.{T, eqb, ltb, leb, ltb→lt}
-use lib.ListN.{length, getD, length-append, List·getD-eq-default}
+use borrow.Author.Tests.{lt-ltb}
+use lib.Dec.{T, ltb, ltb→lt}
+use lib.ListN.{length, getD, List·getD-eq-default}
 use Rattle.lists.specs.Lists.{if_then_else_}
-use Rattle.lists.specs.Places.{without}
-use Rattle.lists.proofs.Tests.{T-is, is-T, and-l}
-use Rattle.lists.proofs.Without.{length-without}
+use Rattle.lists.proofs.Tests.{T-is, is-T, T-not-is, and-l}
+use Rattle.net.specs.declared.Body.{Body}
+use Rattle.net.specs.declared.Body.the-variants.{Request, Reply, Notice}
 use Rattle.net.specs.declared.Letter.{Letter}
 use Rattle.net.specs.declared.Net.{Net}
 use Rattle.net.specs.Network.{Network}
-use Rattle.net.specs.Values.{networkOf}
+use Rattle.net.specs.Letters.{bodyHolds}
+use Rattle.net.specs.Values.{networkOf, linkCount}
+use Rattle.net.proofs.ValueLaws.{links-of}
+use Rattle.words.specs.Sets.{wordBy}
+use Rattle.marks.specs.Marks.{ownAt}
+use Rattle.station.specs.declared.Kind.{Kind}
+use Rattle.station.specs.declared.Kind.the-variants.{NoSuch, Start, Stop, Recovery, IntervalEnd, TimeoutEnd, QuietEnd, Delivery, Loss}
 use Rattle.station.specs.declared.Station.{Station}
 use Rattle.station.specs.Holding.{Holding}
-use Rattle.station.specs.Acts.{Done, Kind}
-use Rattle.station.specs.Values.{holdingOf, laid, lettersOf}
-use Rattle.world.specs.World.{World, Event, Sort, act, delivery, loss, sortOf, noLetter, holdingAt, letterAt, existsAs, exists, Change, change, after, fits, refusal, settled, raised, dropped, settledAs}
-use Rattle.world.proofs.Keeps.{Formed}
+use Rattle.station.specs.Acts.{subjectOf}
+use Rattle.station.specs.Events.{kindOf, takesLetter, Rule, ruleOf, Comes, comesTo}
+use Rattle.station.specs.Values.{holdingOf}
+use Rattle.station.proofs.Answers.{letter-link}
+use Rattle.station.proofs.Rules.{Names}
+use Rattle.station_plan.specs.declared.Plan.{Plan}
+use Rattle.station_plan.specs.Planned.{Acts, Planned, Like, Meant, EventPlans, roomOf, onLink}
+use Rattle.world.specs.World.{World, Event, noLetter, holdingAt, letterAt, existsAs, exists, concernedBy, concerned, rule, comes}
+use Rattle.world.proofs.There.{letter-there, station-there}
+use Rattle.world.proofs.Steps.{passes, absent-six}
+use Rattle.world.proofs.Keeps.{Formed, Posted, meant-posted, concerned-real, names}
 use Rattle.state.specs.declared.State.{State}
 use Rattle.state.specs.State.{stationIn, letterIn, worldOf, stateHolds, Sized}
 use Rattle.state.proofs.Meaning as M
-use Rattle.planning.specs.declared.Plan.{Plan}
-use Rattle.planning.specs.Plan.{doneIn, raisedIn, droppedIn, refusalIn, roomAs, leftAs, takesAs}
-use Rattle.planning.specs.Planned.{Plans}
-use Rattle.concerning.specs.Concerned.{concernedAs, inRoom}
-use Rattle.planning.proofs.Worlds as W
+use Rattle.concerning.specs.Concerned.{inRoom, linkBy}
 use Rattle.stepping.specs.Step.{event}
-use Rattle.network.specs.Parts.{placeBy, leftBy, numberBy}
+use Rattle.network.specs.Parts.{placeBy}
 
--- ---- how many letters are left
-left-length : (x : Sort) (a : ℕ) (xs : List Letter) → (takesAs x ≡ true → a < length xs) → length (leftAs x a xs) ≡ leftBy (takesAs x) (length xs)
-left-length (act k) a xs h = refl
-left-length delivery a xs h = omega (arith, length-without a xs (h refl))
-left-length loss a xs h = omega (arith, length-without a xs (h refl))
+-- ---- by the kind of the event
+-- the link that it names is there
+link-few : (net : Network) (s : ℕ) (e : Kind) (b : ℕ) (x : Letter) → Names net s e b x → T (onLink e) → linkBy e b x < length (net .links)
+link-few net s NoSuch b x n t = absurd t
+link-few net s Start b x n t = absurd t
+link-few net s Stop b x n t = absurd t
+link-few net s Recovery b x n t = absurd t
+link-few net s IntervalEnd b x n t = n .0
+link-few net s TimeoutEnd b x n t = n .0
+link-few net s QuietEnd b x n t = n .0
+link-few net s Delivery b x n t = letter-link net x (n .0)
+link-few net s Loss b x n t = absurd t
 
-module _ (s : State) (z : Sized s) (t : T (stateHolds s)) (kind a b : ℕ) where
+-- and only that link matters to its rule
+rule-link : (net : Network) (s : ℕ) (e : Kind) (k b : ℕ) (x : Letter) (h : Holding) → (T (onLink e) → k ≡ linkBy e b x) → ruleOf net s e k x h ≡ ruleOf net s e b x h
+rule-link net s NoSuch k b x h f = refl
+rule-link net s Start k b x h f = refl
+rule-link net s Stop k b x h f = refl
+rule-link net s Recovery k b x h f = refl
+rule-link net s IntervalEnd k b x h f = ap (λ (i : ℕ). ruleOf net s IntervalEnd i x h) (f tt)
+rule-link net s TimeoutEnd k b x h f = ap (λ (i : ℕ). ruleOf net s TimeoutEnd i x h) (f tt)
+rule-link net s QuietEnd k b x h f = ap (λ (i : ℕ). ruleOf net s QuietEnd i x h) (f tt)
+rule-link net s Delivery k b x h f = refl
+rule-link net s Loss k b x h f = refl
+
+-- a letter that may travel tells of a link that is there
+subject-few : (net : Network) (b : Body) → T (bodyHolds net b) → 0 < length (net .links) → subjectOf b < length (net .links)
+subject-few net Request t z = z
+subject-few net (Reply c) t z = z
+subject-few net (Notice j c) t z = ltb→lt j _ (and-l (ltb j (length (net .links))) _ t)
+
+-- ---- what the code looked at, and the plan
+pub record Seen (s : State) (kind a b place me : ℕ) (named : Bool) (k about own : ℕ) (p : Plan) : Type 0 where
+  pub sized : Sized s
+  pub holds : T (stateHolds s)
+  pub at : place ≡ placeBy a
+  pub who : me ≡ inRoom (concernedBy (kindOf kind) (networkOf (s .net)) a (letterIn s place))
+  pub names : named ≡ existsAs (kindOf kind) (networkOf (s .net)) (s .flying) a b
+  pub link : k ≡ linkBy (kindOf kind) b (letterIn s place) % 64
+  pub subject : about ≡ subjectOf (letterIn s place .body) % 64
+  pub mine : own ≡ wordBy (ownAt (s .net) me)
+  pub plans : EventPlans named (kindOf kind) own me k (letterIn s place) (getD (stationIn s me .counters) k 0) (getD (stationIn s me .counters) about 0)
+      (stationIn s me .condition) (stationIn s me .marks) p
+
+module _ {s : State} {kind a b place me : ℕ} {named : Bool} {k about own : ℕ} {p : Plan} (f : Seen s kind a b place me named k about own p) where
   abbrev pub w : World
   w = worldOf s
 
-  abbrev pub e : Event
-  e = event kind a b
+  abbrev pub E : Event
+  E = event kind a b
 
-  abbrev pub X : Sort
-  X = sortOf kind
+  abbrev pub K : Kind
+  K = kindOf kind
+
+  abbrev pub st : Station
+  st = stationIn s me
+
+  abbrev x : Letter
+  x = letterIn s place
+
+  abbrev H : Holding
+  H = holdingOf (s .net) st
 
   pub ok : Formed w
-  ok = M.world-formed s z t
+  ok = M.world-formed s (f .sized) (f .holds)
 
   net-is : w .net ≡ networkOf (s .net)
-  net-is = M.net-is s z t
+  net-is = M.net-is s (f .sized) (f .holds)
 
-  -- a letter that is taken is there
-  taken-as : (x : Sort) → T (existsAs x w a b) → takesAs x ≡ true → a < length (w .letters)
-  taken-as (act k) h l = absurd (subst (λ (c : Bool). T (not c)) l tt)
-  taken-as delivery h l = ltb→lt a _ (and-l (ltb a (length (w .letters))) _ h)
-  taken-as loss h l = ltb→lt a _ (and-l (ltb a (length (w .letters))) _ h)
+  links-are : length (w .net .links) ≡ linkCount (s .net)
+  links-are = ap (λ (n : Network). length (n .links)) net-is ∙ links-of (s .net)
 
-  pub taken-there : T (exists w e) → takesAs X ≡ true → a < length (w .letters)
+  stations-are : (w .net .stations ≡ s .net .stations) × (s .net .stations ≤ 32)
+  stations-are = (ap (λ (n : Network). n .stations) net-is ∙ M.count-is s (f .sized) (f .holds), M.few s (f .sized) (f .holds))
+
+  named-is : named ≡ exists w E
   unfolding exists
-  taken-there h = taken-as X h
+  named-is = f .names ∙ ap₂ (λ (n : Network) (m : ℕ). existsAs K n m a b) (sym net-is) (sym (M.world-flying s (f .sized) (f .holds)))
 
-  -- a is a station's or a letter's number
-  few-as : (x : Sort) → concernedAs x (w .net) a (letterAt w a) < w .net .stations → T (existsAs x w a b) → a < 4096
-  few-as (act k) r h = omega (arith, r, M.count-is s z t, M.few s z t, ap (λ (n : Network). n .stations) net-is)
-  few-as delivery r h = omega (arith, taken-as delivery h refl, ok .room)
-  few-as loss r h = omega (arith, taken-as loss h refl, ok .room)
-
-  pub few-a : T (exists w e) → a < 4096
-  unfolding exists
-  few-a h = few-as X (W.place-real w e ok h) h
-
-  letter-is : a < 4096 → letterIn s a ≡ letterAt w a
-  letter-is h = go (decLt a (s .flying))
-    where
-      go : Dec (a < s .flying) → letterIn s a ≡ letterAt w a
-      go (yes l) = sym (M.world-letter s z t a l)
-      go (no l) = M.letter-unused s z t a (omega arith) h ∙ sym (List·getD-eq-default (w .letters) noLetter {n = a} (omega (arith, M.world-flying s z t, l)))
-
-  -- ---- the station and the letter that the code looked at
-  module _ (place me : ℕ) (pe : place ≡ placeBy a) (ne : me ≡ inRoom (concernedAs X (networkOf (s .net)) a (letterIn s place))) where
-    abbrev pub x : Letter
-    x = letterIn s place
-
-    abbrev pub h : Holding
-    h = holdingOf (s .net) (stationIn s me)
-
-    pub place-is : T (exists w e) → place ≡ a
-    place-is q = pe ∙ ap (λ (c : Bool). if c then a else 0) (lt-ltb a 4096 (few-a q))
-
-    x-is : T (exists w e) → x ≡ W.meant w e
-    x-is q = ap (letterIn s) (place-is q) ∙ letter-is (few-a q)
-
-    pub me-is : T (exists w e) → me ≡ W.place w e
-    me-is q =
-        ne ∙ ap₂ (λ (n : Network) (l : Letter). inRoom (concernedAs X n a l)) (sym net-is) (x-is q) ∙ W.place-in-room w e ok q
-
-    pub me-real : T (exists w e) → me < s .net .stations
-    me-real q =
-        subst (λ (n : ℕ). me < n) (ap (λ (n : Network). n .stations) net-is ∙ M.count-is s z t)
-        (subst⁻¹ (λ (n : ℕ). n < w .net .stations) (me-is q) (W.place-real w e ok q))
-
-    pub h-is : T (exists w e) → h ≡ W.held w e
-    h-is q = sym (M.world-holding s z t me (me-real q)) ∙ ap (holdingAt w) (me-is q)
-
-    seen : exists w e ≡ true → (me ≡ W.place w e) × ((x ≡ W.meant w e) × (h ≡ W.held w e))
-    seen q = let p = is-T _ q in (me-is p, (x-is p, h-is p))
-
-    -- ---- the plan
-    abbrev number : ℕ
-    number = refusalIn X (networkOf (s .net)) (s .flying) a b me x h
-
-    pub number-is : number ≡ W.number w e
-    number-is =
-        ap₂ (λ (n : Network) (k : ℕ). refusalIn X n k a b me x h) (sym net-is) (sym (M.world-flying s z t)) ∙ W.number-at w e me x h seen
-
-    there : W.number w e ≡ 0 → T (exists w e)
-    there q = go (exists w e) refl
+  -- ---- where there is what the event names
+  module _ (q : T (exists w E)) where
+    pub few-a : a < 4096
+    few-a = go (takesLetter K) refl
       where
-        six : exists w e ≡ false → ⊥
-        six p = let n : W.number w e ≡ 6 = W.number-none w e (W.place w e) (W.meant w e) (W.held w e) p in omega (arith, n, q)
+        go : (t : Bool) → takesLetter K ≡ t → a < 4096
+        go true e = omega (arith, letter-there w E (subst⁻¹ T e tt) q, ok .room)
+        go false e = omega (arith, station-there w E (subst⁻¹ (λ (t : Bool). T (not t)) e tt) q, stations-are .0, stations-are .1)
 
-        go : (c : Bool) → exists w e ≡ c → T (exists w e)
-        go true p = is-T _ p
-        go false p = absurd (six p)
+    pub place-is : place ≡ a
+    place-is = f .at ∙ ap (λ (c : Bool). if c then a else 0) (lt-ltb a 4096 few-a)
 
-    done-is : T (exists w e) → doneIn (networkOf (s .net)) me X b x h ≡ W.doneAt w e
-    done-is q =
-        ap₂ (λ (n : Network) (k : ℕ). doneIn n k X b x h) (sym net-is) (me-is q)
-        ∙ ap₂ (λ (l : Letter) (g : Holding). doneIn (w .net) (W.place w e) X b l g) (x-is q) (h-is q)
+    pub letter-is : x ≡ letterAt w a
+    letter-is = ap (letterIn s) place-is ∙ go (decLt a (s .flying))
+      where
+        go : Dec (a < s .flying) → letterIn s a ≡ letterAt w a
+        go (yes l) = sym (M.world-letter s (f .sized) (f .holds) a l)
+        go (no l) =
+            M.letter-unused s (f .sized) (f .holds) a (omega arith) few-a
+            ∙ sym (List·getD-eq-default (w .letters) noLetter {n = a} (omega (arith, M.world-flying s (f .sized) (f .holds), l)))
 
-    module _ (p : Plan) (pl : Plans (s .net) (s .flying) X a b me x (stationIn s me) p) where
-      planned : p .answer ≡ W.number w e
-      planned = pl .answer ∙ number-is
+    pub me-is : me ≡ concerned w E
+    unfolding concerned
+    me-is =
+        f .who ∙ ap₂ (λ (n : Network) (l : Letter). inRoom (concernedBy K n a l)) (sym net-is) letter-is
+        ∙ ap (λ (c : Bool). if c then concernedBy K (w .net) a (letterAt w a) else 0)
+        (lt-ltb (concernedBy K (w .net) a (letterAt w a)) 32 (omega (arith, concerned-real w ok E q, stations-are .0, stations-are .1)))
 
-      -- where the plan refuses nothing
-      module _ (q : W.number w e ≡ 0) where
-        zero : eqb number 0 ≡ true
-        zero = eq-eqb number 0 (number-is ∙ q)
+    pub me-real : me < s .net .stations
+    me-real = omega (arith, me-is, concerned-real w ok E q, stations-are .0)
 
-        pub event-there : T (exists w e)
-        event-there = there q
+    held-is : H ≡ holdingAt w (concerned w E)
+    held-is = sym (M.world-holding s (f .sized) (f .holds) me me-real) ∙ ap (holdingAt w) me-is
 
-        pub sent-is : lettersOf me (p .send) ≡ W.doneAt w e .sent
-        sent-is =
-            pl .sent ∙ ap (λ (c : Bool). if c then doneIn (networkOf (s .net)) me X b x h .sent else []) zero
-            ∙ ap (λ (d : Done). d .sent) (done-is event-there)
+    -- ---- the link and the subject
+    mod-few : (n : ℕ) → n < length (w .net .links) → n % 64 ≡ n
+    mod-few n h = mod-eq-of-lt (omega (arith, h, links-are))
 
-        pub station-is : p .station ≡ laid (s .net) (roomAs X (stationIn s me)) (W.doneAt w e .holding)
-        station-is =
-            pl .station ∙ ap (λ (c : Bool). if c then laid (s .net) (roomAs X (stationIn s me)) (doneIn (networkOf (s .net)) me X b x h .holding) else stationIn s me) zero
-            ∙ ap (λ (d : Done). laid (s .net) (roomAs X (stationIn s me)) (d .holding)) (done-is event-there)
+    link-there : T (onLink K) → linkBy K b x < length (w .net .links)
+    link-there t =
+        subst⁻¹ (λ (l : Letter). linkBy K b l < length (w .net .links)) letter-is
+        (link-few (w .net) (concerned w E) K b (letterAt w a) (names w ok E q) t)
 
-        pub settled-is : p .settled ≡ settled w e
-        settled-is =
-            pl .settled ∙ ap (λ (c : Bool). if c then settledAs X x else 0) zero ∙ ap (settledAs X) (x-is event-there) ∙ sym (W.settled-is w e)
+    link-is : T (onLink K) → k ≡ linkBy K b x
+    link-is t = f .link ∙ mod-few (linkBy K b x) (link-there t)
 
-        pub dropped-is : p .dropped ≡ dropped w e
-        dropped-is =
-            pl .dropped ∙ ap (λ (c : Bool). if c then droppedIn (networkOf (s .net)) me X x h else 0) zero
-            ∙ ap₂ (λ (n : Network) (k : ℕ). droppedIn n k X x h) (sym net-is) (me-is event-there)
-            ∙ ap₂ (λ (l : Letter) (g : Holding). droppedIn (w .net) (W.place w e) X l g) (x-is event-there) (h-is event-there) ∙ sym (W.dropped-is w e)
+    posted : T (takesLetter K) → Posted w x
+    posted t = subst⁻¹ (Posted w) letter-is (meant-posted w ok E q t)
 
-        pub raised-is : refusal w e ≡ 0 → p .raised ≡ raised w e
-        raised-is r =
-            pl .raised ∙ ap (λ (c : Bool). if c then raisedIn (networkOf (s .net)) me X b x h else 0) zero
-            ∙ ap₂ (λ (n : Network) (k : ℕ). raisedIn n k X b x h) (sym net-is) (me-is event-there)
-            ∙ ap₂ (λ (l : Letter) (g : Holding). raisedIn (w .net) (W.place w e) X b l g) (x-is event-there) (h-is event-there) ∙ sym (W.raised-by w e ok r)
+    meant : Meant (s .net) st K k x (getD (st .counters) about 0)
+    meant = record {
+      link = λ t. omega (arith, link-is t, link-there t, links-are);
+      letter = λ t.
+          sym (f .link ∙ ap (λ (c : Bool). (if c then x .link else b) % 64) (T-is (takesLetter K) t) ∙ mod-few (x .link) (posted t .link));
+      subject = λ t. omega (arith, subject-there t, links-are);
+      tells = λ t. ap (λ (i : ℕ). getD (st .counters) i 0) (f .subject ∙ mod-few (subjectOf (x .body)) (subject-there t));
+    }
+      where
+        subject-there : T (takesLetter K) → subjectOf (x .body) < length (w .net .links)
+        subject-there t = let o = posted t .link in subject-few (w .net) (x .body) (posted t .body) (omega arith)
 
-      -- ---- the number
-      module _ (count left answer : ℕ) (leaves : Bool) (ce : count ≡ length (lettersOf me (p .send))) (le : leaves ≡ takesAs X)
-          (fe : left ≡ leftBy leaves (s .flying)) (ae : answer ≡ numberBy (p .answer) left count) where
-        pub left-is : W.number w e ≡ 0 → length (leftAs X a (w .letters)) ≡ left
-        left-is q =
-            left-length X a (w .letters) (taken-there (there q))
-            ∙ ap₂ (λ (c : Bool) (n : ℕ). leftBy c n) (sym le) (M.world-flying s z t) ∙ sym fe
+    -- ---- what it comes to
+    rule-is : ruleOf (networkOf (s .net)) me K k x H ≡ rule w E
+    unfolding rule
+    rule-is =
+        rule-link (networkOf (s .net)) me K k b x H link-is
+        ∙ ap₂ (λ (n : Network) (i : ℕ). ruleOf n i K b x H) (sym net-is) me-is
+        ∙ ap₂ (λ (l : Letter) (h : Holding). ruleOf (w .net) (concerned w E) K b l h) letter-is held-is
 
-        pub after-length : W.number w e ≡ 0 → length (after w e .letters) ≡ left + count
-        after-length q =
-            ap (λ (c : Change). length (c .left ++ c .sent)) (W.change-is w e)
-            ∙ length-append (leftAs X a (w .letters)) (W.doneAt w e .sent)
-            ∙ ap₂ (λ (m n : ℕ). m + n) (left-is q) (sym (ce ∙ ap length (sent-is q)))
+    comes-is : comesTo named (ruleOf (networkOf (s .net)) me K k x H) H ≡ comes w E
+    unfolding comes
+    comes-is =
+        ap (λ (c : Bool). comesTo c (ruleOf (networkOf (s .net)) me K k x H) H) named-is
+        ∙ ap₂ (λ (r : Rule) (h : Holding). comesTo (exists w E) r h) rule-is held-is
 
-        fitting : W.number w e ≡ 0 → _≡_ {A = ℕ} (if ltb 4096 (left + count) then 9 else 0) (if not (fits w e) then 9 else 0)
-        unfolding fits
-        fitting q = by (decLt 4096 (left + count)) ∙ ap {B = ℕ} (λ (n : ℕ). if not (leb n 4096) then 9 else 0) (sym (after-length q))
-          where
-            by : Dec (4096 < left + count) → _≡_ {A = ℕ} (if ltb 4096 (left + count) then 9 else 0) (if not (leb (left + count) 4096) then 9 else 0)
-            by (yes d) = ap {B = ℕ} (λ (c : Bool). if c then 9 else 0) (lt-ltb 4096 (left + count) d) ∙ sym (ap {B = ℕ} (λ (c : Bool). if not c then 9 else 0) (lt-leb (left + count) 4096 d))
-            by (no d) =
-                let f : left + count ≤ 4096 = omega arith in
-                ap {B = ℕ} (λ (c : Bool). if c then 9 else 0) (le-ltb 4096 (left + count) f) ∙ sym (ap {B = ℕ} (λ (c : Bool). if not c then 9 else 0) (le-leb (left + count) 4096 f))
+  -- ---- the plan is the world's
+  planned : (i : me < 32) → Planned (s .net) me st (roomOf K st) (comesTo named (ruleOf (networkOf (s .net)) me K k x H) H) p
+  planned i =
+      f .plans (s .net) st (record { condition = refl; words = refl; size = f .sized .each me i .counters }) (f .mine) refl
+      (λ t. meant (subst T named-is t))
 
-        pub answer-is : answer ≡ refusal w e
-        answer-is = go (ℕ-discrete (W.number w e) 0)
-          where
-            go : Dec (W.number w e ≡ 0) → answer ≡ refusal w e
-            go (yes q) =
-                ae ∙ ap (λ (c : Bool). if c then (if ltb 4096 (left + count) then 9 else 0) else p .answer) (eq-eqb (p .answer) 0 (planned ∙ q))
-                ∙ fitting q ∙ sym (W.refusal-last w e q)
-            go (no n) =
-                ae ∙ ap (λ (c : Bool). if c then (if ltb 4096 (left + count) then 9 else 0) else p .answer) (ne-eqb (p .answer) 0 (λ (q : p .answer ≡ 0). n (sym planned ∙ q)))
-                ∙ planned ∙ sym (W.refusal-first w e n)
+  abbrev six : Comes → ℕ
+  six c = c .number
+
+  pub number-is : me < 32 → p .answer ≡ comes w E .number
+  unfolding comesTo
+  number-is i = go (exists w E) refl
+    where
+      go : (c : Bool) → exists w E ≡ c → p .answer ≡ comes w E .number
+      go true e = planned i .answer ∙ ap (λ (y : Comes). y .number) (comes-is (is-T _ e))
+      go false e =
+          planned i .answer ∙ ap (λ (c : Bool). comesTo c (ruleOf (networkOf (s .net)) me K k x H) H .number) (named-is ∙ e)
+          ∙ sym (ap (λ (y : Comes). y .number) (absent-six w E (subst⁻¹ (λ (t : Bool). T (not t)) e tt)))
+
+  -- where the plan refuses nothing
+  module _ (i : me < 32) (z : comes w E .number ≡ 0) where
+    pub there : T (exists w E)
+    there = passes w E z .exists
+
+    pub acts : Acts (s .net) me st (roomOf K st) (comes w E .done) (comes w E .counts) p
+    acts = subst (λ (y : Comes). Planned (s .net) me st (roomOf K st) y p) (comes-is there) (planned i) .done z

@@ -1,28 +1,20 @@
 // The network's step: one call takes the whole state and one event, and hands back the whole state after it, or the same
-// state and the number that says no. Only `step` itself holds a state: no helper takes or returns one, nor the letters' room.
+// state and the number that says no. Only `step` itself holds a state: no helper takes or returns one, nor the letters' room. The
+// station that the event concerns is copied once out of the state and stored once into it.
 ghost use mathlib.Core.Path.{_≡_};
 ghost use mathlib.Core.Bool.{Bool};
 ghost use Prim.Native.Nat.{_+_, _-_};
 ghost use lib.Dec.{ltb, eqb};
 ghost use Rattle.lists.specs.Lists.{if_then_else_};
-ghost use Rattle.world.specs.World.{sortOf, noLetter};
-ghost use Rattle.planning.specs.Plan.{takesAs};
+ghost use Rattle.world.specs.World.{noLetter};
 ghost use Rattle.stepping.specs.Step.{steppedOf};
-ghost use Rattle.network.specs.Parts.{placeBy, leftBy, numberBy};
+ghost use Rattle.network.specs.Parts.{placeBy, fewerBy, numberBy};
 use net::Body;
 use net::Letter;
 use state::State;
+use station::Station;
 use stepping::Stepped;
-
-// Whether an event of this kind takes a letter off the list.
-fn takes_letter(kind: u32) -> bool
-    ensures { λ r. ⌜ r ≡ takesAs (sortOf kind) ⌝ }
-{
-    if kind == 7 {
-        return true;
-    }
-    kind == 8
-}
+use tally::Tally;
 
 // The place of the letter that a names, where there is one; the event may mean none.
 fn place_of(a: u32) -> usize
@@ -33,7 +25,7 @@ fn place_of(a: u32) -> usize
 
 // How many letters are left of those in flight.
 fn left_of(leaves: bool, flying: u16) -> u16
-    ensures { λ r. ⌜ r ≡ leftBy leaves flying ⌝ }
+    ensures { λ r. ⌜ r ≡ fewerBy leaves flying ⌝ }
 {
     if !leaves {
         return flying;
@@ -82,37 +74,72 @@ pub fn step(mut s: State, kind: u32, a: u32, b: u32) -> Stepped
     if !state::well_formed(s) {
         return Stepped {
             answer: 11,
-            settled: 0,
-            raised: 0,
-            dropped: 0,
+            counts: Tally {
+                settled: 0,
+                raised: 0,
+                dropped: 0,
+            },
             state: s,
         };
     }
     let net = s.net;
     let flying = s.flying;
+    let what = station::kind_of(kind);
+    // what the event names
     let place = place_of(a);
     let x = s.letters[place];
-    let me = concerning::concerned(net, kind, a, x);
+    let me = concerning::concerned(net, what, a, x);
+    let named = concerning::there(net, flying, what, a, b);
+    let k = concerning::link_of(what, b, x);
+    let about = concerning::subject_of(x);
+    // what it comes to at the station that it concerns
+    let own = marks::own_links(net, me);
     let who = me as usize;
     let st = s.stations[who];
-    let plan = planning::plan_event(net, flying, kind, a, b, me, x, st);
-    let send = plan.send;
-    let count = letter_count::count(send);
-    let leaves = takes_letter(kind);
+    let condition = st.condition;
+    let table = st.counters;
+    let marks = st.marks;
+    let on = k as usize;
+    let of = about as usize;
+    let plan = planning::plan_event(
+        named,
+        what,
+        own,
+        me,
+        k,
+        x,
+        table[on],
+        table[of],
+        condition,
+        marks,
+    );
+    let told = carrying::told_table(plan.sets, plan.at, plan.counter, table);
+    let sends = plan.sends;
+    let send = carrying::narrow(plan.knows, net.links, told, sends);
+    let count = posting::count(send);
+    let leaves = concerning::takes_letter(what);
     let left = left_of(leaves, flying);
     let answer = number_of(plan.answer, left, count);
     if answer != 0 {
         return Stepped {
             answer,
-            settled: 0,
-            raised: 0,
-            dropped: 0,
+            counts: Tally {
+                settled: 0,
+                raised: 0,
+                dropped: 0,
+            },
             state: s,
         };
     }
-    // from here on the step changes its own copy of the state, in place
-    let after = plan.station;
-    s.stations[who] = after;
+    // from here on the step changes its own copy of the state, in place; what is told is told as it was before the purge
+    let kept = carrying::kept_table(net, me, plan.resets, plan.purges, told);
+    let turned = plan.condition;
+    let marked = plan.marks;
+    s.stations[who] = Station {
+        condition: turned,
+        counters: kept,
+        marks: marked,
+    };
     // the later letters close up
     let last = left as usize;
     let from = pick(leaves, place, last);
@@ -126,18 +153,18 @@ pub fn step(mut s: State, kind: u32, a: u32, b: u32) -> Stepped
     s.letters[free] = unused;
     // new letters go to the end
     let mut post = posting::begun(send);
-    for k in 0..count {
-        let at = last + k as usize;
-        let y = posting::first(post, me);
+    for i in 0..count {
+        let at = last + i as usize;
+        let subject = posting::subject(post) as usize;
+        let y = posting::first(post, me, told[subject]);
         s.letters[at] = y;
         post = posting::rest(post);
     }
     s.flying = left + count;
+    let counts = plan.counts;
     Stepped {
         answer: 0,
-        settled: plan.settled,
-        raised: plan.raised,
-        dropped: plan.dropped,
+        counts,
         state: s,
     }
 }
