@@ -1,4 +1,5 @@
 pub mod Settling
 pub mod FloodDiesOut
 pub mod Merging
+pub mod Relaying
 pub mod Line

@@ -1,3 +1,4 @@
 pub mod Flood
 pub mod Bound
+pub mod Merge
 pub mod Relay
