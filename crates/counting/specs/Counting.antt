@@ -5,6 +5,6 @@ use Rattle.tally.specs.declared.Tally.{Tally}
 use Rattle.tally.specs.Sums.{tallied}
 use Rattle.stepping.specs.declared.Stepped.{Stepped}
 
--- accepted (0): the three numbers of the event are added, each count staying at its largest value. Refused: the tally as it was
+-- accepted (0): the counts of the event are added, each staying at its largest value. Refused: the tally as it was
 abbrev pub talliedBy : Stepped → Tally → Tally
-talliedBy r t = if eqb (r .answer) 0 then tallied t (r .settled) (r .raised) (r .dropped) else t
+talliedBy r t = if eqb (r .answer) 0 then tallied t (r .counts) else t

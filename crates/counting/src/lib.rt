@@ -6,12 +6,12 @@ use state::State;
 use stepping::Stepped;
 use tally::Tally;
 
-// One event, and a tally that is lent to be added to. A refusal touches no tally: a step that says no has three zeros, and
+// One event, and a tally that is lent to be added to. A refusal touches no tally: a step that says no counts nothing, and
 // a count of 64 bits with zero more is the same count.
 pub fn step_counted(t: &mut Tally, s: State, kind: u32, a: u32, b: u32) -> Stepped
     ensures { λ r. ⌜ (r ≡ steppedOf s kind a b) × (now (t .exit) ≡ talliedBy (steppedOf s kind a b) (now (t .entry))) ⌝ }
 {
     let r = network::step(s, kind, a, b);
-    tally::add(t, r.settled, r.raised, r.dropped);
+    tally::add(t, r.counts);
     r
 }

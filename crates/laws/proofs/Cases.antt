@@ -3,7 +3,7 @@
 -- sides. Assumes nothing.
 use Prim.Native.Nat.{ℕ, _+_}
 use mathlib.Core.Bool.{Bool, true, false}
-use mathlib.Core.Path.{_≡_, refl}
+use mathlib.Core.Path.{_≡_, refl, ap₂}
 use mathlib.Core.List.{List, [], _∷_, _++_, map}
 use lib.Dec.{T}
 use lib.ListN.{length, replicate}
@@ -15,16 +15,19 @@ use Rattle.sheet.specs.Sheet.{Sheet, refused, sheet, opened, judged, readLinks,
 use Rattle.net.specs.declared.Body.{Body}
 use Rattle.net.specs.declared.Body.the-variants.{Request, Reply, Notice}
 use Rattle.net.specs.declared.Letter.{Letter}
-use Rattle.net.specs.Network.{Network, sheetHolds}
+use Rattle.net.specs.Network.{Network}
+use Rattle.sheet_rules.proofs.Examples.{line-of-three}
 use Rattle.net.specs.Letters.{letterHolds}
-use Rattle.counters.specs.Counters.{healed}
+use Rattle.counters.specs.Counters.{healed, healing}
 use Rattle.reach.specs.Reach.{spread, within, reach, purge, report}
 use Rattle.reach.proofs.Cases.{Case}
 use Rattle.station.specs.declared.Condition.the-variants.{Live}
 use Rattle.station.specs.Holding.{Holding, noMarks, setToken, setTesting, holdingHolds}
-use Rattle.station.specs.Acts.{letter, openLinks, openBut, known, knownBut, started, stopped, recovered, interval, timeout, onRequest, onReply, overflows, onNotice, received}
+use Rattle.station.specs.Acts.{letter, openLinks, known, started, stopped, recovered, interval, timeout, answer, effectOn, received}
+use Rattle.station.specs.Events.{comesTo}
 use Rattle.station.proofs.Cases.{bodyNumbers, letterNumbers}
-use Rattle.world.specs.World.{World, Event, holdingAt, heard, exists, allowed, letterOver, over, change, fits, refusal, step, wellFormed, fresh, settled, askRefusal, reportAt, reachAt}
+use Rattle.world.specs.World.{World, Event, holdingAt, exists, concerned, rule, comes, left, after, fits, refusal, step}
+use Rattle.world.specs.World.{wellFormed, fresh, settled, askRefusal, reportAt, reachAt}
 use Rattle.world.specs.History.{ifTaken, next, run, total, everSettled}
 use Rattle.laws.specs.Flood.{onlyNotices, highest, distance, share, bound}
 
@@ -66,7 +69,7 @@ middle h xs = record { net = line; holdings = live false 1 1 ∷ h ∷ live fals
 -- 1 if the world before is well formed; the answer; the counters of station 1 after the event; then the letters in flight, each
 -- as link, sender, tag and what it carries
 seen : World → Event → List ℕ
-unfolding wellFormed sheetHolds holdingHolds letterHolds refusal exists allowed over letterOver heard fits change step timeout onRequest onReply onNotice overflows received healed openLinks openBut known knownBut purge reach within spread letterNumbers bodyNumbers
+unfolding wellFormed holdingHolds letterHolds refusal exists concerned rule comes comesTo left after fits step answer timeout effectOn received healed healing openLinks known purge reach within spread letterNumbers bodyNumbers
 seen w e = bit (wellFormed w) ∷ refusal w e ∷ (holdingAt (next w e) 1 .table ++ letterNumbers (next w e .letters))
 
 -- station 1 times out on link 0, on which it tests
@@ -105,7 +108,7 @@ flood = event 7 0 0 ∷ event 7 0 0 ∷ []
 -- 1 if well formed; 1 if the run is made only of notices; the bound; how many are settled; letters in flight at the end; then
 -- every table at the end
 floods : List ℕ
-unfolding flooded flood line live event wellFormed sheetHolds holdingHolds letterHolds refusal exists allowed over letterOver heard fits change step onNotice received openBut run total settled onlyNotices highest distance share bound
+unfolding flooded flood line live event wellFormed holdingHolds letterHolds refusal exists concerned rule comes comesTo left after fits step answer effectOn received openLinks run total onlyNotices highest distance share bound
 floods =
     bit (wellFormed flooded) ∷ bit (onlyNotices flooded flood) ∷ bound flooded ∷ everSettled flooded flood ∷ length (run flooded flood .letters)
     ∷ collect (λ s. holdingAt (run flooded flood) s .table) (below 3)
@@ -113,7 +116,7 @@ floods =
 -- ---- document 01's own run: for each event the answer, letters in flight, notices settled so far; at the end each station's
 -- number and counters
 lines : ℕ → World → List Event → List ℕ
-unfolding refusal exists allowed over letterOver heard fits change step settled started stopped recovered interval onRequest onReply overflows received onNotice healed openLinks openBut known knownBut purge reach within spread
+unfolding refusal exists concerned rule comes comesTo left after fits step started stopped recovered interval answer effectOn received healed healing openLinks known purge reach within spread
 lines n w [] = collect (λ s. s ∷ holdingAt w s .table) (below (w .net .stations))
 lines n w (e ∷ es) =
     let m = n + ifTaken (step w e) (settled w e) in
@@ -126,9 +129,9 @@ sampleRun =
     (event 1 0 0 ∷ event 1 1 0 ∷ event 3 0 0 ∷ event 3 1 0 ∷ event 7 0 0 ∷ event 7 0 0 ∷ event 7 0 0 ∷ event 7 0 0 ∷ event 7 0 0 ∷ [])
 
 -- ---- the table; 0 is the sample run
-pub table : List Case
-unfolding reads stations link last sampleRun timesOut gets reports reaches floods
-table =
+reading : List Case
+unfolding reads stations link last sampleRun
+reading =
     record {
       number = 0;
       got = sampleRun;
@@ -146,8 +149,13 @@ table =
     -- P5 32 stations taken, 33: 3
     ∷ record { number = 5; got = reads (stations 32 ++ last); want = 0 ∷ 32 ∷ 0 ∷ [] }
     ∷ record { number = 5; got = reads (stations 33 ++ last); want = 3 ∷ [] }
+    ∷ []
+
+standing : List Case
+unfolding timesOut gets reports reaches floods
+standing =
     -- P6 timeout at counter 2: 3, told on the other link; at 3: stays 3
-    ∷ record { number = 6; got = timesOut 2 4; want = 1 ∷ 0 ∷ 3 ∷ 4 ∷ (1 ∷ 1 ∷ 35 ∷ 0 ∷ 3 ∷ []) }
+    record { number = 6; got = timesOut 2 4; want = 1 ∷ 0 ∷ 3 ∷ 4 ∷ (1 ∷ 1 ∷ 35 ∷ 0 ∷ 3 ∷ []) }
     ∷ record { number = 6; got = timesOut 3 4; want = 1 ∷ 0 ∷ 3 ∷ 4 ∷ [] }
     -- P7 reply own 7, carried 1: 8, everything above 1 sent
     ∷ record {
@@ -176,22 +184,34 @@ table =
     ∷ record { number = 13; got = floods; want = (1 ∷ 1 ∷ []) ++ (2 ∷ 2 ∷ 0 ∷ []) ++ (2 ∷ 1 ∷ []) ++ (2 ∷ 1 ∷ []) ++ (2 ∷ 1 ∷ []) }
     ∷ []
 
+pub table : List Case
+unfolding reading standing
+table = reading ++ standing
+
+reading-hold : map (λ c. c .got) reading ≡ map (λ c. c .want) reading
+unfolding reading
+reading-hold = refl
+
+standing-hold : map (λ c. c .got) standing ≡ map (λ c. c .want) standing
+unfolding standing
+standing-hold = rw line-of-three refl
+
 -- the single claim
 pub cases-hold : map (λ c. c .got) table ≡ map (λ c. c .want) table
 unfolding table
-cases-hold = refl
+cases-hold = ap₂ _++_ reading-hold standing-hold
 
 -- ---- P13 as equations: the bound is met with equality, so no smaller one would be true
 pub flooded-formed : T (wellFormed flooded)
-unfolding flooded line live wellFormed sheetHolds holdingHolds letterHolds
-flooded-formed = tt
+unfolding flooded line live wellFormed holdingHolds letterHolds
+flooded-formed = rw line-of-three tt
 
 pub flood-only-notices : T (onlyNotices flooded flood)
-unfolding flooded flood line live event refusal exists allowed over letterOver heard fits change step onNotice received openBut onlyNotices
+unfolding flooded flood line live event refusal exists concerned rule comes comesTo left after fits step answer effectOn received openLinks onlyNotices
 flood-only-notices = tt
 
 pub bound-is-met : everSettled flooded flood ≡ bound flooded
-unfolding flooded flood line live event refusal exists allowed over letterOver heard fits change step onNotice received openBut total settled highest distance share bound
+unfolding flooded flood line live event refusal exists concerned rule comes comesTo left after fits step answer effectOn received openLinks total highest distance share bound
 bound-is-met = refl
 
 -- ---- the edge of 9: with 4,095 letters in flight a request may still be sent, with 4,096 no more
@@ -200,9 +220,9 @@ unfolding line live
 crowded n = record { net = line; holdings = live false 1 1 ∷ record { condition = Live; table = 1 ∷ 1 ∷ []; marks = setToken true noMarks ∷ noMarks ∷ [] } ∷ live false 1 1 ∷ []; letters = replicate n (letter 0 0 Request) }
 
 pub edge : ℕ → List ℕ
-unfolding crowded line live event wellFormed sheetHolds holdingHolds letterHolds refusal exists allowed over letterOver heard fits change step interval
+unfolding crowded line live event wellFormed holdingHolds letterHolds refusal exists concerned rule comes comesTo left after fits step interval
 edge n = bit (wellFormed (crowded n)) ∷ refusal (crowded n) (event 4 1 0) ∷ length (next (crowded n) (event 4 1 0) .letters) ∷ []
 
 pub edge-of-letters : (edge 4095 ++ edge 4096 ++ edge 4097) ≡ ((1 ∷ 0 ∷ 4096 ∷ []) ++ (1 ∷ 9 ∷ 4096 ∷ []) ++ (0 ∷ 9 ∷ 4097 ∷ []))
 unfolding edge
-edge-of-letters = refl
+edge-of-letters = rw line-of-three refl

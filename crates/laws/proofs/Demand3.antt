@@ -1,8 +1,8 @@
 -- DEMAND 3. A FLOOD OF NOTICES DIES OUT, for document 01's machine. Assumes nothing.
 use Prim.Native.Nat.{ℕ, _+_, _*_, _-_, _≤_, _<_, max}
 use mathlib.Core.Bool.{Bool, true, false, _&&_}
-use mathlib.Core.Path.{_≡_, refl, sym, ap, ap₂, _∙_, subst}
-use mathlib.Core.List.{List, [], _∷_, _++_}
+use mathlib.Core.Path.{_≡_, refl, sym, ap, ap₂, _∙_, subst, subst⁻¹}
+use mathlib.Core.List.{List, [], _∷_, _++_, append-nil}
 use native.Mathlib.Nat.{le-refl, zero-mul}
 use native.Mathlib.Omega.{arith}
 use lib.Dec.{T, eqb, eqb→eq}
@@ -10,18 +10,23 @@ use lib.ListN.{length}
 use Rattle.lists.specs.Lists.{if_then_else_, below}
 use Rattle.lists.specs.Places.{collect, largestOf}
 use Rattle.lists.specs.Words.{bit}
-use Rattle.lists.proofs.Tests.{T-is, and-l, and-r}
+use Rattle.lists.proofs.Tests.{T-is, and-l, and-r, and-i}
 use Rattle.lists.proofs.OneSum.{sum-same}
+use Rattle.tally.specs.declared.Tally.{Tally}
 use Rattle.net.specs.declared.Body.{Body}
 use Rattle.net.specs.declared.Body.the-variants.{Request, Reply, Notice}
 use Rattle.net.specs.declared.Letter.{Letter}
 use Rattle.net.specs.Network.{Network}
 use Rattle.station.specs.Holding.{counter, isLive}
-use Rattle.world.specs.World.{World, Event, Sort, act, delivery, loss, sortOf, holdingAt, letterAt, after, refusal, Outcome, accepted, step, wellFormed, isNotice, noticesOf, settledAs, settled}
+use Rattle.station.specs.Events.{kindOf, takesLetter, isNotice}
+use Rattle.station.proofs.Tallies.{rule-settles}
+use Rattle.world.specs.World.{World, Event, holdingAt, letterAt, concerned, rule, after, refusal, Outcome, accepted, step}
+use Rattle.world.specs.World.{wellFormed, noticesOf, settled}
 use Rattle.world.specs.History.{ifTaken, orElse, next, run, total, everSettled}
-use Rattle.world.proofs.Steps.{step-accepts}
+use Rattle.world.proofs.Steps.{step-accepts, taken}
 use Rattle.world.proofs.Keeps.{Formed, formed}
-use Rattle.laws.specs.Flood.{takesNotice, onlyNotices, carried, highest, neighbours, distance, share, bound}
+use Rattle.world.proofs.Ledger.{run-append}
+use Rattle.laws.specs.Flood.{takesNotice, onlyNotices, Begins, carried, highest, neighbours, distance, share, bound}
 use Rattle.laws.proofs.Settling.{noticeOf, notice, floodOf, weightIn, siteOf, Fits, settles}
 use Rattle.ranks.specs.Flood as R
 use Rattle.ranks.specs.Flood.{Site, Run}
@@ -34,7 +39,7 @@ module _ (w : World) (e : Event) (es : List Event) (t : T (onlyNotices w (e ∷ 
   none = eqb (refusal w e) 0
 
   abbrev takes : Bool
-  takes = takesNotice (sortOf (e .kind)) (letterAt w (e .a))
+  takes = takesNotice (kindOf (e .kind)) (letterAt w (e .a))
 
   first-accepted : step w e ≡ accepted (after w e)
   unfolding onlyNotices
@@ -48,27 +53,51 @@ module _ (w : World) (e : Event) (es : List Event) (t : T (onlyNotices w (e ∷ 
   unfolding onlyNotices
   then-only = and-r (none && takes) _ t
 
--- ---- so the run is one over ranks
-runs : (site : Site) (w : World) (es : List Event) → Fits site w → T (onlyNotices w es) → Run site (floodOf w) (length es) (floodOf (run w es))
+-- ---- every beginning of such a run is one, and so is what follows it
+pub begins-only : (w : World) (ds fs : List Event) → T (onlyNotices w (ds ++ fs)) → T (onlyNotices w ds)
+unfolding onlyNotices
+begins-only w [] fs t = tt
+begins-only w (e ∷ ds) fs t =
+    let first : Bool = eqb (refusal w e) 0 && takesNotice (kindOf (e .kind)) (letterAt w (e .a)) in
+    and-i first _ (and-l first _ t) (begins-only (next w e) ds fs (and-r first _ t))
+
+pub follows-only : (w : World) (ds fs : List Event) → T (onlyNotices w (ds ++ fs)) → T (onlyNotices (run w ds) fs)
 unfolding run
-runs site w [] f t = R.none
+follows-only w [] fs t = t
+follows-only w (e ∷ ds) fs t = follows-only (next w e) ds fs (then-only w e (ds ++ fs) t)
+
+-- ---- so the run is one over ranks, and what stays in it is still so at its end
+runs : (site : Site) (w : World) (es : List Event) → Fits site w → T (onlyNotices w es)
+    → Run site (floodOf w) (length es) (floodOf (run w es)) × Fits site (run w es)
+unfolding run
+runs site w [] f t = (R.none, f)
 runs site w (e ∷ es) f t =
     let q = first-accepted w e es t in
     let n : next w e ≡ after w e = ap (orElse w) q in
     let p = settles site w e (next w e) f (q ∙ ap accepted (sym n)) (first-notice w e es t) in
-    R.more (p .0) (runs site (next w e) es (p .1) (then-only w e es t))
+    let r = runs site (next w e) es (p .1) (then-only w e es t) in
+    (R.more (p .0) (r .0), r .1)
 
 -- each event of such a run settles one notice: the count is of events in the history
-settled-one : (s : Sort) (x : Letter) → T (takesNotice s x) → settledAs s x ≡ 1
-settled-one (act k) x t = absurd t
-settled-one delivery x t = ap bit (T-is (isNotice (x .body)) t)
-settled-one loss x t = ap bit (T-is (isNotice (x .body)) t)
+settled-one : (w : World) (e : Event) → step w e ≡ accepted (after w e) → T (takesNotice (kindOf (e .kind)) (letterAt w (e .a)))
+    → settled w e ≡ 1
+unfolding rule
+settled-one w e q t =
+    let k = kindOf (e .kind) in
+    let x = letterAt w (e .a) in
+    let takes = T-is (takesLetter k) (and-l (takesLetter k) _ t) in
+    let notice = T-is (isNotice (x .body)) (and-r (takesLetter k) _ t) in
+    ap (λ (c : Tally). c .settled) (taken w e (after w e) q .counts)
+    ∙ rule-settles (w .net) (concerned w e) (e .b) x (holdingAt w (concerned w e)) k
+    ∙ ap₂ (λ (a b : Bool). if a then bit b else 0) takes notice
 
 pub settled-is-length : (w : World) (es : List Event) → T (onlyNotices w es) → everSettled w es ≡ length es
-unfolding total settled
+unfolding total
 settled-is-length w [] t = refl
 settled-is-length w (e ∷ es) t =
-    let one : ifTaken (step w e) (settled w e) ≡ 1 = ap (λ (o : Outcome). ifTaken o (settled w e)) (first-accepted w e es t) ∙ settled-one (sortOf (e .kind)) (letterAt w (e .a)) (first-notice w e es t) in
+    let q = first-accepted w e es t in
+    let n = settled-one w e q (first-notice w e es t) in
+    let one : ifTaken (step w e) (settled w e) ≡ 1 = ap (λ (o : Outcome). ifTaken o (settled w e)) q ∙ n in
     omega (arith, settled-is-length (next w e) es (then-only w e es t))
 
 -- ---- the bound over ranks is the mission's
@@ -120,14 +149,29 @@ module _ (w : World) where
   at-start : Formed w → Fits (siteOf w) w
   at-start ok = record { ok = ok; stations = refl; links = refl; heavy = λ s t. rw (T-is (isLive (holdingAt w s .condition)) t) (le-refl _) }
 
--- What is claimed of a history es from the world w.
+-- A live station without neighbours adds nothing.
+pub alone-adds-nothing : (w : World) (s : ℕ) → T (isLive (holdingAt w s .condition)) → neighbours (w .net) s ≡ [] → share w s ≡ 0
+unfolding share
+alone-adds-nothing w s t e =
+    ap₂ (λ (b : Bool) (ns : List ℕ). if b then (length ns - 1) * distance w (holdingAt w s) else 0) (T-is (isLive (holdingAt w s .condition)) t) e
+    ∙ zero-mul (distance w (holdingAt w s))
+
+-- What is claimed of a history es from the world w, at every moment of it: after its first events ds, however many they are.
 pub record DiesOut (w : World) (es : List Event) : Type 0 where
-  -- the notices settled are never more than those in flight at the start, plus, for each live station, the number of its
+  -- the notices settled so far are never more than those in flight at the start, plus, for each live station, the number of its
   -- neighbours less one, times the sum over all links of how far its counter lies below the highest one for that link
-  pub settled : everSettled w es ≤ bound w
-  pub no-counter-falls : (s k : ℕ) → counter (holdingAt w s) k ≤ counter (holdingAt (run w es) s) k
+  pub settled : (ds : List Event) → Begins ds es → everSettled w ds ≤ bound w
+  -- from any moment to any later one
+  pub no-counter-falls : (ds fs : List Event) → Begins (ds ++ fs) es → (s k : ℕ) → counter (holdingAt (run w ds) s) k ≤ counter (holdingAt (run w (ds ++ fs)) s) k
   -- the highest one in any table or notice in flight at the start
-  pub none-passes : (s k : ℕ) → s < w .net .stations → counter (holdingAt (run w es) s) k ≤ highest w k
+  pub none-passes : (ds : List Event) → Begins ds es → (s k : ℕ) → s < w .net .stations → counter (holdingAt (run w ds) s) k ≤ highest w k
+
+-- the last moment, and the first
+pub at-the-end : (es : List Event) → Begins es es
+at-the-end es = record { rest = []; whole = append-nil es }
+
+pub at-the-start : (es : List Event) → Begins [] es
+at-the-start es = record { rest = es; whole = refl }
 
 -- A FLOOD OF NOTICES DIES OUT. Take any well-formed state and any run made only of accepted deliveries and losses of notices,
 -- with no other event in it. The notices settled in it are never more than those in flight at its start, plus, for each live
@@ -136,9 +180,20 @@ pub record DiesOut (w : World) (es : List Event) : Type 0 where
 -- falls in such a run or passes that highest one.
 pub flood-of-notices-dies-out : (w : World) (es : List Event) → T (wellFormed w) → T (onlyNotices w es) → DiesOut w es
 flood-of-notices-dies-out w es t o =
-    let d = flood-dies-out (siteOf w) (runs (siteOf w) w es (at-start w (formed w t)) o) in
     record {
-      settled = omega (arith, d .settled, settled-is-length w es o, bound-is w);
-      no-counter-falls = d .no-rank-falls;
-      none-passes = λ s k h. subst (λ (n : ℕ). counter (holdingAt (run w es) s) k ≤ n) (highest-is w k) (d .none-passes s k h);
+      settled = λ ds b. omega (arith, so-far ds (only ds b) .settled, settled-is-length w ds (only ds b), bound-is w);
+      no-counter-falls = λ ds fs b s k. subst⁻¹ (λ (v : World). counter (holdingAt (run w ds) s) k ≤ counter (holdingAt v s) k) (run-append w ds fs) (later ds fs (only (ds ++ fs) b) .no-rank-falls s k);
+      none-passes = λ ds b s k h. subst (λ (n : ℕ). counter (holdingAt (run w ds) s) k ≤ n) (highest-is w k) (so-far ds (only ds b) .none-passes s k h);
     }
+  where
+    only : (ds : List Event) → Begins ds es → T (onlyNotices w ds)
+    only ds b = begins-only w ds (b .rest) (subst⁻¹ (λ (l : List Event). T (onlyNotices w l)) (b .whole) o)
+
+    from-start : (ds : List Event) → T (onlyNotices w ds) → Run (siteOf w) (floodOf w) (length ds) (floodOf (run w ds)) × Fits (siteOf w) (run w ds)
+    from-start ds p = runs (siteOf w) w ds (at-start w (formed w t)) p
+
+    so-far : (ds : List Event) → T (onlyNotices w ds) → B.DiesOut (siteOf w) (floodOf w) (length ds) (floodOf (run w ds))
+    so-far ds p = flood-dies-out (siteOf w) (from-start ds p .0)
+
+    later : (ds fs : List Event) → T (onlyNotices w (ds ++ fs)) → B.DiesOut (siteOf w) (floodOf (run w ds)) (length fs) (floodOf (run (run w ds) fs))
+    later ds fs p = flood-dies-out (siteOf w) (runs (siteOf w) (run w ds) fs (from-start ds (begins-only w ds fs p) .1) (follows-only w ds fs p) .0)

@@ -1,8 +1,7 @@
+pub mod Neighbours
 pub mod Settling
 pub mod Demand3
 pub mod Cases
-pub mod Calls
 pub mod Tallies
-pub mod Demands
+pub mod Calls
 pub mod Joined
-pub mod Unique

@@ -3,12 +3,12 @@
 use Prim.Native.Nat.{ℕ, suc, _-_, _≤_, _<_}
 use mathlib.Core.Bool.{Bool, true, false, not}
 use mathlib.Core.Path.{_≡_, refl, ap, _∙_, subst, subst⁻¹}
-use mathlib.Core.Logic.{_⊎_, inl, inr, ⊎-elim}
+use mathlib.Core.Logic.{inl, inr, ⊎-elim}
 use mathlib.Core.List.{List, [], _∷_, _++_, append-nil, List·Memᴰ·not-nil, List·Memᴰ·cases-cons}
 use native.Mathlib.Decide.{ℕ-discrete}
 use native.Mathlib.Nat.{le-trans}
 use lib.Dec.{T, ltb, ltb→lt}
-use lib.ListN.{length, getD, set, take, drop, length-map}
+use lib.ListN.{length, getD, set, take, drop}
 use lib.Seq.{getD-set-same, getD-set-other, set-getD}
 use Rattle.lists.specs.Lists.{if_then_else_, every}
 use Rattle.lists.specs.Places.{without, collect}
@@ -17,17 +17,24 @@ use Rattle.lists.proofs.Places.{collect-at, collect-without}
 use Rattle.net.specs.declared.Body.{Body}
 use Rattle.net.specs.declared.Body.the-variants.{Request, Reply, Notice}
 use Rattle.net.specs.declared.Letter.{Letter}
-use Rattle.net.specs.Network.{Network, other, own}
+use Rattle.net.specs.Network.{Network, other}
 use Rattle.net.specs.Letters.{bodyHolds}
+use Rattle.counters.specs.Counters.{newer}
+use Rattle.station.specs.declared.Kind.{Kind}
+use Rattle.station.specs.declared.Kind.the-variants.{NoSuch, Start, Stop, Recovery, IntervalEnd, TimeoutEnd, QuietEnd, Delivery, Loss}
 use Rattle.station.specs.Holding.{Holding, counter, isLive}
-use Rattle.station.specs.Acts.{Done, unchanged, hears, takes, onNotice, received}
-use Rattle.station.proofs.Rises.{Took, notice-takes, notice-drops, received-gone, received-notice}
+use Rattle.station.specs.Acts.{Done, unchanged, received}
+use Rattle.station.specs.Events.{kindOf, isNotice, ruleOf}
+use Rattle.station.proofs.Answers.{heard}
+use Rattle.station.proofs.Rises.{Took, notice-takes, notice-drops, received-gone}
 use Rattle.station.proofs.Counts.{is-notice, Spreads, notice-spreads}
 use Rattle.station.proofs.Counts as Counts
-use Rattle.world.specs.World.{World, Event, Sort, act, delivery, loss, sortOf, nobody, noLetter, holdingAt, letterAt, receiver, existsAs, exists, put, changeAs, change, changed, isNotice, accepted, step}
+use Rattle.world.specs.World.{World, Event, nobody, noLetter, holdingAt, letterAt, existsAs, exists, receiverIn, concernedBy}
+use Rattle.world.specs.World.{concerned, rule, leftBy, left, after, accepted, step}
 use Rattle.world.proofs.Steps.{taken}
 use Rattle.world.proofs.Keeps.{Formed, Posted, at-posted, step-formed}
 use Rattle.laws.specs.Flood.{takesNotice, neighbours}
+use Rattle.laws.proofs.Neighbours.{neighbours-count}
 use Rattle.ranks.specs.Flood as R
 use Rattle.ranks.specs.Flood.{Flood, Site, _∈_, Gone, Settles}
 
@@ -80,7 +87,7 @@ module _ (site : Site) (w : World) (f : Fits site w) (a : ℕ) (h : a < length (
   k = letterAt w a .link
 
   abbrev r : ℕ
-  r = receiver w (letterAt w a)
+  r = receiverIn (w .net) (letterAt w a)
 
   abbrev here : Holding
   here = holdingAt w r
@@ -107,7 +114,7 @@ module _ (site : Site) (w : World) (f : Fits site w) (a : ℕ) (h : a < length (
   subject-real = ltb→lt j _ (and-l (ltb j (length (w .net .links))) _ (subst (λ (b : Body). T (bodyHolds (w .net) b)) q (posted .body)))
 
   in-holdings : r < length (w .holdings)
-  in-holdings = subst⁻¹ (λ (n : ℕ). receiver w (letterAt w a) < n) (f .ok .count) (posted .real)
+  in-holdings = subst⁻¹ (λ (n : ℕ). receiverIn (w .net) (letterAt w a) < n) (f .ok .count) (posted .real)
 
   -- the notice is taken off, and no holding changes
   gone : (hs : List Holding) → hs ≡ w .holdings → Gone (floodOf w) (floodOf (record { net = w .net; holdings = hs; letters = without a (w .letters) ++ [] }))
@@ -121,9 +128,11 @@ module _ (site : Site) (w : World) (f : Fits site w) (a : ℕ) (h : a < length (
         same = λ s i. ap (λ (xs : List Holding). counter (getD xs s nobody) i) e;
       }
 
-  -- what its receiver has done: it settles the notice, and stays in its condition
+  -- the world after its receiver has done so: the notice is settled, and the receiver stays in its condition
   abbrev Goal : Done → Type 0
-  Goal d = Settles site (floodOf w) (floodOf (changed w (put w r (without a (w .letters)) d))) × (d .holding .condition ≡ here .condition)
+  Goal d =
+      let v : World = record { net = w .net; holdings = set (w .holdings) r (d .holding); letters = without a (w .letters) ++ d .sent } in
+      Settles site (floodOf w) (floodOf v) × (d .holding .condition ≡ here .condition)
 
   dropped : Goal (unchanged here)
   dropped = (inl (gone (set (w .holdings) r here) (set-getD (w .holdings) r nobody)), refl)
@@ -137,13 +146,13 @@ module _ (site : Site) (w : World) (f : Fits site w) (a : ℕ) (h : a < length (
       copies = collect (notice (w .net)) (d .sent);
       was = was;
       now = now (d .sent);
-      station = subst (λ (n : ℕ). receiver w (letterAt w a) < n) (f .stations) (posted .real);
+      station = subst (λ (n : ℕ). receiverIn (w .net) (letterAt w a) < n) (f .stations) (posted .real);
       link = subst (λ (n : ℕ). j < n) (f .links) subject-real;
       newer = t .newer;
       takes = ap (λ (g : Holding). counter g j) (getD-set-same (w .holdings) r (d .holding) nobody in-holdings) ∙ t .takes;
       others = λ s i z. others s i z (ℕ-discrete s r);
       few = subst⁻¹ (λ (n : ℕ). n ≤ site .weight r) (copies-length (w .net) j c (d .sent) (sp .alike))
-          (le-trans (subst⁻¹ (λ (n : ℕ). length (d .sent) ≤ n - 1) (length-map (own (w .net) r) (λ i. other (w .net) i r)) (sp .few)) (f .heavy r live));
+          (le-trans (subst⁻¹ (λ (n : ℕ). length (d .sent) ≤ n - 1) (neighbours-count (w .net) (f .ok .sheet) r) (sp .few)) (f .heavy r live));
       alike = copies-alike (w .net) j c (d .sent) (sp .alike);
     }),
     t .condition,
@@ -154,7 +163,7 @@ module _ (site : Site) (w : World) (f : Fits site w) (a : ℕ) (h : a < length (
       others s i z (no e) = ap (λ (g : Holding). counter g i) (getD-set-other (w .holdings) r s (d .holding) nobody e)
 
   delivered : Goal (received (w .net) r (letterAt w a) here)
-  delivered = go (hears (w .net) r k here) (takes (w .net) r j c here) refl refl
+  delivered = go (heard (letterAt w a) here) (newer (counter here j) c) refl refl
     where
       passed : (x : Bool) → x ≡ true → T x
       passed x e = subst⁻¹ T e tt
@@ -162,16 +171,14 @@ module _ (site : Site) (w : World) (f : Fits site w) (a : ℕ) (h : a < length (
       failed : (x : Bool) → x ≡ false → T (not x)
       failed x e = subst⁻¹ (λ (b : Bool). T (not b)) e tt
 
-      go : (x y : Bool) → hears (w .net) r k here ≡ x → takes (w .net) r j c here ≡ y → Goal (received (w .net) r (letterAt w a) here)
+      go : (x y : Bool) → heard (letterAt w a) here ≡ x → newer (counter here j) c ≡ y → Goal (received (w .net) r (letterAt w a) here)
       go false y p u = subst⁻¹ Goal (received-gone (w .net) r here (letterAt w a) (failed _ p)) dropped
-      go true false p u =
-          subst⁻¹ Goal (received-notice (w .net) r here (letterAt w a) j c q (passed _ p) ∙ notice-drops (w .net) r here k j c (failed _ u)) dropped
+      go true false p u = subst⁻¹ Goal (notice-drops (w .net) r here (letterAt w a) j c q (passed _ p) (failed _ u)) dropped
       go true true p u =
-          let e = passed (hears (w .net) r k here) p in
-          subst⁻¹ Goal (received-notice (w .net) r here (letterAt w a) j c q e)
-          (kept (onNotice (w .net) r k j c here) (and-l (isLive (here .condition)) _ (and-r (ltb k (length (w .net .links))) _ e))
-          (notice-takes (w .net) r here k j c (f .ok .each r (posted .real)) (passed _ u))
-          (notice-spreads (w .net) r here k (posted .link) (posted .end) j c))
+          let t = passed (heard (letterAt w a) here) p in
+          kept (received (w .net) r (letterAt w a) here) (and-l (isLive (here .condition)) _ t)
+          (notice-takes (w .net) r here (letterAt w a) (f .ok .each r (posted .real)) j c q subject-real t (passed _ u))
+          (notice-spreads (w .net) r here (letterAt w a) (posted .link) (posted .end) j c q)
 
   -- the other stations stay as they are
   conditions : (d : Done) → d .holding .condition ≡ here .condition → (s : ℕ) → getD (set (w .holdings) r (d .holding)) s nobody .condition ≡ holdingAt w s .condition
@@ -200,23 +207,44 @@ module _ (site : Site) where
   abbrev Step : World → World → Type 0
   Step u v = Settles site (floodOf u) (floodOf v) × ((v .net ≡ u .net) × ((s : ℕ) → holdingAt v s .condition ≡ holdingAt u s .condition))
 
-  as-sort : (s : Sort) (u : World) (a b : ℕ) → Fits site u → T (existsAs s u a b) → T (takesNotice s (letterAt u a)) → Step u (changed u (changeAs s u a b))
-  as-sort (act k) u a b f x t = absurd t
-  as-sort delivery u a b f x t =
+  -- the world after an event for which d was done
+  abbrev done : World → Event → Done → World
+  done u e d = record { net = u .net; holdings = set (u .holdings) (concerned u e) (d .holding); letters = left u e ++ d .sent }
+
+  -- by its kind: a letter that is taken off is delivered or lost
+  abbrev ruled : Kind → World → ℕ → ℕ → World
+  ruled k u a b =
+      let r = concernedBy k (u .net) a (letterAt u a) in
+      let d = ruleOf (u .net) r k b (letterAt u a) (holdingAt u r) .done in
+      record { net = u .net; holdings = set (u .holdings) r (d .holding); letters = leftBy k a (u .letters) ++ d .sent }
+
+  as-kind : (k : Kind) (u : World) (a b : ℕ) → Fits site u → T (existsAs k (u .net) (length (u .letters)) a b)
+      → T (takesNotice k (letterAt u a)) → Step u (ruled k u a b)
+  as-kind NoSuch u a b f x t = absurd t
+  as-kind Start u a b f x t = absurd t
+  as-kind Stop u a b f x t = absurd t
+  as-kind Recovery u a b f x t = absurd t
+  as-kind IntervalEnd u a b f x t = absurd t
+  as-kind TimeoutEnd u a b f x t = absurd t
+  as-kind QuietEnd u a b f x t = absurd t
+  as-kind Delivery u a b f x t =
       let h = ltb→lt a _ (and-l (ltb a (length (u .letters))) _ x) in
       let n = notice-is (letterAt u a .body) t in
-      let r = receiver u (letterAt u a) in
+      let r = receiverIn (u .net) (letterAt u a) in
       let d = delivered site u f a h (n .0) (n .1) (n .2) in
       (d .0, (refl, conditions site u f a h (n .0) (n .1) (n .2) (received (u .net) r (letterAt u a) (holdingAt u r)) (d .1)))
-  as-sort loss u a b f x t =
+  as-kind Loss u a b f x t =
       let h = ltb→lt a _ (and-l (ltb a (length (u .letters))) _ x) in
       let n = notice-is (letterAt u a .body) t in
-      (inl (gone site u f a h (n .0) (n .1) (n .2) (u .holdings) refl), (refl, λ s. refl))
+      let r = receiverIn (u .net) (letterAt u a) in
+      let d = dropped site u f a h (n .0) (n .1) (n .2) in
+      (d .0, (refl, conditions site u f a h (n .0) (n .1) (n .2) (unchanged (holdingAt u r)) (d .1)))
 
-  pub settles : (u : World) (e : Event) (v : World) → Fits site u → step u e ≡ accepted v → T (takesNotice (sortOf (e .kind)) (letterAt u (e .a)))
-      → Settles site (floodOf u) (floodOf v) × Fits site v
-  unfolding change exists
+  pub settles : (u : World) (e : Event) (v : World) → Fits site u → step u e ≡ accepted v
+      → T (takesNotice (kindOf (e .kind)) (letterAt u (e .a))) → Settles site (floodOf u) (floodOf v) × Fits site v
+  unfolding after rule concerned left exists
   settles u e v f q t =
       let x = taken u e v q in
-      let p = subst⁻¹ (Step u) (x .is) (as-sort (sortOf (e .kind)) u (e .a) (e .b) f (x .exists) t) in
+      let k = as-kind (kindOf (e .kind)) u (e .a) (e .b) f (x .exists) t in
+      let p = subst⁻¹ (Step u) (x .is) (subst⁻¹ (λ (d : Done). Step u (done u e d)) (x .done) k) in
       (p .0, fits-still u v (p .1 .0) (p .1 .1) (step-formed u e v (f .ok) q) f)
