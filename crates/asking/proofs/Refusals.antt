@@ -7,22 +7,22 @@ use mathlib.Core.List.{List, map}
 use native.Mathlib.Decide.{decLt}
 use native.Mathlib.Omega.{arith}
 use borrow.Author.Tests.{lt-ltb, le-ltb}
-use lib.Dec.{T, leb, ltb→lt}
+use lib.Dec.{T, leb, ltb, ltb→lt}
 use lib.ListN.{length, getD, take, length-map, length-take, List·getD-map, List·getD-eq-default}
 use lib.Seq.{getD-take, take-nil}
 use Rattle.lists.specs.Lists.{if_then_else_}
 use Rattle.lists.proofs.Tests.{T-is, T-not-is, is-T, and-l, if-elim}
 use Rattle.lists.proofs.Fill.{getD-any}
 use Rattle.net.specs.Network.{Network}
-use Rattle.net.specs.Values.{networkOf, linkCount, netHolds}
-use Rattle.net.proofs.Good.{few-stations, few-places}
-use Rattle.net.proofs.ValueLaws.{stations-of, links-of}
+use Rattle.net.specs.Values.{networkOf, linkCount}
+use Rattle.sheet_rules.specs.Values.{netHolds}
+use Rattle.sheet_rules.proofs.Good as Good
 use Rattle.reach.specs.Values.{tableOf}
 use Rattle.station.specs.declared.Condition.{Condition}
 use Rattle.station.specs.declared.Station.{Station}
 use Rattle.station.specs.Holding.{Holding, isLive}
 use Rattle.station.specs.Values.{holdingOf}
-use Rattle.world.specs.World.{nobody, holdingAt, isStation, askRefusal}
+use Rattle.world.specs.World.{nobody, holdingAt, askRefusal}
 use Rattle.world.proofs.Steps as W
 use Rattle.state.specs.declared.State.{State}
 use Rattle.state.specs.State.{beyond, stationIn, worldOf, stationsHold, lettersHold, stateHolds}
@@ -72,10 +72,10 @@ module _ (s : State) where
         and-l (netHolds (s .net)) (leb (s .flying) 4096) (and-l (netHolds (s .net) && leb (s .flying) 4096) (stationsHold s && lettersHold s) t)
 
     pub stations-are : networkOf (s .net) .stations ≡ s .net .stations
-    stations-are = stations-of (s .net) ∙ omega (arith, few-stations (s .net) good-net)
+    stations-are = Good.stations-are (s .net) good-net
 
     pub links-are : length (networkOf (s .net) .links) ≡ s .net .links
-    links-are = links-of (s .net) ∙ omega (arith, few-places (s .net) good-net)
+    links-are = Good.links-are (s .net) good-net
 
 -- ---- 11, 6 and 7, which the reach and the report share
 module _ (s : State) (a : ℕ) where
@@ -112,7 +112,7 @@ module _ (s : State) (a : ℕ) where
     unfolding numberOf
     good-number x = ap (λ (b : Bool). if b then askRefusal (worldOf s) a else 11) (T-is (stateHolds s) g) ∙ W.why-ask (worldOf s) a x
 
-    is-there : a < s .net .stations → T (isStation (worldOf s) a)
+    is-there : a < s .net .stations → T (ltb a (worldOf s .net .stations))
     is-there h = is-T _ (lt-ltb a stations (omega (arith, world-stations)))
 
   -- only then: the number is given for its reason

@@ -7,7 +7,8 @@ use native.Mathlib.Omega.{arith}
 use lib.Dec.{T, ltb}
 use lib.ListN.{length}
 use Rattle.lists.specs.Lists.{if_then_else_}
-use Rattle.net.specs.Network.{Network, sheetHolds}
+use Rattle.net.specs.Network.{Network}
+use Rattle.sheet_rules.specs.Rules.{sheetHolds}
 use Rattle.sheet.specs.Sheet.{refused, sheet, readSheet}
 use Rattle.sheet.proofs.Laws.{read-holds}
 use Rattle.console.specs.Sheets.{fileSheet}

@@ -82,7 +82,7 @@ module _ (s : State) (a : ℕ) where
     table : holdingAt (worldOf s) a .table ≡ ownTable s a
     table = table-is s a (omega (arith, stations-are s (ask .good), ask .station))
 
-    reach-is : askedOf s a .reached ≡ reachedOf (s .net) (stationIn s a .counters) a
+    reach-is : askedOf s a .reached ≡ reachedOf (s .net) (worksIn (ownTable s a)) a
     unfolding reachAt
     reach-is =
         ap (λ (x : Asked). x .reached) (asked-zero (sym answer-number ∙ q))
@@ -107,8 +107,8 @@ module _ (s : State) (a : ℕ) where
     -- THE BITS OF THE REACH WORD SAY WHICH STATIONS A PATH LEADS TO
     pub word-shown : WordShown s a (askedOf s a .reached)
     word-shown = record {
-      bits = λ t. subst⁻¹ (λ (r : Reached). (bitAt (r .word) t ≡ 1) ↔ PathTo s a t) reach-is (word-bit (s .net) (stationIn s a .counters) a t);
-      ones = subst⁻¹ (λ (r : Reached). r .ones ≡ onesOf (r .word)) reach-is (sym (ones-of-reach (s .net) (stationIn s a .counters) a));
+      bits = λ t. subst⁻¹ (λ (r : Reached). (bitAt (r .word) t ≡ 1) ↔ PathTo s a t) reach-is (word-bit (s .net) (worksIn (ownTable s a)) a t);
+      ones = subst⁻¹ (λ (r : Reached). r .ones ≡ onesOf (r .word)) reach-is (sym (ones-of-reach (s .net) (worksIn (ownTable s a)) a));
       lowest =
           subst⁻¹ (λ (r : Reached). ((r .lowest ≡ 255) × ((t : ℕ) → t < s .net .stations → PathTo s a t)) ⊎ Lowest s a (r .lowest))
           (ap (λ (x : Asked). x .reached) (asked-zero (sym answer-number ∙ q))) lowest-is;

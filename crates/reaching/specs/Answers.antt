@@ -1,6 +1,6 @@
 -- What the call answers, in the world's words: the reach. Document 01, "The numbers that say no". Assumes nothing.
 use Prim.Native.Nat.{ℕ}
-use mathlib.Core.List.{List}
+use mathlib.Core.Bool.{Bool}
 use lib.Dec.{eqb}
 use Rattle.lists.specs.Lists.{if_then_else_}
 use Rattle.net.specs.declared.Net.{Net}
@@ -21,6 +21,6 @@ askedOf s a =
     if eqb (numberOf s a) 0 then (record { answer = 0; reached = reachAt (worldOf s) a })
     else (record { answer = numberOf s a; reached = noReach })
 
--- what the private step of the code answers, by a network value and one table
-abbrev pub reachedBy : ℕ → Net → List ℕ → ℕ → Reached
-reachedBy number net counters s = if eqb number 0 then reachedOf net counters s else noReach
+-- what the private step of the code answers, by a network value and the links that work
+abbrev pub reachedBy : ℕ → Net → (ℕ → Bool) → ℕ → Reached
+reachedBy number net works s = if eqb number 0 then reachedOf net works s else noReach

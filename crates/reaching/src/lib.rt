@@ -1,8 +1,8 @@
 // The reach of a live station. The call reads the state it is given and changes nothing of it. Only the public function holds a
-// state: what answers for it takes the network and one table.
+// state: what answers for it takes the network and the links that work.
 ghost use mathlib.Core.Path.{_≡_};
+ghost use Rattle.lists.specs.Words.{inWord};
 ghost use Rattle.reaching.specs.Answers.{askedOf, reachedBy};
-use counters::Counters;
 use net::Net;
 use showing::Reached;
 use state::State;
@@ -13,8 +13,8 @@ pub struct Asked {
     pub reached: Reached,
 }
 
-fn reached_by(number: u8, net: Net, counters: Counters, me: u8) -> Reached
-    ensures { λ r. ⌜ r ≡ reachedBy number net counters me ⌝ }
+fn reached_by(number: u8, net: Net, working: u64, me: u8) -> Reached
+    ensures { λ r. ⌜ r ≡ reachedBy number net (inWord working) me ⌝ }
 {
     if number != 0 {
         return Reached {
@@ -23,7 +23,7 @@ fn reached_by(number: u8, net: Net, counters: Counters, me: u8) -> Reached
             lowest: 0,
         };
     }
-    showing::reach_of(net, counters, me)
+    showing::reach_of(net, working, me)
 }
 
 // The reach of station a by its own table. Refusals in their order: 11, 6, 7.
@@ -38,6 +38,7 @@ pub fn reach(s: State, a: u32) -> Asked
     let condition = st.condition;
     let counters = st.counters;
     let answer = asking::number_of(good, net.stations, a, condition);
-    let reached = reached_by(answer, net, counters, me);
+    let working = reach::working_links(net.links, counters);
+    let reached = reached_by(answer, net, working, me);
     Asked { answer, reached }
 }

@@ -7,7 +7,10 @@ use native.Mathlib.Decide.{ℕ-discrete}
 use borrow.Author.Tests.{ne-eqb}
 use lib.Dec.{T}
 use Rattle.net.specs.Network.{Network}
-use Rattle.reach.specs.Reach.{report}
+use Rattle.lists.specs.Words.{inWord}
+use Rattle.reach.specs.Reach.{worksIn, report}
+use Rattle.reach.specs.Values.{tableOf, workingOf}
+use Rattle.reach.proofs.Working.{working-is}
 use Rattle.world.specs.World.{World, holdingAt, reportAt}
 use Rattle.state.specs.declared.State.{State}
 use Rattle.state.specs.State.{stationIn, worldOf, stateHolds, Sized}
@@ -21,19 +24,23 @@ module _ (s : State) (z : Sized s) (t : T (stateHolds s)) (a me : ℕ) (pe : me 
   abbrev w : World
   w = worldOf s
 
-  pub report-is : reportIn (s .net) (stationIn s me .counters) me ≡ reportAt w a
+  pub report-is : reportIn (s .net) (worksIn (tableOf (s .net) (stationIn s me .counters))) me ≡ reportAt w a
   unfolding reportIn reportAt
-  report-is = ap₂ (λ (n : Network) (l : List ℕ). report n me l) (sym (world-net s z t)) (sym (table-is s z t a me pe h)) ∙ ap (λ (k : ℕ). report (w .net) k (holdingAt w a .table)) (me-is s z t a me pe h)
+  report-is = ap₂ (λ (n : Network) (l : List ℕ). report n (worksIn l) me) (sym (world-net s z t)) (sym (table-is s z t a me pe h)) ∙ ap (λ (k : ℕ). report (w .net) (worksIn (holdingAt w a .table)) k) (me-is s z t a me pe h)
 
 module _ {s : State} {a : ℕ} {good : Bool} {me number : ℕ} (r : Read s a good me number) where
   -- where no number refuses
   module _ (q : number ≡ 0) where
-    pub report-read : reportIn (s .net) (stationIn s me .counters) me ≡ reportAt (worldOf s) a
+    pub report-read : reportIn (s .net) (worksIn (tableOf (s .net) (stationIn s me .counters))) me ≡ reportAt (worldOf s) a
     report-read = report-is s (r .sized (is-good r q)) (holds r (is-good r q)) a me (r .place) (there r q)
 
-  module _ (old : List ℕ) where
+  module _ (old : List ℕ) (working : ℕ) (we : working ≡ workingOf (s .net .links) (stationIn s me .counters)) where
     abbrev new : List ℕ
-    new = reportIn (s .net) (stationIn s me .counters) me
+    new = reportIn (s .net) (inWord working) me
+
+    -- the links of the word are those that work by the table that is read
+    new-is : number ≡ 0 → new ≡ reportAt (worldOf s) a
+    new-is q = ap (λ (works : ℕ → Bool). reportIn (s .net) works me) (working-is (s .net) (stationIn s me .counters) working we) ∙ report-read q
 
     -- where a number refuses, the bytes do not matter
     over : (xs ys : List ℕ) → (number ≡ 0 → xs ≡ ys) → withRoom number xs old ≡ withRoom number ys old
@@ -52,10 +59,10 @@ module _ {s : State} {a : ℕ} {good : Bool} {me number : ℕ} (r : Read s a goo
 
     pub answer-seen : (n : ℕ) → n ≡ withRoom number new old → n ≡ answerOf s a old
     unfolding answerOf
-    answer-seen n e = e ∙ over new (reportAt (worldOf s) a) report-read ∙ ap (λ (n : ℕ). withRoom n (reportAt (worldOf s) a) old) (number-is r)
+    answer-seen n e = e ∙ over new (reportAt (worldOf s) a) new-is ∙ ap (λ (n : ℕ). withRoom n (reportAt (worldOf s) a) old) (number-is r)
 
     pub output-seen : (out : List ℕ) → out ≡ writtenOver (withRoom number new old) new old → out ≡ outputOf s a old
     unfolding answerOf outputOf
     output-seen out e =
-        e ∙ over-bytes new (reportAt (worldOf s) a) report-read
+        e ∙ over-bytes new (reportAt (worldOf s) a) new-is
         ∙ ap (λ (n : ℕ). writtenOver (withRoom n (reportAt (worldOf s) a) old) (reportAt (worldOf s) a) old) (number-is r)

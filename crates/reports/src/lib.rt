@@ -1,13 +1,12 @@
 // The reach report of a live station, as bytes. The call reads the state it is given and changes nothing of it. Only the public
-// function holds a state: what answers for it takes the network and one table.
+// function holds a state: what answers for it takes the network and the links that work.
 ghost use mathlib.Core.Path.{_≡_};
 ghost use Prim.Native.Nat.{_+_, _<_, _≤_};
 ghost use lib.ListN.{length};
 ghost use Rattle.lists.specs.Lists.{filled};
-ghost use Rattle.lists.specs.Words.{bitAt};
+ghost use Rattle.lists.specs.Words.{bitAt, inWord};
 ghost use Rattle.reports.specs.Answers.{answerOf, outputOf, withRoom, writtenOver};
 ghost use Rattle.reports.specs.Steps.{reportIn, linkShown};
-use counters::Counters;
 use net::Net;
 use state::State;
 
@@ -29,20 +28,20 @@ fn put_stations(out: &mut [u8], word: u32, n: u8)
     }
 }
 
-fn put_links(out: &mut [u8], net: Net, counters: Counters, word: u32, m: u8)
+fn put_links(out: &mut [u8], net: Net, working: u64, word: u32, m: u8)
     requires { ⌜ (m ≤ 64) × (m ≤ length (now out)) ⌝ }
-    ensures { λ r. ⌜ now (out .exit) ≡ filled (linkShown net counters word) (now (out .entry)) m ⌝ }
+    ensures { λ r. ⌜ now (out .exit) ≡ filled (linkShown net (inWord working) word) (now (out .entry)) m ⌝ }
 {
     for k in 0..m {
         let i = k as usize;
-        out[i] = showing::link_shown(net.low[i], net.high[i], counters[i], word);
+        out[i] = showing::link_shown(net.low[i], net.high[i], words::has(working, k), word);
     }
 }
 
-// The report by one table, where no number refuses it yet and the output has room for it.
-fn written(number: u8, net: Net, counters: Counters, me: u8, out: &mut [u8]) -> u8
-    ensures answer { λ r. ⌜ r ≡ withRoom number (reportIn net counters me) (now (out .entry)) ⌝ }
-    ensures output { λ r. ⌜ now (out .exit) ≡ writtenOver (withRoom number (reportIn net counters me) (now (out .entry))) (reportIn net counters me) (now (out .entry)) ⌝ }
+// The report over the working links, where no number refuses it yet and the output has room for it.
+fn written(number: u8, net: Net, working: u64, me: u8, out: &mut [u8]) -> u8
+    ensures answer { λ r. ⌜ r ≡ withRoom number (reportIn net (inWord working) me) (now (out .entry)) ⌝ }
+    ensures output { λ r. ⌜ now (out .exit) ≡ writtenOver (withRoom number (reportIn net (inWord working) me) (now (out .entry))) (reportIn net (inWord working) me) (now (out .entry)) ⌝ }
 {
     if number != 0 {
         return number;
@@ -54,9 +53,9 @@ fn written(number: u8, net: Net, counters: Counters, me: u8, out: &mut [u8]) -> 
     if out.len() < size {
         return 10;
     }
-    let word = reach::reach_word(net, counters, me);
+    let word = reach::reach_word(net, working, me);
     put_stations(out, word, n);
-    put_links(&mut out[from..], net, counters, word, m);
+    put_links(&mut out[from..], net, working, word, m);
     0
 }
 
@@ -74,5 +73,6 @@ pub fn report(s: State, a: u32, out: &mut [u8]) -> u8
     let condition = st.condition;
     let counters = st.counters;
     let number = asking::number_of(good, net.stations, a, condition);
-    written(number, net, counters, who, out)
+    let working = reach::working_links(net.links, counters);
+    written(number, net, working, who, out)
 }

@@ -24,10 +24,10 @@ abbrev pub Going : List ℕ → List ℕ → Desk → Stop Reading → List ℕ 
 Going = Feeding.Going start readOn lineEnd acted spoken 32
 
 -- one line: the step, and the tally that it was added to
-module _ (s : State) (t : Tally) (said : List ℕ) (x : Stepped) (is : x ≡ stepBy s said) (u : Tally) (count : u ≡ tallied t (x .settled) (x .raised) (x .dropped)) where
+module _ (s : State) (t : Tally) (said : List ℕ) (x : Stepped) (is : x ≡ stepBy s said) (u : Tally) (count : u ≡ tallied t (x .counts)) where
   pub is-acted : deskOf (x .state) u ≡ acted (deskOf s t) said
   unfolding acted
-  is-acted = ap (deskOf (x .state)) count ∙ ap (λ (q : Stepped). deskOf (q .state) (tallied t (q .settled) (q .raised) (q .dropped))) is
+  is-acted = ap (deskOf (x .state)) count ∙ ap (λ (q : Stepped). deskOf (q .state) (tallied t (q .counts))) is
 
   pub is-spoken : answerText (x .answer) (x .state .flying) (u .settled) ≡ spoken (deskOf s t) said
   unfolding spoken
@@ -39,7 +39,7 @@ module _ (bytes old : List ℕ) (first : Desk) (p₀ : Stop Reading) (out : List
   pub turn-room : at + 32 ≤ length out
   turn-room = Feeding.going-room start readOn lineEnd acted spoken 32 bytes old first p₀ out (deskOf s t) at p g e
 
-  module _ (x : Stepped) (is : x ≡ stepBy s (lineEnd (p .reading))) (u : Tally) (count : u ≡ tallied t (x .settled) (x .raised) (x .dropped))
+  module _ (x : Stepped) (is : x ≡ stepBy s (lineEnd (p .reading))) (u : Tally) (count : u ≡ tallied t (x .counts))
       (r : ℕ) (new : List ℕ) (w : Put (answerText (x .answer) (x .state .flying) (u .settled)) 32 at out r new)
       (from : Reading) (begun : from ≡ start) (q : Stop Reading) (behind : q ≡ stopOf readOn from (drop (p .next) bytes) (p .next)) where
     here : q ≡ stopOf readOn start (drop (p .next) bytes) (p .next)

@@ -1,12 +1,11 @@
 -- THE EVENT PROGRAM: whatever the pieces that standard input comes in, its calls print, in all, exactly what document 01 says of the file and
 -- of the whole input. Assumes nothing.
-use Prim.Native.Nat.{ℕ, _-_, _≤_}
+use Prim.Native.Nat.{ℕ}
 use mathlib.Core.Bool.{Bool, true}
 use mathlib.Core.Path.{_≡_, refl, sym, ap, ap₂, _∙_}
 use mathlib.Core.List.{List, [], _∷_, _++_, map}
 use native.Mathlib.Omega.{arith}
 use lib.Dec.{T, eqb}
-use lib.ListN.{length, replicate, length-append, length-replicate, length-map}
 use borrow.Author.Tests.{ne-eqb}
 use Rattle.lists.specs.Lists.{if_then_else_}
 use Rattle.lists.proofs.Tests.{T-is}
@@ -16,12 +15,13 @@ use Rattle.lines.specs.Split.{linesOf}
 use Rattle.lines.specs.Steps.{start, readOn, lineEnd}
 use Rattle.lines.proofs.Split.{event-lines}
 use Rattle.net.specs.declared.Net.{Net}
-use Rattle.net.specs.Network.{Network, sheetHolds}
-use Rattle.net.specs.Values.{networkOf, netHolds}
+use Rattle.net.specs.Network.{Network}
+use Rattle.sheet_rules.specs.Rules.{sheetHolds}
+use Rattle.net.specs.Values.{networkOf}
+use Rattle.sheet_rules.specs.Values.{netHolds}
 use Rattle.sheet.specs.Sheet.{Sheet, refused, sheet}
-use Rattle.sheet.specs.Values.{roomOf, valueOf}
-use Rattle.sheet.proofs.Rising.{rules-of}
-use Rattle.sheet.proofs.ValueLaws.{value-means, value-holds}
+use Rattle.sheet.specs.Values.{valueOf}
+use Rattle.sheet.proofs.ValueLaws.{value-means, value-holds, low-long, high-long}
 use Rattle.world.specs.World.{World, fresh}
 use Rattle.world.proofs.Keeps.{fresh-formed}
 use Rattle.state.specs.declared.State.{State}
@@ -45,18 +45,8 @@ no-fits : Fits noTally
 no-fits = record { settled = omega arith; raised = omega arith; dropped = omega arith }
 
 -- the value of a network has its room of 64 links
-room-long : (xs : List ℕ) → length xs ≤ 64 → length (roomOf xs) ≡ 64
-unfolding roomOf
-room-long xs h = length-append xs (replicate (64 - length xs) 0) ∙ omega (arith, length-replicate {A = ℕ} (64 - length xs) 0)
-
 value-ends : (net : Network) → T (sheetHolds net) → Ends64 (valueOf net)
-unfolding valueOf
-value-ends net t =
-    let n = rules-of net t .few in
-    record {
-      low = room-long (map (λ e. e .low) (net .links)) (omega (arith, n, length-map (net .links) (λ e. e .low)));
-      high = room-long (map (λ e. e .high) (net .links)) (omega (arith, n, length-map (net .links) (λ e. e .high)));
-    }
+value-ends net t = record { low = low-long net t; high = high-long net t }
 
 -- a good sheet: the first state, and the run from it
 module _ (net : Network) (t : T (sheetHolds net)) where

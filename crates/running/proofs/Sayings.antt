@@ -8,17 +8,18 @@ use lib.ListN.{length}
 use borrow.Author.Tests.{le-leb}
 use Rattle.tally.specs.declared.Tally.{Tally}
 use Rattle.tally.specs.Sums.{counted}
-use Rattle.world.specs.World.{World, Outcome, refused, step, exists, refusal, settled, raised, dropped}
+use Rattle.station.specs.Events.{comesTo}
+use Rattle.world.specs.World.{World, Outcome, refused, step, exists, comes, refusal}
 use Rattle.world.specs.History.{run, orElse, everSettled}
 use Rattle.world.proofs.Steps.{step-refuses, step-number}
-use Rattle.laws.specs.Tallied.{tallyBy, tallyAfter}
+use Rattle.laws.specs.Tallied.{acceptedCounts, tallyBy, tallyAfter}
 use Rattle.laws.proofs.Tallies.{Fits, tally-is-history}
 use Rattle.running.specs.Events.{Standing, eventBy, answerText, done, printedFor, doneAll}
 use Rattle.running.specs.Runs.{enough}
 
 -- ---- a malformed line names no event
 no-kind : (w : World) → refusal w (eventBy (6 ∷ [])) ≡ 6
-unfolding refusal exists
+unfolding refusal exists comes comesTo
 no-kind w = refl
 
 none-taken : (w : World) → step w (eventBy (6 ∷ [])) ≡ refused 6
@@ -32,7 +33,7 @@ malformed-stays st =
     let e = eventBy (6 ∷ []) in
     λ i. record {
       world = ap (orElse (st .world)) o i;
-      tally = ap (λ (x : Outcome). tallyBy x (st .tally) (settled (st .world) e) (raised (st .world) e) (dropped (st .world) e)) o i;
+      tally = ap (λ (x : Outcome). tallyBy x (st .tally) (acceptedCounts (st .world) e)) o i;
     }
 
 pub malformed : (st : Standing) → printedFor st (eventBy (6 ∷ [])) ≡ answerText 6 (length (st .world .letters)) (st .tally .settled)

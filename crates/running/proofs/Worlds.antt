@@ -14,26 +14,29 @@ use Rattle.lists.specs.Places.{collect}
 use Rattle.lists.proofs.Tests.{T-is}
 use Rattle.tally.specs.declared.Tally.{Tally}
 use Rattle.tally.specs.Sums.{largest, counted, tallied}
+use Rattle.tally.specs.Plain.{noCounts}
 use Rattle.tally.proofs.Sums.{counted-fits}
 use Rattle.lines.specs.Steps.{start, readOn, lineEnd}
 use Rattle.net.specs.declared.Net.{Net}
-use Rattle.net.specs.Values.{networkOf, netHolds}
+use Rattle.net.specs.Values.{networkOf}
+use Rattle.sheet_rules.specs.Values.{netHolds}
 use Rattle.net.specs.Network.{Network}
 use Rattle.reach.specs.Values.{tableOf}
 use Rattle.station.specs.declared.Station.{Station}
 use Rattle.station.specs.Holding.{Holding}
 use Rattle.station.specs.Values.{holdingOf}
-use Rattle.world.specs.World.{World, Event, Outcome, refused, accepted, numberOf, refusal, step, after, settled, raised, dropped, holdingAt}
+use Rattle.world.specs.World.{World, Event, Outcome, refused, accepted, numberOf, comes, refusal, step, after, settled, raised, dropped, holdingAt}
 use Rattle.world.specs.History.{next, orElse}
 use Rattle.world.proofs.Keeps.{Formed, step-formed}
-use Rattle.world.proofs.Steps.{step-accepts, step-refuses, step-number, after-net}
+use Rattle.world.proofs.Steps.{passes, accepted-passes, step-accepts, step-refuses, step-number, after-net}
+use Rattle.world.proofs.OneRaised.{counts-are}
 use Rattle.state.specs.declared.State.{State}
 use Rattle.state.specs.State.{stationIn, worldOf, stateOf, stateHolds, Ends64}
 use Rattle.state.proofs.LaidOut.{laid-sized, laid-holds, laid-means}
 use Rattle.state.proofs.Meaning.{count-is, world-holding}
 use Rattle.stepping.specs.declared.Stepped.{Stepped}
 use Rattle.stepping.specs.Step as Step
-use Rattle.laws.specs.Tallied.{tallyBy}
+use Rattle.laws.specs.Tallied.{acceptedCounts, tallyBy}
 use Rattle.laws.proofs.Tallies.{Fits}
 use Rattle.console.specs.Feeding as Feeding
 use Rattle.standing.specs.Stations.{stationText, stationLine, stationsText}
@@ -69,11 +72,14 @@ module _ (v : Net) (w : World) (c : Carried v w) (kind a b : ℕ) where
   unfolding Step.numberOf
   number = ap (λ (t : Bool). if t then refusal (worldOf s) e else 11) holds ∙ ap (λ (x : World). refusal x e) means
 
-  pub stepped-taken : refusal w e ≡ 0 → Step.steppedOf s kind a b ≡ record { answer = 0; settled = settled w e; raised = raised w e; dropped = dropped w e; state = stateOf v (after w e) }
+  pub stepped-taken : refusal w e ≡ 0
+      → Step.steppedOf s kind a b ≡ record { answer = 0; counts = acceptedCounts w e; state = stateOf v (after w e) }
   unfolding Step.steppedOf
   stepped-taken z =
       ap (λ (n : ℕ). if eqb n 0 then Step.accepting s e else Step.refusing n s) (number ∙ z)
-      ∙ ap₂ (λ (x : World) (n : Net). record { answer = 0; settled = settled x e; raised = raised x e; dropped = dropped x e; state = stateOf n (after x e) }) means s-net
+      ∙ ap₂ (λ (x : World) (n : Net). record { answer = 0; counts = comes x e .counts; state = stateOf n (after x e) }) means s-net
+      ∙ ap (λ (t : Tally). record { answer = 0; counts = t; state = stateOf v (after w e) })
+      (counts-are w (c .formed) e (passes w e (accepted-passes w e z) .exists))
 
   pub stepped-refused : (n : ℕ) → refusal w e ≡ n → (n ≡ 0 → ⊥) → Step.steppedOf s kind a b ≡ Step.refusing n s
   unfolding Step.steppedOf
@@ -83,7 +89,7 @@ module _ (v : Net) (w : World) (c : Carried v w) (kind a b : ℕ) where
 abbrev standing : World → Tally → Standing
 standing w t = record { world = w; tally = t }
 
-nothing-more : (t : Tally) → Fits t → tallied t 0 0 0 ≡ t
+nothing-more : (t : Tally) → Fits t → tallied t noCounts ≡ t
 nothing-more t f = λ i. record { settled = same (t .settled) (f .settled) i; raised = same (t .raised) (f .raised) i; dropped = same (t .dropped) (f .dropped) i }
   where
     same : (n : ℕ) → n ≤ largest → counted n 0 ≡ n
@@ -110,16 +116,16 @@ module _ (v : Net) (w : World) (c : Carried v w) (t : Tally) (f : Fits t) (said 
       let o : step w ev ≡ accepted (after w ev) = step-accepts w ev z in
       let d = stepped-taken v w c (getD said 1 0) (getD said 2 0) (getD said 3 0) z in
       let world : next w ev ≡ after w ev = ap (orElse w) o in
-      let tally : tallyBy (step w ev) t (settled w ev) (raised w ev) (dropped w ev) ≡ tallied t (settled w ev) (raised w ev) (dropped w ev) = ap (λ (x : Outcome). tallyBy x t (settled w ev) (raised w ev) (dropped w ev)) o in
+      let tally : tallyBy (step w ev) t (acceptedCounts w ev) ≡ tallied t (acceptedCounts w ev) = ap (λ (x : Outcome). tallyBy x t (acceptedCounts w ev)) o in
       record {
         carried = subst⁻¹ (Carried v) world (record { good = c .good; ends = c .ends; net = c .net ∙ sym (after-net w ev); formed = step-formed w ev (after w ev) (c .formed) o });
         fits = subst⁻¹ Fits tally (record { settled = counted-fits (t .settled) (settled w ev); raised = counted-fits (t .raised) (raised w ev); dropped = counted-fits (t .dropped) (dropped w ev) });
-        acts = ap (λ (x : Stepped). deskOf (x .state) (tallied t (x .settled) (x .raised) (x .dropped))) d ∙ sym (ap₂ (λ (x : World) (u : Tally). deskOf (stateOf v x) u) world tally);
+        acts = ap (λ (x : Stepped). deskOf (x .state) (tallied t (x .counts))) d ∙ sym (ap₂ (λ (x : World) (u : Tally). deskOf (stateOf v x) u) world tally);
         says =
-            ap (λ (x : Stepped). answerText (x .answer) (x .state .flying) (tallied t (x .settled) (x .raised) (x .dropped) .settled)) d
-            ∙ ap (λ (n : ℕ). answerText 0 n (tallied t (settled w ev) (raised w ev) (dropped w ev) .settled)) (flying-is (after w ev))
+            ap (λ (x : Stepped). answerText (x .answer) (x .state .flying) (tallied t (x .counts) .settled)) d
+            ∙ ap (λ (n : ℕ). answerText 0 n (tallied t (acceptedCounts w ev) .settled)) (flying-is (after w ev))
             ∙ sym (ap₂ (λ (x : World) (u : Tally). answerText (numberOf (step w ev)) (length (x .letters)) (u .settled)) world tally
-            ∙ ap (λ (n : ℕ). answerText n (length (after w ev .letters)) (tallied t (settled w ev) (raised w ev) (dropped w ev) .settled)) (step-number w ev ∙ z));
+            ∙ ap (λ (n : ℕ). answerText n (length (after w ev .letters)) (tallied t (acceptedCounts w ev) .settled)) (step-number w ev ∙ z));
       }
 
   line-refused : (n : ℕ) → refusal w ev ≡ n → (n ≡ 0 → ⊥) → Line v w t said
@@ -128,15 +134,15 @@ module _ (v : Net) (w : World) (c : Carried v w) (t : Tally) (f : Fits t) (said 
       let o : step w ev ≡ refused n = step-refuses w ev n p h in
       let d = stepped-refused v w c (getD said 1 0) (getD said 2 0) (getD said 3 0) n p h in
       let world : next w ev ≡ w = ap (orElse w) o in
-      let tally : tallyBy (step w ev) t (settled w ev) (raised w ev) (dropped w ev) ≡ t = ap (λ (x : Outcome). tallyBy x t (settled w ev) (raised w ev) (dropped w ev)) o in
+      let tally : tallyBy (step w ev) t (acceptedCounts w ev) ≡ t = ap (λ (x : Outcome). tallyBy x t (acceptedCounts w ev)) o in
       record {
         carried = subst⁻¹ (Carried v) world c;
         fits = subst⁻¹ Fits tally f;
         acts =
-            ap (λ (x : Stepped). deskOf (x .state) (tallied t (x .settled) (x .raised) (x .dropped))) d ∙ ap (deskOf (stateOf v w)) (nothing-more t f)
+            ap (λ (x : Stepped). deskOf (x .state) (tallied t (x .counts))) d ∙ ap (deskOf (stateOf v w)) (nothing-more t f)
             ∙ sym (ap₂ (λ (x : World) (u : Tally). deskOf (stateOf v x) u) world tally);
         says =
-            ap (λ (x : Stepped). answerText (x .answer) (x .state .flying) (tallied t (x .settled) (x .raised) (x .dropped) .settled)) d
+            ap (λ (x : Stepped). answerText (x .answer) (x .state .flying) (tallied t (x .counts) .settled)) d
             ∙ ap₂ (λ (k : ℕ) (u : Tally). answerText n k (u .settled)) (flying-is w) (nothing-more t f)
             ∙ sym (ap₂ (λ (x : World) (u : Tally). answerText (numberOf (step w ev)) (length (x .letters)) (u .settled)) world tally
             ∙ ap (λ (k : ℕ). answerText k (length (w .letters)) (t .settled)) (step-number w ev ∙ p));

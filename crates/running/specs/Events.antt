@@ -10,9 +10,9 @@ use Rattle.lines.specs.Events.{eventLine}
 use Rattle.lines.specs.Split.{linesOf}
 use Rattle.net.specs.Network.{Network}
 use Rattle.sheet.specs.Sheet.{Sheet, refused, sheet}
-use Rattle.world.specs.World.{World, Event, numberOf, step, holdingAt, fresh, settled, raised, dropped}
+use Rattle.world.specs.World.{World, Event, numberOf, step, holdingAt, fresh}
 use Rattle.world.specs.History.{next}
-use Rattle.laws.specs.Tallied.{tallyBy}
+use Rattle.laws.specs.Tallied.{acceptedCounts, tallyBy}
 use Rattle.console.specs.Sheets.{fileSheet, refusalText}
 use Rattle.standing.specs.Stations.{stationText}
 
@@ -35,7 +35,7 @@ unfoldable pub done : Standing → Event → Standing
 done st e =
     record {
       world = next (st .world) e;
-      tally = tallyBy (step (st .world) e) (st .tally) (settled (st .world) e) (raised (st .world) e) (dropped (st .world) e);
+      tally = tallyBy (step (st .world) e) (st .tally) (acceptedCounts (st .world) e);
     }
 
 unfoldable pub printedFor : Standing → Event → List ℕ

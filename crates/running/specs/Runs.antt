@@ -33,7 +33,7 @@ stepBy s said = steppedOf s (getD said 1 0) (getD said 2 0) (getD said 3 0)
 unfoldable pub acted : Desk → List ℕ → Desk
 acted d said =
     let x = stepBy (d .state) said in
-    record { state = x .state; tally = tallied (d .tally) (x .settled) (x .raised) (x .dropped) }
+    record { state = x .state; tally = tallied (d .tally) (x .counts) }
 
 unfoldable pub spoken : Desk → List ℕ → List ℕ
 spoken d said = answerText (stepBy (d .state) said .answer) (acted d said .state .flying) (acted d said .tally .settled)

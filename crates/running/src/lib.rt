@@ -117,7 +117,7 @@ pub fn run_events(given: State, t: Tally, r: Reading, bytes: &[u8], out: &mut [u
         let done = network::step(state, e.kind, e.a, e.b);
         let after = done.state;
         state = after;
-        tally = tally::with_step(tally, done.settled, done.raised, done.dropped);
+        tally = tally::with_step(tally, done.counts);
         at = put_answer(out, at, done.answer, state.flying, tally.settled);
         part = read_part(lines::begin(), bytes, part.next);
     }

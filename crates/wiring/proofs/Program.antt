@@ -14,8 +14,9 @@ use Rattle.hex_lines.specs.HexSteps.{hexStart, readHex}
 use Rattle.lines.specs.Split.{linesOf}
 use Rattle.hex_lines.proofs.Split.{hex-lines}
 use Rattle.net.specs.declared.Net.{Net}
-use Rattle.net.specs.Network.{Network, sheetHolds}
-use Rattle.net.specs.Values.{netHolds}
+use Rattle.net.specs.Network.{Network}
+use Rattle.sheet_rules.specs.Rules.{sheetHolds}
+use Rattle.sheet_rules.specs.Values.{netHolds}
 use Rattle.sheet.specs.Sheet.{Sheet, refused, sheet}
 use Rattle.sheet.specs.Values.{valueOf}
 use Rattle.sheet.proofs.ValueLaws.{value-means, value-holds}

@@ -23,19 +23,22 @@ element-copy-out-st c = place-few (c .before .before .before .args .a) _ (c .pla
 number-of-requires : tie.Need-number-of-requires
 number-of-requires c κs = search needs
 
+working-links-requires : tie.Need-working-links-requires
+working-links-requires c κs = search needs
+
 reached-by-requires : tie.Need-reached-by-requires
 reached-by-requires c κs = search needs
 
 returns : tie.Need-returns
 returns c =
-    let a = c .before .before .before .before .before .before .before .args in
-    let r : Read (a .t1) (a .a) (c .before .before .before .before .before .before .well-formed .result) (c .before .before .before .before .place-of .result) (c .before .number-of .result) = record {
-      tested = c .before .before .before .before .before .before .well-formed .ensures .0;
-      sized = c .before .before .before .before .before .before .well-formed .ensures .1;
-      place = c .before .before .before .before .place-of .ensures;
-      says = c .before .number-of .ensures;
+    let a = c .before .before .before .before .before .before .before .before .args in
+    let r : Read (a .t1) (a .a) (c .before .before .before .before .before .before .before .well-formed .result) (c .before .before .before .before .before .place-of .result) (c .before .before .number-of .result) = record {
+      tested = c .before .before .before .before .before .before .before .well-formed .ensures .0;
+      sized = c .before .before .before .before .before .before .before .well-formed .ensures .1;
+      place = c .before .before .before .before .before .place-of .ensures;
+      says = c .before .before .number-of .ensures;
     } in
-    asked-is r _ (c .reached-by .ensures)
+    asked-is r _ _ (c .before .working-links .ensures) (c .reached-by .ensures)
 
 pub reach-spec : {M : Type 1} → statement M
 reach-spec =
@@ -47,5 +50,6 @@ reach-spec =
     mul-st
     element-copy-out-st
     number-of-requires
+    working-links-requires
     reached-by-requires
     returns)

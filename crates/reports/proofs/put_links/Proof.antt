@@ -5,16 +5,17 @@ use lib.ListN.{length, length-set}
 use denote.Ref.{now}
 use borrow.Author.Needs.{needs}
 use Rattle.lists.specs.Lists.{filled}
-use Rattle.reports.proofs.Output.{fill-turn}
+use Rattle.lists.specs.Words.{inWord}
+use Rattle.reports.proofs.Output.{fill-turn, link-seen}
 use Rattle.reports.specs.Steps.{linkShown}
 use Rattle.reports.proofs.put_links.Statement.{statement}
 use Rattle.reports.proofs.put_links.Tie as tie
 
 abbrev Inv-loop : tie.InvT-loop
-Inv-loop out₀ word m net counters k₀ out k = (k ≤ m) × (length out ≡ length out₀) × (out ≡ filled (linkShown net counters word) out₀ k)
+Inv-loop out₀ working word m net k₀ out k = (k ≤ m) × (length out ≡ length out₀) × (out ≡ filled (linkShown net (inWord working) word) out₀ k)
 
 abbrev μ-loop : tie.MeasureT-loop
-μ-loop out₀ word m net counters k₀ out k = m - k
+μ-loop out₀ working word m net k₀ out k = m - k
 
 loop-holds : tie.Need-loop-holds Inv-loop μ-loop
 loop-holds c = (omega arith, refl, refl)
@@ -28,11 +29,8 @@ element-copy-out-link-shown c = search needs
 element-copy-out-link-shown-2 : tie.Need-element-copy-out-link-shown-2 Inv-loop μ-loop
 element-copy-out-link-shown-2 c = search needs
 
-mul-link-shown : tie.Need-mul-link-shown Inv-loop μ-loop
-mul-link-shown c = search needs
-
-array-read-link-shown : tie.Need-array-read-link-shown Inv-loop μ-loop
-array-read-link-shown c = search needs
+has-requires : tie.Need-has-requires Inv-loop μ-loop
+has-requires c κs = search needs
 
 link-shown-requires : tie.Need-link-shown-requires Inv-loop μ-loop
 link-shown-requires c κs = search needs
@@ -48,9 +46,10 @@ loop-less c = search needs
 
 loop-again : tie.Need-loop-again Inv-loop μ-loop
 loop-again c =
-    let a = c .before .before .before .before .before .before .args in
-    let l = c .before .before .before .before .loop in
-    (omega arith, length-set (l .out) (l .k) _ ∙ l .inv .1, fill-turn (linkShown (a .t2) (a .t3) (a .word)) (now (a .out)) (l .out) (l .k) _ (l .inv .2) (c .link-shown .ensures) (search needs))
+    let a = c .before .before .before .before .before .before .before .args in
+    let l = c .before .before .before .before .before .loop in
+    let seen = link-seen (a .t2) (inWord (a .working)) (a .word) (l .k) _ _ (c .link-shown .ensures) (c .before .has .ensures) in
+    (omega arith, length-set (l .out) (l .k) _ ∙ l .inv .1, fill-turn (linkShown (a .t2) (inWord (a .working)) (a .word)) (now (a .out)) (l .out) (l .k) _ (l .inv .2) seen (search needs))
 
 same-length : tie.Need-same-length Inv-loop μ-loop
 same-length c = search needs
@@ -60,7 +59,7 @@ returns c =
     let a = c .before .before .before .args in
     let l = c .before .loop in
     let e : l .k ≡ a .m = omega arith in
-    l .inv .2 ∙ ap (filled (linkShown (a .t2) (a .t3) (a .word)) (now (a .out))) e
+    l .inv .2 ∙ ap (filled (linkShown (a .t2) (inWord (a .working)) (a .word)) (now (a .out))) e
 
 pub put-links-spec : {M : Type 1} → statement M
 put-links-spec =
@@ -72,8 +71,7 @@ put-links-spec =
     cast-i
     element-copy-out-link-shown
     element-copy-out-link-shown-2
-    mul-link-shown
-    array-read-link-shown
+    has-requires
     link-shown-requires
     slice-write-out
     add-k

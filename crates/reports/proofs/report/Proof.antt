@@ -24,6 +24,9 @@ element-copy-out-st c = place-few (c .before .before .before .before .args .a) _
 number-of-requires : tie.Need-number-of-requires
 number-of-requires c κs = search needs
 
+working-links-requires : tie.Need-working-links-requires
+working-links-requires c κs = search needs
+
 written-requires : tie.Need-written-requires
 written-requires c κs = search needs
 
@@ -32,14 +35,14 @@ same-length c = search needs
 
 returns : tie.Need-returns
 returns c =
-    let a = c .before .before .before .before .before .before .before .before .before .before .before .args in
-    let r : Read (a .t1) (a .a) (c .before .before .before .before .before .before .before .before .before .well-formed .result) (c .before .before .before .before .before .before .before .place-of .result) (c .before .before .before .before .number-of .result) = record {
-      tested = c .before .before .before .before .before .before .before .before .before .well-formed .ensures .0;
-      sized = c .before .before .before .before .before .before .before .before .before .well-formed .ensures .1;
-      place = c .before .before .before .before .before .before .before .place-of .ensures;
-      says = c .before .before .before .before .number-of .ensures;
+    let a = c .before .before .before .before .before .before .before .before .before .before .before .before .args in
+    let r : Read (a .t1) (a .a) (c .before .before .before .before .before .before .before .before .before .before .well-formed .result) (c .before .before .before .before .before .before .before .before .place-of .result) (c .before .before .before .before .before .number-of .result) = record {
+      tested = c .before .before .before .before .before .before .before .before .before .before .well-formed .ensures .0;
+      sized = c .before .before .before .before .before .before .before .before .before .before .well-formed .ensures .1;
+      place = c .before .before .before .before .before .before .before .before .place-of .ensures;
+      says = c .before .before .before .before .before .number-of .ensures;
     } in
-    (answer-seen r (now (a .out)) _ (c .before .before .written .ensures .0), output-seen r (now (a .out)) _ (c .before .before .written .ensures .1))
+    (answer-seen r (now (a .out)) _ (c .before .before .before .before .working-links .ensures) _ (c .before .before .written .ensures .0), output-seen r (now (a .out)) _ (c .before .before .before .before .working-links .ensures) _ (c .before .before .written .ensures .1))
 
 pub report-spec : {M : Type 1} → statement M
 report-spec =
@@ -51,6 +54,7 @@ report-spec =
     mul-st
     element-copy-out-st
     number-of-requires
+    working-links-requires
     written-requires
     same-length
     returns)
