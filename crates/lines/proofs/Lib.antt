@@ -1,3 +1,4 @@
 pub mod Events
 pub mod Split
 pub mod Cases
+pub mod Unique
