@@ -1,0 +1,10 @@
+pub mod Fronts
+pub mod Sheets
+pub mod Letters
+pub mod Written
+pub mod States
+pub mod Exact
+pub mod Runs
+pub mod Sample
+pub mod Promised
+pub mod Demands

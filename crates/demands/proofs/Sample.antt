@@ -1,0 +1,21 @@
+-- Document 01's own example, byte for byte: the event program's definition (crate `running`) is given the example's sheet and the text of
+-- its events, and the checker computes the whole output. Assumes nothing.
+use mathlib.Core.Path.{_≡_, refl}
+use Rattle.fields.specs.Fields.{firstField}
+use Rattle.sheet.specs.Sheet.{opened, judged, readLinks, readSheet}
+use Rattle.counters.specs.Counters.{healed, healing}
+use Rattle.reach.specs.Reach.{spread, within, reach, purge}
+use Rattle.station.specs.Acts.{openLinks, known, started, stopped, recovered, interval, answer, effectOn, received}
+use Rattle.station.specs.Events.{comesTo}
+use Rattle.world.specs.World.{exists, concerned, rule, comes, left, after, fits, refusal, step, fresh, raised}
+use Rattle.text.specs.Text.{digitsIn, digits}
+use Rattle.lines.specs.Events.{pieces, isEvent, eventLine}
+use Rattle.lines.specs.Split.{linesOf}
+use Rattle.console.specs.Sheets.{fileSheet}
+use Rattle.standing.specs.Stations.{stationText}
+use Rattle.running.specs.Events.{answerText, done, printedFor, printed, doneAll, endText, eventProgram}
+use Rattle.demands.specs.Sample.{sheet, events, output}
+
+pub sample-is : eventProgram sheet events ≡ output
+unfolding sheet events output eventProgram fileSheet readSheet firstField opened judged readLinks linesOf eventLine isEvent pieces printed printedFor done doneAll endText answerText stationText digits digitsIn fresh exists concerned rule comes comesTo left after fits refusal step raised started stopped recovered interval answer effectOn received healed healing openLinks known purge reach within spread
+sample-is = refl

@@ -1,0 +1,80 @@
+-- The calls of which the demands are claimed. One record for each: what the call is given, what it hands back, and what its promise says
+-- of that (the `ensures` of the function in src/lib.rt of its crate), and nothing else. What is lent with `&mut` has two values: one
+-- before the call, which is given, and one after it. Assumes nothing.
+use Prim.Native.Nat.{ℕ}
+use mathlib.Core.Path.{_≡_}
+use mathlib.Core.List.{List}
+use Rattle.fields.specs.Output.{writingNumbers, writingOutput}
+use Rattle.tally.specs.declared.Tally.{Tally}
+use Rattle.net.specs.declared.Letter.{Letter}
+use Rattle.net.specs.declared.Net.{Net}
+use Rattle.sheet.specs.declared.Reading.{Reading}
+use Rattle.sheet.specs.declared.Wrote as SheetWrote
+use Rattle.sheet.specs.Sheet.{readSheet}
+use Rattle.sheet.specs.Values as SheetValues
+use Rattle.letters.specs.declared.Answer.{Answer}
+use Rattle.letters.specs.declared.Wrote as LetterWrote
+use Rattle.letters.specs.Values as LetterValues
+use Rattle.world.specs.World.{Event}
+use Rattle.state.specs.declared.State.{State}
+use Rattle.beginning.specs.declared.Begun.{Begun}
+use Rattle.beginning.specs.Beginning.{begunOf}
+use Rattle.stepping.specs.declared.Stepped.{Stepped}
+use Rattle.stepping.specs.Step.{steppedOf}
+use Rattle.counting.specs.Counting.{talliedBy}
+use Rattle.reaching.specs.declared.Asked.{Asked}
+use Rattle.reaching.specs.Answers.{askedOf}
+use Rattle.reports.specs.Answers.{answerOf, outputOf}
+
+-- sheet::read(bytes)
+pub record ReadsSheet (bytes : List ℕ) : Type 0 where
+  pub answer : Reading
+  pub promise : SheetValues.Says answer (readSheet bytes)
+
+-- sheet_writing::write(net, out)
+pub record WritesSheet (net : Net) (old : List ℕ) : Type 0 where
+  pub answer : SheetWrote.Wrote
+  pub output : List ℕ
+  pub promise : SheetValues.wroteNumbers answer ≡ writingNumbers (SheetValues.writing net old)
+  pub promise-output : output ≡ writingOutput (SheetValues.writing net old) old
+
+-- letters::read(net, bytes)
+pub record ReadsLetter (net : Net) (bytes : List ℕ) : Type 0 where
+  pub answer : Answer
+  pub promise : LetterValues.lettersOf answer ≡ LetterValues.reading net bytes
+
+-- letter_writing::write(net, letter, out)
+pub record WritesLetter (net : Net) (x : Letter) (old : List ℕ) : Type 0 where
+  pub answer : LetterWrote.Wrote
+  pub output : List ℕ
+  pub promise : LetterValues.wroteNumbers answer ≡ writingNumbers (LetterValues.writing net x old)
+  pub promise-output : output ≡ writingOutput (LetterValues.writing net x old) old
+
+-- beginning::fresh(net)
+pub record Begins (net : Net) : Type 0 where
+  pub answer : Begun
+  pub promise : answer ≡ begunOf net
+
+-- network::step(s, kind, a, b)
+pub record Steps (s : State) (e : Event) : Type 0 where
+  pub answer : Stepped
+  pub promise : answer ≡ steppedOf s (e .kind) (e .a) (e .b)
+
+-- counting::step_counted(&mut tally, s, kind, a, b)
+pub record StepsCounted (before : Tally) (s : State) (e : Event) : Type 0 where
+  pub answer : Stepped
+  pub tally : Tally
+  pub promise : answer ≡ steppedOf s (e .kind) (e .a) (e .b)
+  pub promise-tally : tally ≡ talliedBy (steppedOf s (e .kind) (e .a) (e .b)) before
+
+-- reaching::reach(s, a)
+pub record AsksReach (s : State) (a : ℕ) : Type 0 where
+  pub answer : Asked
+  pub promise : answer ≡ askedOf s a
+
+-- reports::report(s, a, out)
+pub record AsksReport (s : State) (a : ℕ) (old : List ℕ) : Type 0 where
+  pub answer : ℕ
+  pub output : List ℕ
+  pub promise : answer ≡ answerOf s a old
+  pub promise-output : output ≡ outputOf s a old

@@ -1,0 +1,59 @@
+-- The numbers of the calls over a state, each with its reason: "Calls over a state go 11, 6, 7, 8, 9, 10". Assumes nothing.
+use Prim.Native.Nat.{ℕ, _+_, _≤_, _<_}
+use mathlib.Core.Bool.{not}
+use mathlib.Core.List.{List}
+use lib.Dec.{T}
+use lib.ListN.{length}
+use Rattle.net.specs.declared.Net.{Net}
+use Rattle.station.specs.Holding.{isLive}
+use Rattle.world.specs.World.{Event, exists, allowed, over, fits}
+use Rattle.state.specs.declared.State.{State}
+use Rattle.state.specs.State.{stationIn, worldOf, stateHolds}
+use Rattle.demands.specs.Given.{GoodNet, BadNet}
+
+-- a state given that is well formed, and one that isn't
+abbrev pub GoodState : State → Type 0
+GoodState s = T (stateHolds s)
+
+abbrev pub BadState : State → Type 0
+BadState s = T (not (stateHolds s))
+
+-- ---- THE FRESH STATE of a network given
+pub data Fresh (net : Net) : ℕ → Type 0 where
+  eleven : BadNet net → Fresh net 11
+  taken : GoodNet net → Fresh net 0
+
+-- ---- THE STEP, and the step that is lent a tally: 11, 6, 7, 8, 9. The definitions of world/specs say of an event in the world that the
+-- state means: there is what it names, the station's condition and marks allow it, a reply would make a counter 65,536, the letters in
+-- flight after it are at most 4,096
+pub data Step (s : State) (e : Event) : ℕ → Type 0 where
+  eleven : BadState s → Step s e 11
+  six : GoodState s → T (not (exists (worldOf s) e)) → Step s e 6
+  seven : GoodState s → T (exists (worldOf s) e) → T (not (allowed (worldOf s) e)) → Step s e 7
+  eight : GoodState s → T (exists (worldOf s) e) → T (allowed (worldOf s) e) → T (over (worldOf s) e) → Step s e 8
+  nine : GoodState s → T (exists (worldOf s) e) → T (allowed (worldOf s) e) → T (not (over (worldOf s) e)) → T (not (fits (worldOf s) e))
+      → Step s e 9
+  taken : GoodState s → T (exists (worldOf s) e) → T (allowed (worldOf s) e) → T (not (over (worldOf s) e)) → T (fits (worldOf s) e)
+      → Step s e 0
+
+-- ---- THE REACH of station a: 11, 6, 7
+pub data Reach (s : State) (a : ℕ) : ℕ → Type 0 where
+  eleven : BadState s → Reach s a 11
+  -- no such station
+  six : GoodState s → s .net .stations ≤ a → Reach s a 6
+  -- it isn't live
+  seven : GoodState s → a < s .net .stations → T (not (isLive (stationIn s a .condition))) → Reach s a 7
+  taken : GoodState s → a < s .net .stations → T (isLive (stationIn s a .condition)) → Reach s a 0
+
+-- how many bytes a report has: one per station, then one per link
+abbrev pub reportSize : State → ℕ
+reportSize s = s .net .stations + s .net .links
+
+-- ---- THE REPORT of station a into lent output: 11, 6, 7, 10
+pub data Report (s : State) (a : ℕ) (old : List ℕ) : ℕ → Type 0 where
+  eleven : BadState s → Report s a old 11
+  six : GoodState s → s .net .stations ≤ a → Report s a old 6
+  seven : GoodState s → a < s .net .stations → T (not (isLive (stationIn s a .condition))) → Report s a old 7
+  -- the lent output is too short
+  ten : GoodState s → a < s .net .stations → T (isLive (stationIn s a .condition)) → length old < reportSize s → Report s a old 10
+  taken : GoodState s → a < s .net .stations → T (isLive (stationIn s a .condition)) → reportSize s ≤ length old → Report s a old 0
