@@ -1,4 +1,2 @@
 pub mod Small
-pub mod Started
-pub mod Recovery
-pub mod Events
+pub mod Recovered

@@ -1,11 +1,9 @@
 // The plans of events 1 to 6, each by its number in document 01. Inner doors: the call is the network's step.
 ghost use mathlib.Core.Path.{_≡_};
-ghost use mathlib.Core.Bool.{not, _&&_};
 ghost use Rattle.station.specs.Holding.{isDown, isWaiting};
-ghost use Rattle.station_plan.specs.Planned.{StartPlans, StopPlans, RecoveryPlans, IntervalPlans, TimeoutPlans, QuietPlans};
+ghost use Rattle.plan_rules.specs.Rules.{mayEnd, startPlan, stopPlan, recoveryPlan, intervalPlan, timeoutPlan, quietPlan};
 use marks::Marks;
 use marks::Words;
-use sending::Sending;
 use station::Condition;
 use station_plan::Plan;
 use tally::Tally;
@@ -34,7 +32,7 @@ fn is_waiting(c: Condition) -> bool
 
 // Whether an interval may end on a link with these marks.
 fn may_end(live: bool, m: Marks) -> bool
-    ensures { λ r. ⌜ r ≡ (live && (not (m .testing) && not (m .quiet))) ⌝ }
+    ensures { λ r. ⌜ r ≡ mayEnd live m ⌝ }
 {
     if !live {
         return false;
@@ -47,7 +45,7 @@ fn may_end(live: bool, m: Marks) -> bool
 
 // 1. Start.
 pub fn plan_start(own: u64, condition: Condition, w: Words) -> Plan
-    ensures { λ r. ⌜ StartPlans own condition w r ⌝ }
+    ensures { λ r. ⌜ r ≡ startPlan own condition w ⌝ }
 {
     if !is_down(condition) {
         return station_plan::staying(7, 0, 0, condition, w);
@@ -64,7 +62,7 @@ pub fn plan_start(own: u64, condition: Condition, w: Words) -> Plan
 
 // 2. Stop.
 pub fn plan_stop(condition: Condition, w: Words) -> Plan
-    ensures { λ r. ⌜ StopPlans condition w r ⌝ }
+    ensures { λ r. ⌜ r ≡ stopPlan condition w ⌝ }
 {
     if is_down(condition) {
         return station_plan::staying(7, 0, 0, condition, w);
@@ -81,7 +79,7 @@ pub fn plan_stop(condition: Condition, w: Words) -> Plan
 
 // 3. The recovery wait ends.
 pub fn plan_recovery(own: u64, condition: Condition, w: Words) -> Plan
-    ensures { λ r. ⌜ RecoveryPlans own condition w r ⌝ }
+    ensures { λ r. ⌜ r ≡ recoveryPlan own condition w ⌝ }
 {
     if !is_waiting(condition) {
         return station_plan::staying(7, 0, 0, condition, w);
@@ -93,7 +91,7 @@ pub fn plan_recovery(own: u64, condition: Condition, w: Words) -> Plan
 
 // 4. An interval ends on link k.
 pub fn plan_interval(k: u8, condition: Condition, w: Words) -> Plan
-    ensures { λ r. ⌜ IntervalPlans k condition w r ⌝ }
+    ensures { λ r. ⌜ r ≡ intervalPlan k condition w ⌝ }
 {
     let m = marks::marks_at(w, k);
     if !may_end(station::is_live(condition), m) {
@@ -107,7 +105,7 @@ pub fn plan_interval(k: u8, condition: Condition, w: Words) -> Plan
 // 5. A timeout ends on link k, whose counter is c. A link that worked is raised, told of and kept quiet; what is out of reach then is
 // purged.
 pub fn plan_timeout(own: u64, k: u8, c: u16, condition: Condition, w: Words) -> Plan
-    ensures { λ r. ⌜ TimeoutPlans own k c condition w r ⌝ }
+    ensures { λ r. ⌜ r ≡ timeoutPlan own k c condition w ⌝ }
 {
     if !words::has(w.testing, k) {
         return station_plan::staying(7, 0, 0, condition, w);
@@ -118,35 +116,19 @@ pub fn plan_timeout(own: u64, k: u8, c: u16, condition: Condition, w: Words) -> 
     let after = marks_after::failed_words(w, k);
     let subjects = words::put(0, k, true);
     let ways = words::put(words::without(own, w.quiet), k, false); // every other own link
-    Plan {
-        answer: 0,
-        condition,
-        marks: after,
-        resets: false,
-        sets: true,
-        at: k,
-        counter: counters::timed_out(c),
-        purges: true, // a link that failed may have cut others off
-        knows: false,
-        sends: Sending {
-            requests: 0,
-            subjects,
-            ways,
-            replies: false,
-            reply: 0,
-            link: 0,
-        },
-        counts: Tally {
-            settled: 0,
-            raised: 1,
-            dropped: 0,
-        },
-    }
+    let raised = Tally {
+        settled: 0,
+        raised: 1,
+        dropped: 0,
+    };
+    // a link that failed may have cut others off: purge
+    let up = counters::timed_out(c);
+    station_plan::telling(condition, after, k, up, true, false, subjects, ways, raised)
 }
 
 // 6. Quiet ends on link k.
 pub fn plan_quiet_end(k: u8, condition: Condition, w: Words) -> Plan
-    ensures { λ r. ⌜ QuietPlans k condition w r ⌝ }
+    ensures { λ r. ⌜ r ≡ quietPlan k condition w ⌝ }
 {
     if !words::has(w.quiet, k) {
         return station_plan::staying(7, 0, 0, condition, w);

@@ -1,12 +1,9 @@
 // The marks after events 3 to 6, in words: what becomes of one link's, and of all links' where one changes.
 ghost use mathlib.Core.Path.{_≡_};
-ghost use mathlib.Core.Bool.{true, false, _&&_};
-ghost use Rattle.lists.specs.Words.{inWord};
-ghost use Rattle.words.specs.Sets.{wordBy};
-ghost use Rattle.marks.specs.Marks.{marksAt, wordsWith};
+ghost use mathlib.Core.Bool.{false};
 ghost use Rattle.station.specs.Holding.{setQuiet};
 ghost use Rattle.station.specs.Acts.{intervalMarks, intervalTests, testEnded};
-ghost use Rattle.station_plan.specs.Plans.{recoveredWords};
+ghost use Rattle.plan_rules.specs.Rules.{testsOn, recoveredWords, changed, failed};
 use marks::Marks;
 use marks::Words;
 
@@ -72,7 +69,7 @@ fn test_ended(m: Marks) -> Marks
 
 // The marks of all links once a test on link k has ended.
 pub fn ended_words(w: Words, k: u8) -> Words
-    ensures { λ r. ⌜ r ≡ wordsWith w k (testEnded (marksAt w k)) ⌝ }
+    ensures { λ r. ⌜ r ≡ changed testEnded k w ⌝ }
 {
     let m = marks::marks_at(w, k);
     marks::with_marks(w, k, test_ended(m))
@@ -80,7 +77,7 @@ pub fn ended_words(w: Words, k: u8) -> Words
 
 // The same, and the link is kept quiet: nothing is sent or heard there until quiet ends.
 pub fn failed_words(w: Words, k: u8) -> Words
-    ensures { λ r. ⌜ r ≡ wordsWith w k (setQuiet true (testEnded (marksAt w k))) ⌝ }
+    ensures { λ r. ⌜ r ≡ changed failed k w ⌝ }
 {
     let m = test_ended(marks::marks_at(w, k));
     let silenced = Marks {
@@ -95,7 +92,7 @@ pub fn failed_words(w: Words, k: u8) -> Words
 
 // Quiet ends on link k.
 pub fn loud_words(w: Words, k: u8) -> Words
-    ensures { λ r. ⌜ r ≡ wordsWith w k (setQuiet false (marksAt w k)) ⌝ }
+    ensures { λ r. ⌜ r ≡ changed (setQuiet false) k w ⌝ }
 {
     let m = marks::marks_at(w, k);
     let loud = Marks {
@@ -126,7 +123,7 @@ pub fn recovered_words(own: u64, w: Words) -> Words
 
 // The own links on which a test begins.
 pub fn tests_on(own: u64, w: Words) -> u64
-    ensures { λ r. ⌜ r ≡ wordBy (λ t. inWord own t && intervalTests (marksAt w t)) ⌝ }
+    ensures { λ r. ⌜ r ≡ testsOn own w ⌝ }
 {
     let neither = words::without(words::without(own, w.token), w.turn);
     words::without(own, neither)

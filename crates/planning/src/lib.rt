@@ -1,5 +1,6 @@
 // What an event comes to at the one station that it concerns, by its kind. An inner door: the call is the network's step.
-ghost use Rattle.station_plan.specs.Planned.{EventPlans};
+ghost use mathlib.Core.Path.{_≡_};
+ghost use Rattle.plan_rules.specs.Rules.{eventPlan};
 use marks::Words;
 use net::Letter;
 use station::Condition;
@@ -20,7 +21,7 @@ pub fn plan_event(
     condition: Condition,
     w: Words,
 ) -> Plan
-    ensures { λ r. ⌜ EventPlans there kind own me k letter c told condition w r ⌝ }
+    ensures { λ r. ⌜ r ≡ eventPlan there kind own me k letter c told condition w ⌝ }
 {
     if !there {
         return station_plan::staying(6, 0, 0, condition, w);

@@ -3,12 +3,12 @@ ghost use mathlib.Core.Path.{_≡_};
 ghost use mathlib.Core.Bool.{true};
 ghost use Rattle.lists.specs.Lists.{if_then_else_};
 ghost use Rattle.lists.specs.Words.{bit};
-ghost use Rattle.marks.specs.Marks.{marksAt, wordsWith};
 ghost use Rattle.station.specs.Holding.{setAsked};
 ghost use Rattle.station.specs.Acts.{requestedMarks, repliedMarks};
-ghost use Rattle.station.specs.Events.{isNotice};
+ghost use Rattle.station.specs.declared.Effect.the-variants.{Takes};
+ghost use Rattle.station.specs.Events.{counting, isNotice};
 ghost use Rattle.station_plan.specs.Plans.{dropping};
-ghost use Rattle.station_plan.specs.Planned.{AnswerPlans, ReplyPlans, TakePlans, EffectPlans, LetterPlans};
+ghost use Rattle.plan_rules.specs.Rules.{changed, answerPlan, replyPlan, effectPlan, letterPlan};
 use marks::Marks;
 use marks::Words;
 use net::Body;
@@ -44,9 +44,20 @@ fn one_if(on: bool) -> u64
     if on { 1 } else { 0 }
 }
 
+// What a letter that is heard adds to the tally.
+fn counted(settled: u64, raised: u64) -> Tally
+    ensures { λ r. ⌜ r ≡ counting settled raised 0 ⌝ }
+{
+    Tally {
+        settled,
+        raised,
+        dropped: 0,
+    }
+}
+
 // A request that is put off.
 fn asked_words(w: Words, k: u8) -> Words
-    ensures { λ r. ⌜ r ≡ wordsWith w k (setAsked true (marksAt w k)) ⌝ }
+    ensures { λ r. ⌜ r ≡ changed (setAsked true) k w ⌝ }
 {
     let m = marks::marks_at(w, k);
     let asked = Marks {
@@ -61,7 +72,7 @@ fn asked_words(w: Words, k: u8) -> Words
 
 // A request that is answered: testing and asked off, token on, turn off.
 fn requested_words(w: Words, k: u8) -> Words
-    ensures { λ r. ⌜ r ≡ wordsWith w k (requestedMarks (marksAt w k)) ⌝ }
+    ensures { λ r. ⌜ r ≡ changed requestedMarks k w ⌝ }
 {
     let m = marks::marks_at(w, k);
     let rested = Marks {
@@ -76,7 +87,7 @@ fn requested_words(w: Words, k: u8) -> Words
 
 // A reply to a test on link k: testing and asked off.
 fn replied_words(w: Words, k: u8) -> Words
-    ensures { λ r. ⌜ r ≡ wordsWith w k (repliedMarks (marksAt w k)) ⌝ }
+    ensures { λ r. ⌜ r ≡ changed repliedMarks k w ⌝ }
 {
     let m = marks::marks_at(w, k);
     let ended = Marks {
@@ -90,8 +101,8 @@ fn replied_words(w: Words, k: u8) -> Words
 }
 
 // A request is answered: over a link that was down all that is known is told, but of the link itself; last comes the reply.
-fn plan_answer(k: u8, c: u16, condition: Condition, w: Words) -> Plan
-    ensures { λ r. ⌜ AnswerPlans k c condition w r ⌝ }
+fn plan_answer(k: u8, c: u16, settled: u64, condition: Condition, w: Words) -> Plan
+    ensures { λ r. ⌜ r ≡ answerPlan k c settled condition w ⌝ }
 {
     let after = requested_words(w, k);
     let down = !counters::is_even(c);
@@ -116,92 +127,81 @@ fn plan_answer(k: u8, c: u16, condition: Condition, w: Words) -> Plan
             reply: c,
             link: k,
         },
-        counts: Tally {
-            settled: 0,
-            raised: 0,
-            dropped: 0,
-        },
+        counts: counted(settled, 0),
     }
 }
 
 // A reply to a test. It heals if one of the two counters was odd: everything that is known is told, and what is out of reach then is
 // purged. Else it levels two even ones: this link alone is told.
-fn plan_reply(own: u64, k: u8, c: u16, to: u16, heals: bool, condition: Condition, w: Words) -> Plan
-    ensures { λ r. ⌜ ReplyPlans own k c to heals condition w r ⌝ }
+fn plan_reply(
+    own: u64,
+    k: u8,
+    settled: u64,
+    raised: u64,
+    to: u16,
+    heals: bool,
+    condition: Condition,
+    w: Words,
+) -> Plan
+    ensures { λ r. ⌜ r ≡ replyPlan own k settled raised to heals condition w ⌝ }
 {
     let after = replied_words(w, k);
     let alone = words::put(0, k, true);
     let subjects = pick(heals, 18446744073709551615, alone);
     let ways = words::without(own, w.quiet);
-    Plan {
-        answer: 0,
+    let counts = counted(settled, raised);
+    station_plan::telling(
         condition,
-        marks: after,
-        resets: false,
-        sets: true,
-        at: k,
-        counter: to,
-        purges: heals,
-        knows: heals,
-        sends: Sending {
-            requests: 0,
-            subjects,
-            ways,
-            replies: false,
-            reply: 0,
-            link: 0,
-        },
-        counts: Tally {
-            settled: 0,
-            raised: one_if(c < to),
-            dropped: 0,
-        },
-    }
+        after,
+        k,
+        to,
+        heals,
+        heals,
+        subjects,
+        ways,
+        counts,
+    )
 }
 
 // A newer notice: taken, and sent on wherever it did not come from.
-fn plan_take(own: u64, k: u8, j: u8, to: u16, condition: Condition, w: Words) -> Plan
-    ensures { λ r. ⌜ TakePlans own k j to condition w r ⌝ }
+fn plan_take(
+    own: u64,
+    k: u8,
+    c: u16,
+    settled: u64,
+    j: u8,
+    to: u16,
+    condition: Condition,
+    w: Words,
+) -> Plan
+    ensures { λ r. ⌜ r ≡ effectPlan own k c settled condition w (Takes j to) ⌝ }
 {
     let subjects = words::put(0, j, true);
     let ways = words::put(words::without(own, w.quiet), k, false); // not back
-    Plan {
-        answer: 0,
-        condition,
-        marks: w,
-        resets: false,
-        sets: true,
-        at: j,
-        counter: to,
-        purges: false, // or one notice could circle a ring for ever
-        knows: false,
-        sends: Sending {
-            requests: 0,
-            subjects,
-            ways,
-            replies: false,
-            reply: 0,
-            link: 0,
-        },
-        counts: Tally {
-            settled: 1,
-            raised: 1,
-            dropped: 0,
-        },
-    }
+    let counts = counted(settled, 1);
+    // no purge, or one notice could circle a ring for ever
+    station_plan::telling(condition, w, j, to, false, false, subjects, ways, counts)
 }
 
 // What a letter that is heard comes to, by what it does.
-fn plan_effect(own: u64, k: u8, c: u16, effect: Effect, condition: Condition, w: Words) -> Plan
-    ensures { λ r. ⌜ EffectPlans own k c effect condition w r ⌝ }
+fn plan_effect(
+    own: u64,
+    k: u8,
+    c: u16,
+    settled: u64,
+    effect: Effect,
+    condition: Condition,
+    w: Words,
+) -> Plan
+    ensures { λ r. ⌜ r ≡ effectPlan own k c settled condition w effect ⌝ }
 {
     match effect {
-        Effect::Defers => station_plan::staying(0, 0, 0, condition, asked_words(w, k)),
-        Effect::Answers => plan_answer(k, c, condition, w),
-        Effect::Heals(to) => plan_reply(own, k, c, to, true, condition, w),
-        Effect::Levels(to) => plan_reply(own, k, c, to, false, condition, w),
-        Effect::Equal => station_plan::staying(0, 0, 0, condition, replied_words(w, k)),
-        Effect::Takes(j, to) => plan_take(own, k, j, to, condition, w),
+        Effect::Defers => station_plan::staying(0, settled, 0, condition, asked_words(w, k)),
+        Effect::Answers => plan_answer(k, c, settled, condition, w),
+        Effect::Heals(to) => plan_reply(own, k, settled, one_if(c < to), to, true, condition, w),
+        Effect::Levels(to) => plan_reply(own, k, settled, one_if(c < to), to, false, condition, w),
+        Effect::Equal => station_plan::staying(0, settled, 0, condition, replied_words(w, k)),
+        Effect::Takes(j, to) => plan_take(own, k, c, settled, j, to, condition, w),
     }
 }
 
@@ -228,12 +228,13 @@ pub fn plan_letter(
     condition: Condition,
     w: Words,
 ) -> Plan
-    ensures { λ r. ⌜ LetterPlans own me k letter c told condition w r ⌝ }
+    ensures { λ r. ⌜ r ≡ letterPlan own me k letter c told condition w ⌝ }
 {
     let body = letter.body;
     let said = hearing::hearing(me, k, letter.sender, body, c, told, condition, w);
+    let settled = settled_by(letter);
     let Heard::Does(effect) = said else {
-        return plan_drop(said, settled_by(letter), condition, w);
+        return plan_drop(said, settled, condition, w);
     };
-    plan_effect(own, k, c, effect, condition, w)
+    plan_effect(own, k, c, settled, effect, condition, w)
 }

@@ -3,21 +3,16 @@
 use Prim.Native.Nat.{ℕ}
 use mathlib.Core.Bool.{Bool, true, false}
 use mathlib.Core.List.{List}
-use Rattle.lists.specs.Lists.{if_then_else_}
-use Rattle.lists.specs.Words.{inWord}
 use Rattle.tally.specs.declared.Tally.{Tally}
 use Rattle.net.specs.declared.Letter.{Letter}
 use Rattle.net.specs.declared.Net.{Net}
 use Rattle.net.specs.Values.{linkCount}
-use Rattle.words.specs.Sets.{wordBy}
 use Rattle.marks.specs.declared.Words.{Words}
-use Rattle.marks.specs.Marks.{marksAt}
 use Rattle.sending.specs.declared.Sending.{Sending}
 use Rattle.station.specs.declared.Condition.{Condition}
 use Rattle.station.specs.declared.Heard.{Heard}
 use Rattle.station.specs.declared.Heard.the-variants.{Gone, Nothing, Overflows, Does}
 use Rattle.station.specs.declared.Station.{Station}
-use Rattle.station.specs.Acts.{intervalMarks}
 use Rattle.station.specs.Events.{counting}
 use Rattle.station.specs.Values.{lettersOf}
 use Rattle.station_plan.specs.declared.Plan.{Plan}
@@ -86,17 +81,6 @@ tells x w at c purges knows subjects ways t =
       knows = knows;
       sends = record { requests = 0; subjects = subjects; ways = ways; replies = false; reply = 0; link = 0 };
       counts = t;
-    }
-
--- event 4's work on the marks of each own link, as words
-abbrev pub recoveredWords : ℕ → Words → Words
-recoveredWords own w =
-    record {
-      token = wordBy (λ t. (if inWord own t then intervalMarks (marksAt w t) else marksAt w t) .token);
-      turn = wordBy (λ t. (if inWord own t then intervalMarks (marksAt w t) else marksAt w t) .turn);
-      testing = wordBy (λ t. (if inWord own t then intervalMarks (marksAt w t) else marksAt w t) .testing);
-      asked = w .asked;
-      quiet = w .quiet;
     }
 
 -- a letter that does nothing: dropped, without effect, or refused (8)

@@ -1,9 +1,10 @@
 // A plan: what an event comes to at the one station that it concerns, in words. It holds no table and no station, and is made from the
 // station's condition, its five words of marks, its own links and the counters concerned. Nothing is stored here; the network's step
-// does that, by crate carrying. Here is what a plan says and must say; the plans are made by acting (events 1 to 6), receiving (a
-// letter) and planning (any event).
+// does that, by crate carrying. Here is what a plan says and the three forms that most plans have; plan_rules has the plan of each event
+// as a definition, and acting (events 1 to 6), receiving (a letter) and planning (any event) make it. Inner doors: the call is the
+// network's step.
 ghost use mathlib.Core.Path.{_≡_};
-ghost use Rattle.station_plan.specs.Plans.{stays, turns};
+ghost use Rattle.station_plan.specs.Plans.{stays, turns, tells};
 use marks::Words;
 use sending::Sending;
 use station::Condition;
@@ -85,5 +86,41 @@ pub fn turning(condition: Condition, w: Words, requests: u64, resets: bool) -> P
             raised: 0,
             dropped: 0,
         },
+    }
+}
+
+// One counter is set, and notices of these subjects are sent on these ways.
+pub fn telling(
+    condition: Condition,
+    w: Words,
+    at: u8,
+    counter: u16,
+    purges: bool,
+    knows: bool,
+    subjects: u64,
+    ways: u64,
+    counts: Tally,
+) -> Plan
+    ensures { λ r. ⌜ r ≡ tells condition w at counter purges knows subjects ways counts ⌝ }
+{
+    Plan {
+        answer: 0,
+        condition,
+        marks: w,
+        resets: false,
+        sets: true, // or what is told would not be so here
+        at,
+        counter,
+        purges,
+        knows,
+        sends: Sending {
+            requests: 0, // nobody is asked
+            subjects,
+            ways,
+            replies: false,
+            reply: 0,
+            link: 0,
+        },
+        counts,
     }
 }

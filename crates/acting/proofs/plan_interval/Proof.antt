@@ -1,5 +1,6 @@
+use Rattle.acting.proofs.Small.{interval-refused, interval-done}
+use mathlib.Core.Path.{sym, _∙_}
 use borrow.Author.Tests.{not-true, not-false}
-use Rattle.acting.proofs.Events.{interval-refused, interval-done}
 use borrow.Author.Needs.{needs}
 use Rattle.acting.proofs.plan_interval.Statement.{statement}
 use Rattle.acting.proofs.plan_interval.Tie as tie
@@ -19,7 +20,7 @@ staying-requires c κs = search needs
 returns : tie.Need-returns
 returns c =
     let a = c .before .before .before .before .before .args in
-    λ s net st like h l. interval-refused net s st (a .condition) (a .w) like (a .k) h _ _ _ _ (c .before .before .before .is-live .ensures) (c .before .before .before .before .marks-at .ensures) (c .before .before .may-end .ensures) (not-true _ (c .before .if1 .taken)) (c .staying .ensures)
+    interval-refused (a .k) (a .condition) (a .w) _ _ _ (c .before .before .before .is-live .ensures) (c .before .before .before .before .marks-at .ensures) (c .before .before .may-end .ensures) _ (not-true _ (c .before .if1 .taken)) (c .staying .ensures)
 
 tests-now-requires : tie.Need-tests-now-requires
 tests-now-requires c κs = search needs
@@ -39,7 +40,7 @@ turning-requires c κs = search needs
 returns-2 : tie.Need-returns-2
 returns-2 c =
     let a = c .before .before .before .before .before .before .before .before .before .args in
-    λ s net st like h l. interval-done net s st (a .condition) (a .w) like (a .k) h _ _ _ _ _ _ _ _ (c .before .before .before .before .before .before .before .is-live .ensures) (c .before .before .before .before .before .before .before .before .marks-at .ensures) (c .before .before .before .before .before .before .may-end .ensures) (not-false _ (c .before .before .before .before .before .if1 .left))
+    interval-done (a .k) (a .condition) (a .w) _ _ _ (c .before .before .before .before .before .before .before .is-live .ensures) (c .before .before .before .before .before .before .before .before .marks-at .ensures) (c .before .before .before .before .before .before .may-end .ensures) _ _ _ _ _ (not-false _ (c .before .before .before .before .before .if1 .left))
     (c .before .before .before .before .tests-now .ensures) (c .before .before .before .put .ensures) (c .before .before .interval-marks .ensures) (c .before .with-marks .ensures) (c .turning .ensures)
 
 pub plan-interval-spec : {M : Type 1} → statement M

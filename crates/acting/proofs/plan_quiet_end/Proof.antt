@@ -1,5 +1,5 @@
+use mathlib.Core.Path.{sym, _∙_, ap}
 use borrow.Author.Tests.{not-true, not-false}
-use Rattle.acting.proofs.Events.{quiet-refused, quiet-done}
 use borrow.Author.Needs.{needs}
 use Rattle.acting.proofs.plan_quiet_end.Statement.{statement}
 use Rattle.acting.proofs.plan_quiet_end.Tie as tie
@@ -11,9 +11,7 @@ staying-requires : tie.Need-staying-requires
 staying-requires c κs = search needs
 
 returns : tie.Need-returns
-returns c =
-    let a = c .before .before .before .args in
-    λ s net st like h l. quiet-refused net s st (a .condition) (a .w) like (a .k) h _ _ (c .before .before .has .ensures) (not-true _ (c .before .if1 .taken)) (c .staying .ensures)
+returns c = rw (sym (c .before .before .has .ensures) ∙ not-true _ (c .before .if1 .taken)) (c .staying .ensures)
 
 loud-words-requires : tie.Need-loud-words-requires
 loud-words-requires c κs = search needs
@@ -22,9 +20,7 @@ turning-requires : tie.Need-turning-requires
 turning-requires c κs = search needs
 
 returns-2 : tie.Need-returns-2
-returns-2 c =
-    let a = c .before .before .before .before .args in
-    λ s net st like h l. quiet-done net s st (a .condition) (a .w) like (a .k) h _ _ _ (c .before .before .before .has .ensures) (not-false _ (c .before .before .if1 .left)) (c .before .loud-words .ensures) (c .turning .ensures)
+returns-2 c = rw (sym (c .before .before .before .has .ensures) ∙ not-false _ (c .before .before .if1 .left)) (rw (sym (c .before .loud-words .ensures)) (c .turning .ensures))
 
 pub plan-quiet-end-spec : {M : Type 1} → statement M
 plan-quiet-end-spec =

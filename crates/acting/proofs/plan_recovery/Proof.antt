@@ -1,13 +1,8 @@
 use mathlib.Core.Path.{sym, _∙_}
 use borrow.Author.Tests.{not-true, not-false}
-use Rattle.station.proofs.Laid.{Fit}
-use Rattle.acting.proofs.Events.{recovery-refused, recovery-done}
 use borrow.Author.Needs.{needs}
 use Rattle.acting.proofs.plan_recovery.Statement.{statement}
 use Rattle.acting.proofs.plan_recovery.Tie as tie
-
-fit : (c : tie.Start) → Fit (c .args .w)
-fit c = record { token = search needs; turn = search needs; testing = search needs; asked = search needs; quiet = search needs }
 
 is-waiting-requires : tie.Need-is-waiting-requires
 is-waiting-requires c κs = search needs
@@ -16,9 +11,7 @@ staying-requires : tie.Need-staying-requires
 staying-requires c κs = search needs
 
 returns : tie.Need-returns
-returns c =
-    let a = c .before .before .before .args in
-    λ s net st like o k l. recovery-refused net s st (a .condition) (a .w) like _ (sym (c .before .before .is-waiting .ensures) ∙ not-true _ (c .before .if1 .taken)) (c .staying .ensures)
+returns c = rw (sym (c .before .before .is-waiting .ensures) ∙ not-true _ (c .before .if1 .taken)) (c .staying .ensures)
 
 tests-on-requires : tie.Need-tests-on-requires
 tests-on-requires c κs = search needs
@@ -30,10 +23,7 @@ turning-requires : tie.Need-turning-requires
 turning-requires c κs = search needs
 
 returns-2 : tie.Need-returns-2
-returns-2 c =
-    let a = c .before .before .before .before .before .args in
-    λ s net st like o k l. recovery-done net s st (a .condition) (a .w) like (a .own) _ _ _ (fit (c .before .before .before .before .before)) o (sym (c .before .before .before .before .is-waiting .ensures) ∙ not-false _ (c .before .before .before .if1 .left))
-    (c .before .recovered-words .ensures) (c .before .before .tests-on .ensures) (c .turning .ensures)
+returns-2 c = rw (sym (c .before .before .before .before .is-waiting .ensures) ∙ not-false _ (c .before .before .before .if1 .left)) (rw (sym (c .before .recovered-words .ensures)) (rw (sym (c .before .before .tests-on .ensures)) (c .turning .ensures)))
 
 pub plan-recovery-spec : {M : Type 1} → statement M
 plan-recovery-spec =

@@ -1,6 +1,5 @@
 use mathlib.Core.Path.{sym, _∙_}
 use borrow.Author.Tests.{not-true, not-false}
-use Rattle.acting.proofs.Events.{start-refused, start-done}
 use borrow.Author.Needs.{needs}
 use Rattle.acting.proofs.plan_start.Statement.{statement}
 use Rattle.acting.proofs.plan_start.Tie as tie
@@ -12,17 +11,13 @@ staying-requires : tie.Need-staying-requires
 staying-requires c κs = search needs
 
 returns : tie.Need-returns
-returns c =
-    let a = c .before .before .before .args in
-    λ s net st like o k l. start-refused net s st (a .condition) (a .w) like _ (sym (c .before .before .is-down .ensures) ∙ not-true _ (c .before .if1 .taken)) (c .staying .ensures)
+returns c = rw (sym (c .before .before .is-down .ensures) ∙ not-true _ (c .before .if1 .taken)) (c .staying .ensures)
 
 turning-requires : tie.Need-turning-requires
 turning-requires c κs = search needs
 
 returns-2 : tie.Need-returns-2
-returns-2 c =
-    let a = c .before .before .before .args in
-    λ s net st like o k l. start-done net s st (a .condition) (a .w) like (a .own) _ o (sym (c .before .before .is-down .ensures) ∙ not-false _ (c .before .if1 .left)) (c .turning .ensures)
+returns-2 c = rw (sym (c .before .before .is-down .ensures) ∙ not-false _ (c .before .if1 .left)) (c .turning .ensures)
 
 pub plan-start-spec : {M : Type 1} → statement M
 plan-start-spec =

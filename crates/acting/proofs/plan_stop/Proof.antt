@@ -1,5 +1,4 @@
 use mathlib.Core.Path.{sym, _∙_}
-use Rattle.acting.proofs.Events.{stop-refused, stop-done}
 use borrow.Author.Needs.{needs}
 use Rattle.acting.proofs.plan_stop.Statement.{statement}
 use Rattle.acting.proofs.plan_stop.Tie as tie
@@ -11,17 +10,13 @@ staying-requires : tie.Need-staying-requires
 staying-requires c κs = search needs
 
 returns : tie.Need-returns
-returns c =
-    let a = c .before .before .before .args in
-    λ s net st like k l. stop-refused net s st (a .condition) (a .w) like _ (sym (c .before .before .is-down .ensures) ∙ c .before .if1 .taken) (c .staying .ensures)
+returns c = rw (sym (c .before .before .is-down .ensures) ∙ c .before .if1 .taken) (c .staying .ensures)
 
 turning-requires : tie.Need-turning-requires
 turning-requires c κs = search needs
 
 returns-2 : tie.Need-returns-2
-returns-2 c =
-    let a = c .before .before .before .args in
-    λ s net st like k l. stop-done net s st (a .condition) (a .w) like _ (sym (c .before .before .is-down .ensures) ∙ c .before .if1 .left) (c .turning .ensures)
+returns-2 c = rw (sym (c .before .before .is-down .ensures) ∙ c .before .if1 .left) (c .turning .ensures)
 
 pub plan-stop-spec : {M : Type 1} → statement M
 plan-stop-spec =

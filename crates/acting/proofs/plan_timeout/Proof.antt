@@ -1,6 +1,6 @@
-use mathlib.Core.Path.{refl, sym, _∙_}
+use Rattle.acting.proofs.Small.{timeout-odd, timeout-even}
+use mathlib.Core.Path.{sym, _∙_}
 use borrow.Author.Tests.{not-true, not-false}
-use Rattle.acting.proofs.Events.{timeout-refused, timeout-odd, timeout-even}
 use borrow.Author.Needs.{needs}
 use Rattle.acting.proofs.plan_timeout.Statement.{statement}
 use Rattle.acting.proofs.plan_timeout.Tie as tie
@@ -12,9 +12,7 @@ staying-requires : tie.Need-staying-requires
 staying-requires c κs = search needs
 
 returns : tie.Need-returns
-returns c =
-    let a = c .before .before .before .args in
-    λ s net st like o h ec l. timeout-refused net s st (a .condition) (a .w) like (a .k) h _ _ (c .before .before .has .ensures) (not-true _ (c .before .if1 .taken)) (c .staying .ensures)
+returns c = rw (sym (c .before .before .has .ensures) ∙ not-true _ (c .before .if1 .taken)) (c .staying .ensures)
 
 is-even-requires : tie.Need-is-even-requires
 is-even-requires c κs = search needs
@@ -28,8 +26,8 @@ turning-requires c κs = search needs
 returns-2 : tie.Need-returns-2
 returns-2 c =
     let a = c .before .before .before .before .before .before .args in
-    λ s net st like o h ec l. timeout-odd net s st (a .condition) (a .w) like (a .k) h (a .c) ec _ (c .before .before .before .before .before .has .ensures) (not-false _ (c .before .before .before .before .if1 .left)) _ _
-    (sym (c .before .before .before .is-even .ensures) ∙ not-true _ (c .before .before .if2 .taken)) (c .before .ended-words .ensures) (c .turning .ensures)
+    timeout-odd (a .k) (a .condition) (a .w) (a .own) (a .c) _ (sym (c .before .before .before .before .before .has .ensures) ∙ not-false _ (c .before .before .before .before .if1 .left))
+    (c .before .before .before .is-even .ensures) _ _ (not-true _ (c .before .before .if2 .taken)) (c .before .ended-words .ensures) (c .turning .ensures)
 
 failed-words-requires : tie.Need-failed-words-requires
 failed-words-requires c κs = search needs
@@ -46,11 +44,15 @@ put-requires-2 c κs = search needs
 timed-out-requires : tie.Need-timed-out-requires
 timed-out-requires c κs = search needs
 
+telling-requires : tie.Need-telling-requires
+telling-requires c κs = search needs
+
 returns-3 : tie.Need-returns-3
 returns-3 c =
-    let a = c .before .before .before .before .before .before .before .before .before .args in
-    λ s net st like o h ec l. timeout-even net s st (a .condition) (a .w) like (a .k) h (a .c) ec _ (c .before .before .before .before .before .before .before .before .has .ensures) (not-false _ (c .before .before .before .before .before .before .before .if1 .left)) (a .own) _ _ _ _ _ _ o
-    (sym (c .before .before .before .before .before .before .is-even .ensures) ∙ not-false _ (c .before .before .before .before .before .if2 .left)) (c .before .before .before .before .failed-words .ensures) (c .before .before .before .put .ensures) (c .before .before .without .ensures) (c .before .put2 .ensures) (c .timed-out .ensures) refl
+    let a = c .before .before .before .before .before .before .before .before .before .before .args in
+    timeout-even (a .k) (a .condition) (a .w) (a .own) (a .c) _ (sym (c .before .before .before .before .before .before .before .before .before .has .ensures) ∙ not-false _ (c .before .before .before .before .before .before .before .before .if1 .left))
+    (c .before .before .before .before .before .before .before .is-even .ensures) _ _ _ _ _ _ (not-false _ (c .before .before .before .before .before .before .if2 .left))
+    (c .before .before .before .before .before .failed-words .ensures) (c .before .before .before .before .put .ensures) (c .before .before .before .without .ensures) (c .before .before .put2 .ensures) (c .before .timed-out .ensures) (c .telling .ensures)
 
 pub plan-timeout-spec : {M : Type 1} → statement M
 plan-timeout-spec =
@@ -68,4 +70,5 @@ plan-timeout-spec =
     without-requires
     put-requires-2
     timed-out-requires
+    telling-requires
     returns-3)

@@ -1,13 +1,12 @@
+use Prim.Native.Nat.{ℕ}
+use mathlib.Core.Path.{ap, _∙_}
 use borrow.Author.Tests.{not-true, not-false}
-use Rattle.station.proofs.Laid.{Fit}
 use Rattle.station.specs.declared.Kind.the-variants.{NoSuch, Start, Stop, Recovery, IntervalEnd, TimeoutEnd, QuietEnd, Delivery, Loss}
-use Rattle.planning.proofs.ByKind.{none-there, by-kind, no-such, loss-done}
+use Rattle.station_plan.specs.Plans.{stays}
+use Rattle.planning.proofs.ByKind.{none-there, by-kind}
 use borrow.Author.Needs.{needs}
 use Rattle.planning.proofs.plan_event.Statement.{statement}
 use Rattle.planning.proofs.plan_event.Tie as tie
-
-fit : (c : tie.Start) → Fit (c .args .w)
-fit c = record { token = search needs; turn = search needs; testing = search needs; asked = search needs; quiet = search needs }
 
 staying-requires : tie.Need-staying-requires
 staying-requires c κs = search needs
@@ -77,56 +76,48 @@ staying-requires-2 c κs = search needs
 returns-2 : tie.Need-returns-2
 returns-2 c =
     let a = c .before .before .before .before .args in
-    by-kind (a .there) (a .kind) (a .own) (a .me) (a .k) (a .letter) (a .c) (a .told) (a .condition) (a .w) _ NoSuch (not-false _ (c .before .before .before .if1 .left)) (c .before .enum-told .given .1)
-    (λ net st like o ec m. no-such net (a .me) st (a .condition) (a .w) like (fit (c .before .before .before .before)) (a .k) (a .letter) _ (c .turning .ensures))
+    by-kind (a .there) (a .kind) (a .own) (a .me) (a .k) (a .letter) (a .c) (a .told) (a .condition) (a .w) _ NoSuch (not-false _ (c .before .before .before .if1 .left)) (c .before .enum-told .given .1) (c .turning .ensures)
 
 returns-3 : tie.Need-returns-3
 returns-3 c =
     let a = c .before .before .before .before .args in
-    by-kind (a .there) (a .kind) (a .own) (a .me) (a .k) (a .letter) (a .c) (a .told) (a .condition) (a .w) _ Start (not-false _ (c .before .before .before .if1 .left)) (c .before .enum-told2 .given .1)
-    (λ net st like o ec m. c .plan-start .ensures (a .me) net st like o (a .k) (a .letter))
+    by-kind (a .there) (a .kind) (a .own) (a .me) (a .k) (a .letter) (a .c) (a .told) (a .condition) (a .w) _ Start (not-false _ (c .before .before .before .if1 .left)) (c .before .enum-told2 .given .1) (c .plan-start .ensures)
 
 returns-4 : tie.Need-returns-4
 returns-4 c =
     let a = c .before .before .before .before .args in
-    by-kind (a .there) (a .kind) (a .own) (a .me) (a .k) (a .letter) (a .c) (a .told) (a .condition) (a .w) _ Stop (not-false _ (c .before .before .before .if1 .left)) (c .before .enum-told3 .given .1)
-    (λ net st like o ec m. c .plan-stop .ensures (a .me) net st like (a .k) (a .letter))
+    by-kind (a .there) (a .kind) (a .own) (a .me) (a .k) (a .letter) (a .c) (a .told) (a .condition) (a .w) _ Stop (not-false _ (c .before .before .before .if1 .left)) (c .before .enum-told3 .given .1) (c .plan-stop .ensures)
 
 returns-5 : tie.Need-returns-5
 returns-5 c =
     let a = c .before .before .before .before .args in
-    by-kind (a .there) (a .kind) (a .own) (a .me) (a .k) (a .letter) (a .c) (a .told) (a .condition) (a .w) _ Recovery (not-false _ (c .before .before .before .if1 .left)) (c .before .enum-told4 .given .1)
-    (λ net st like o ec m. c .plan-recovery .ensures (a .me) net st like o (a .k) (a .letter))
+    by-kind (a .there) (a .kind) (a .own) (a .me) (a .k) (a .letter) (a .c) (a .told) (a .condition) (a .w) _ Recovery (not-false _ (c .before .before .before .if1 .left)) (c .before .enum-told4 .given .1) (c .plan-recovery .ensures)
 
 returns-6 : tie.Need-returns-6
 returns-6 c =
     let a = c .before .before .before .before .args in
-    by-kind (a .there) (a .kind) (a .own) (a .me) (a .k) (a .letter) (a .c) (a .told) (a .condition) (a .w) _ IntervalEnd (not-false _ (c .before .before .before .if1 .left)) (c .before .enum-told5 .given .1)
-    (λ net st like o ec m. c .plan-interval .ensures (a .me) net st like (m .link tt) (a .letter))
+    by-kind (a .there) (a .kind) (a .own) (a .me) (a .k) (a .letter) (a .c) (a .told) (a .condition) (a .w) _ IntervalEnd (not-false _ (c .before .before .before .if1 .left)) (c .before .enum-told5 .given .1) (c .plan-interval .ensures)
 
 returns-7 : tie.Need-returns-7
 returns-7 c =
     let a = c .before .before .before .before .args in
-    by-kind (a .there) (a .kind) (a .own) (a .me) (a .k) (a .letter) (a .c) (a .told) (a .condition) (a .w) _ TimeoutEnd (not-false _ (c .before .before .before .if1 .left)) (c .before .enum-told6 .given .1)
-    (λ net st like o ec m. c .plan-timeout .ensures (a .me) net st like o (m .link tt) ec (a .letter))
+    by-kind (a .there) (a .kind) (a .own) (a .me) (a .k) (a .letter) (a .c) (a .told) (a .condition) (a .w) _ TimeoutEnd (not-false _ (c .before .before .before .if1 .left)) (c .before .enum-told6 .given .1) (c .plan-timeout .ensures)
 
 returns-8 : tie.Need-returns-8
 returns-8 c =
     let a = c .before .before .before .before .args in
-    by-kind (a .there) (a .kind) (a .own) (a .me) (a .k) (a .letter) (a .c) (a .told) (a .condition) (a .w) _ QuietEnd (not-false _ (c .before .before .before .if1 .left)) (c .before .enum-told7 .given .1)
-    (λ net st like o ec m. c .plan-quiet-end .ensures (a .me) net st like (m .link tt) (a .letter))
+    by-kind (a .there) (a .kind) (a .own) (a .me) (a .k) (a .letter) (a .c) (a .told) (a .condition) (a .w) _ QuietEnd (not-false _ (c .before .before .before .if1 .left)) (c .before .enum-told7 .given .1) (c .plan-quiet-end .ensures)
 
 returns-9 : tie.Need-returns-9
 returns-9 c =
     let a = c .before .before .before .before .args in
-    by-kind (a .there) (a .kind) (a .own) (a .me) (a .k) (a .letter) (a .c) (a .told) (a .condition) (a .w) _ Delivery (not-false _ (c .before .before .before .if1 .left)) (c .before .enum-told8 .given .1)
-    (λ net st like o ec m. c .plan-letter .ensures net st like o (m .link tt) ec (m .letter tt) (m .subject tt) (m .tells tt) (a .k))
+    by-kind (a .there) (a .kind) (a .own) (a .me) (a .k) (a .letter) (a .c) (a .told) (a .condition) (a .w) _ Delivery (not-false _ (c .before .before .before .if1 .left)) (c .before .enum-told8 .given .1) (c .plan-letter .ensures)
 
 returns-10 : tie.Need-returns-10
 returns-10 c =
     let a = c .before .before .before .before .before .args in
     by-kind (a .there) (a .kind) (a .own) (a .me) (a .k) (a .letter) (a .c) (a .told) (a .condition) (a .w) _ Loss (not-false _ (c .before .before .before .before .if1 .left)) (c .before .before .enum-told9 .given .1)
-    (λ net st like o ec m. loss-done net (a .me) st (a .condition) (a .w) like (fit (c .before .before .before .before .before)) (a .k) (a .letter) _ _ (c .before .settled-by .ensures) (c .staying2 .ensures))
+    (c .staying2 .ensures ∙ ap (λ (n : ℕ). stays 0 n 1 (a .condition) (a .w)) (c .before .settled-by .ensures))
 
 pub plan-event-spec : {M : Type 1} → statement M
 plan-event-spec =

@@ -1,5 +1,4 @@
-use mathlib.Core.Path.{refl}
-use Rattle.receiving.proofs.Effects.{answer-acts}
+use Rattle.receiving.proofs.Parts.{answer-is}
 use borrow.Author.Needs.{needs}
 use Rattle.receiving.proofs.plan_answer.Statement.{statement}
 use Rattle.receiving.proofs.plan_answer.Tie as tie
@@ -19,11 +18,13 @@ pick-requires c κs = search needs
 put-requires-2 : tie.Need-put-requires-2
 put-requires-2 c κs = search needs
 
+counted-requires : tie.Need-counted-requires
+counted-requires c κs = search needs
+
 returns : tie.Need-returns
 returns c =
-    let a = c .before .before .before .before .before .args in
-    λ own s net st like o h ec t. answer-acts net s st (a .condition) (a .w) like (a .k) h 0 (a .c) _ _ _ _ _ _ _ ec (c .before .before .before .before .requested-words .ensures) (c .before .before .before .is-even .ensures) refl (c .before .before .put .ensures)
-    (c .before .pick .ensures) (c .put2 .ensures) refl
+    let a = c .before .before .before .before .before .before .args in
+    answer-is 0 (a .k) (a .c) (a .settled) (a .condition) (a .w) _ _ _ _ _ _ (c .before .before .before .before .before .requested-words .ensures) (c .before .before .before .before .is-even .ensures) (c .before .before .before .put .ensures) (c .before .before .pick .ensures) (c .before .put2 .ensures) (c .counted .ensures)
 
 pub plan-answer-spec : {M : Type 1} → statement M
 plan-answer-spec =
@@ -34,4 +35,5 @@ plan-answer-spec =
     put-requires
     pick-requires
     put-requires-2
+    counted-requires
     returns)

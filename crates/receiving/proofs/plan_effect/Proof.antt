@@ -1,7 +1,4 @@
-use mathlib.Core.Path.{subst⁻¹}
-use Rattle.station.specs.declared.Effect.{Effect}
-use Rattle.station_plan.specs.Planned.{EffectPlans}
-use Rattle.receiving.proofs.Effects.{defers-acts, equal-acts}
+use mathlib.Core.Path.{sym}
 use borrow.Author.Needs.{needs}
 use Rattle.receiving.proofs.plan_effect.Statement.{statement}
 use Rattle.receiving.proofs.plan_effect.Tie as tie
@@ -24,11 +21,17 @@ plan-answer-requires c κs = search needs
 enum-known-effect : tie.Need-enum-known-effect
 enum-known-effect c = search needs
 
+one-if-requires : tie.Need-one-if-requires
+one-if-requires c κs = search needs
+
 plan-reply-requires : tie.Need-plan-reply-requires
 plan-reply-requires c κs = search needs
 
 enum-known-effect-2 : tie.Need-enum-known-effect-2
 enum-known-effect-2 c = search needs
+
+one-if-requires-2 : tie.Need-one-if-requires-2
+one-if-requires-2 c κs = search needs
 
 plan-reply-requires-2 : tie.Need-plan-reply-requires-2
 plan-reply-requires-2 c κs = search needs
@@ -50,39 +53,27 @@ plan-take-requires c κs = search needs
 
 returns : tie.Need-returns
 returns c =
-    let a = c .before .before .before .before .args in
-    subst⁻¹ (λ (e : Effect). EffectPlans (a .own) (a .k) (a .c) e (a .condition) (a .w) (c .staying .result)) (c .before .before .enum-told .given .1)
-    (λ s net st like o h ec t. defers-acts net s st (a .condition) (a .w) like (a .k) h 0 _ _ (c .before .asked-words .ensures) (c .staying .ensures))
+    rw (c .before .before .enum-told .given .1) (rw (sym (c .before .asked-words .ensures)) (c .staying .ensures))
 
 returns-2 : tie.Need-returns-2
 returns-2 c =
-    let a = c .before .before .before .args in
-    subst⁻¹ (λ (e : Effect). EffectPlans (a .own) (a .k) (a .c) e (a .condition) (a .w) (c .plan-answer .result)) (c .before .enum-told2 .given .1)
-    (c .plan-answer .ensures (a .own))
+    rw (c .before .enum-told2 .given .1) (c .plan-answer .ensures)
 
 returns-3 : tie.Need-returns-3
 returns-3 c =
-    let a = c .before .before .before .before .args in
-    subst⁻¹ (λ (e : Effect). EffectPlans (a .own) (a .k) (a .c) e (a .condition) (a .w) (c .plan-reply .result)) (c .before .before .effect .given .1)
-    (c .plan-reply .ensures)
+    rw (c .before .before .before .effect .given .1) (rw (sym (c .before .one-if .ensures)) (c .plan-reply .ensures))
 
 returns-4 : tie.Need-returns-4
 returns-4 c =
-    let a = c .before .before .before .before .args in
-    subst⁻¹ (λ (e : Effect). EffectPlans (a .own) (a .k) (a .c) e (a .condition) (a .w) (c .plan-reply2 .result)) (c .before .before .effect2 .given .1)
-    (c .plan-reply2 .ensures)
+    rw (c .before .before .before .effect2 .given .1) (rw (sym (c .before .one-if2 .ensures)) (c .plan-reply2 .ensures))
 
 returns-5 : tie.Need-returns-5
 returns-5 c =
-    let a = c .before .before .before .before .args in
-    subst⁻¹ (λ (e : Effect). EffectPlans (a .own) (a .k) (a .c) e (a .condition) (a .w) (c .staying2 .result)) (c .before .before .enum-told3 .given .1)
-    (λ s net st like o h ec t. equal-acts net s st (a .condition) (a .w) like (a .k) h 0 _ _ (c .before .replied-words .ensures) (c .staying2 .ensures))
+    rw (c .before .before .enum-told3 .given .1) (rw (sym (c .before .replied-words .ensures)) (c .staying2 .ensures))
 
 returns-6 : tie.Need-returns-6
 returns-6 c =
-    let a = c .before .before .before .before .args in
-    subst⁻¹ (λ (e : Effect). EffectPlans (a .own) (a .k) (a .c) e (a .condition) (a .w) (c .plan-take .result)) (c .before .before .effect3 .given .1)
-    (c .plan-take .ensures (a .c))
+    rw (c .before .before .effect3 .given .1) (c .plan-take .ensures)
 
 pub plan-effect-spec : {M : Type 1} → statement M
 plan-effect-spec =
@@ -94,8 +85,10 @@ plan-effect-spec =
     enum-told-2
     plan-answer-requires
     enum-known-effect
+    one-if-requires
     plan-reply-requires
     enum-known-effect-2
+    one-if-requires-2
     plan-reply-requires-2
     enum-told-3
     replied-words-requires

@@ -1,5 +1,4 @@
-use mathlib.Core.Path.{refl}
-use Rattle.receiving.proofs.Effects.{reply-acts}
+use Rattle.receiving.proofs.Parts.{reply-is}
 use borrow.Author.Needs.{needs}
 use Rattle.receiving.proofs.plan_reply.Statement.{statement}
 use Rattle.receiving.proofs.plan_reply.Tie as tie
@@ -16,16 +15,25 @@ pick-requires c κs = search needs
 without-requires : tie.Need-without-requires
 without-requires c κs = search needs
 
-one-if-requires : tie.Need-one-if-requires
-one-if-requires c κs = search needs
+counted-requires : tie.Need-counted-requires
+counted-requires c κs = search needs
+
+telling-requires : tie.Need-telling-requires
+telling-requires c κs = search needs
 
 returns : tie.Need-returns
 returns c =
-    let a = c .before .before .before .before .before .args in
-    λ s net st like o h ec t. reply-acts net s st (a .condition) (a .w) like (a .k) h (a .own) (a .c) (a .to) (a .heals) _ _ _ _ _ _ _ o (c .before .before .before .before .replied-words .ensures)
-    (c .before .before .before .put .ensures) (c .before .before .pick .ensures) (c .before .without .ensures) refl (c .one-if .ensures) refl
+    let a = c .before .before .before .before .before .before .args in
+    reply-is (a .own) (a .k) 0 (a .settled) (a .condition) (a .w) (a .raised) (a .to) (a .heals) _ _ _ _ _ _ (c .before .before .before .before .before .replied-words .ensures) (c .before .before .before .before .put .ensures) (c .before .before .before .pick .ensures) (c .before .before .without .ensures) (c .before .counted .ensures) (c .telling .ensures)
 
 pub plan-reply-spec : {M : Type 1} → statement M
 plan-reply-spec =
     tie.close
-    (tie.spec replied-words-requires put-requires pick-requires without-requires one-if-requires returns)
+    (tie.spec
+    replied-words-requires
+    put-requires
+    pick-requires
+    without-requires
+    counted-requires
+    telling-requires
+    returns)

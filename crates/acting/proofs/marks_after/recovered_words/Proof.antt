@@ -1,4 +1,4 @@
-use Rattle.acting.proofs.Recovery.{words-are}
+use Rattle.acting.proofs.Recovered.{words-are}
 use borrow.Author.Needs.{needs}
 use Rattle.acting.proofs.marks_after.recovered_words.Statement.{statement}
 use Rattle.acting.proofs.marks_after.recovered_words.Tie as tie

@@ -1,4 +1,4 @@
-use Rattle.acting.proofs.Recovery.{tests-are}
+use Rattle.acting.proofs.Recovered.{tests-are}
 use borrow.Author.Needs.{needs}
 use Rattle.acting.proofs.marks_after.tests_on.Statement.{statement}
 use Rattle.acting.proofs.marks_after.tests_on.Tie as tie

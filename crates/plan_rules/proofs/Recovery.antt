@@ -24,62 +24,16 @@ use Rattle.station.specs.declared.Condition.the-variants.{Down, Live}
 use Rattle.station.specs.declared.Station.{Station}
 use Rattle.station.specs.Holding.{noMarks, mark}
 use Rattle.station.specs.Acts.{intervalMarks, intervalTests, recovered, stopped}
-use Rattle.station_plan.specs.Plans.{recoveredWords, requesting}
+use Rattle.station_plan.specs.Plans.{requesting}
+use Rattle.plan_rules.specs.Rules.{afterFour, recoveredWords}
 use Rattle.station.specs.Values.{holdingOf, laid, laidWords, membersOf, lettersOf, blank, noWords, freshTable}
 use Rattle.station.proofs.Laid.{Fit, wordsBy, words-laid, laid-is, counters-same, mark-of, table-of}
 use Rattle.station.proofs.Sent.{members-by, sent-requests}
 
 -- ---- one link, by its bits
--- the marks of link t after event 4, if the link is an own one
-abbrev pub afterFour : ℕ → Words → ℕ → Marks
-afterFour own w t = if inWord own t then intervalMarks (marksAt w t) else marksAt w t
-
-tests-bit : (o k u : Bool) → (o && not (((o && not k)) && not u)) ≡ (o && (k || u))
-tests-bit true true u = refl
-tests-bit true false true = refl
-tests-bit true false false = refl
-tests-bit false k u = refl
-
-pub tests-are : (own : ℕ) (w : Words) (a n r : ℕ) → a ≡ wordBy (λ t. inWord own t && not (inWord (w .token) t)) → n ≡ wordBy (λ t. inWord a t && not (inWord (w .turn) t))
-    → r ≡ wordBy (λ t. inWord own t && not (inWord n t)) → r ≡ wordBy (λ t. inWord own t && intervalTests (marksAt w t))
-tests-are own w a n r ea en er =
-    er ∙ by-same (λ t. inWord own t && not (inWord n t)) (λ t. inWord own t && intervalTests (marksAt w t))
-    (λ t h. ap (λ (b : Bool). inWord own t && not b)
-    (ap (λ (x : ℕ). inWord x t) en ∙ in-by (λ t. inWord a t && not (inWord (w .turn) t)) t h
-    ∙ ap (λ (b : Bool). b && not (inWord (w .turn) t)) (ap (λ (x : ℕ). inWord x t) ea ∙ in-by (λ t. inWord own t && not (inWord (w .token) t)) t h))
-    ∙ tests-bit (inWord own t) (inWord (w .token) t) (inWord (w .turn) t))
-
 -- the five marks, told apart
 five : Bool → Bool → Bool → Bool → Bool → Marks
 five k u x a q = record { token = k; turn = u; testing = x; asked = a; quiet = q }
-
-token-bit : (o k u x a q : Bool) → (k && not o) ≡ (if o then intervalMarks (five k u x a q) else five k u x a q) .token
-unfolding five
-token-bit true true u x a q = refl
-token-bit true false true x a q = refl
-token-bit true false false x a q = refl
-token-bit false true u x a q = refl
-token-bit false false u x a q = refl
-
-turn-bit : (o k u x a q : Bool) → ((u && not (o && not k)) || ((o && not k) && not u)) ≡ (if o then intervalMarks (five k u x a q) else five k u x a q) .turn
-unfolding five
-turn-bit true true true x a q = refl
-turn-bit true true false x a q = refl
-turn-bit true false true x a q = refl
-turn-bit true false false x a q = refl
-turn-bit false k true x a q = refl
-turn-bit false k false x a q = refl
-
-testing-bit : (o k u x a q : Bool) → (x || (o && (k || u))) ≡ (if o then intervalMarks (five k u x a q) else five k u x a q) .testing
-unfolding five
-testing-bit true true u true a q = refl
-testing-bit true true u false a q = refl
-testing-bit true false true true a q = refl
-testing-bit true false true false a q = refl
-testing-bit true false false true a q = refl
-testing-bit true false false false a q = refl
-testing-bit false k u true a q = refl
-testing-bit false k u false a q = refl
 
 asked-bit : (o k u x a q : Bool) → a ≡ (if o then intervalMarks (five k u x a q) else five k u x a q) .asked
 unfolding five
@@ -95,37 +49,7 @@ quiet-bit true false true x a q = refl
 quiet-bit true false false x a q = refl
 quiet-bit false k u x a q = refl
 
--- ---- the words that the code makes
 module _ (own : ℕ) (w : Words) where
-  pub words-are : (flips back forth turn tests testing token : ℕ) → flips ≡ wordBy (λ t. inWord own t && not (inWord (w .token) t))
-      → back ≡ wordBy (λ t. inWord (w .turn) t && not (inWord flips t)) → forth ≡ wordBy (λ t. inWord flips t && not (inWord (w .turn) t))
-      → turn ≡ wordBy (λ t. inWord back t || inWord forth t) → tests ≡ wordBy (λ t. inWord own t && intervalTests (marksAt w t))
-      → testing ≡ wordBy (λ t. inWord (w .testing) t || inWord tests t) → token ≡ wordBy (λ t. inWord (w .token) t && not (inWord own t))
-      → _≡_ {A = Words} (record { token = token; turn = turn; testing = testing; asked = w .asked; quiet = w .quiet }) (recoveredWords own w)
-  unfolding five
-  words-are flips back forth turn tests testing token ef eb eo eu et ex ek = λ i. record { token = tokens i; turn = turns i; testing = tested i; asked = w .asked; quiet = w .quiet }
-    where
-      bit : (r t : ℕ) (f : ℕ → Bool) → t < 64 → r ≡ wordBy f → inWord r t ≡ f t
-      bit r t f h e = ap (λ (x : ℕ). inWord x t) e ∙ in-by f t h
-
-      tokens : token ≡ wordBy (λ t. afterFour own w t .token)
-      tokens = ek ∙ by-same _ (λ t. afterFour own w t .token) (λ t h. token-bit (inWord own t) (inWord (w .token) t) (inWord (w .turn) t) (inWord (w .testing) t) (inWord (w .asked) t) (inWord (w .quiet) t))
-
-      turns : turn ≡ wordBy (λ t. afterFour own w t .turn)
-      turns =
-          eu ∙ by-same _ (λ t. afterFour own w t .turn) (λ t h.
-          let f = bit flips t (λ t. inWord own t && not (inWord (w .token) t)) h ef in
-          ap₂ (λ (x y : Bool). x || y)
-          (bit back t (λ t. inWord (w .turn) t && not (inWord flips t)) h eb ∙ ap (λ (b : Bool). inWord (w .turn) t && not b) f)
-          (bit forth t (λ t. inWord flips t && not (inWord (w .turn) t)) h eo ∙ ap (λ (b : Bool). b && not (inWord (w .turn) t)) f)
-          ∙ turn-bit (inWord own t) (inWord (w .token) t) (inWord (w .turn) t) (inWord (w .testing) t) (inWord (w .asked) t) (inWord (w .quiet) t))
-
-      tested : testing ≡ wordBy (λ t. afterFour own w t .testing)
-      tested =
-          ex ∙ by-same _ (λ t. afterFour own w t .testing) (λ t h.
-          ap (λ (b : Bool). inWord (w .testing) t || b) (bit tests t (λ t. inWord own t && intervalTests (marksAt w t)) h et)
-          ∙ testing-bit (inWord own t) (inWord (w .token) t) (inWord (w .turn) t) (inWord (w .testing) t) (inWord (w .asked) t) (inWord (w .quiet) t))
-
   by-four : Fit w → recoveredWords own w ≡ wordsBy (afterFour own w)
   unfolding five
   by-four f = λ i. record {

@@ -28,13 +28,14 @@ use Rattle.station.specs.Values.{holdingOf, laid, lettersOf, unmarked, blank, n
 use Rattle.station.proofs.Laid.{Fit}
 use Rattle.station.proofs.Sent.{sent-nothing, sent-requests, sent-notices, tell-one}
 use Rattle.station_plan.specs.declared.Plan.{Plan}
-use Rattle.station_plan.specs.Plans.{recoveredWords, requesting, stays, turns, tells}
+use Rattle.station_plan.specs.Plans.{requesting, stays, turns, tells}
 use Rattle.station_plan.specs.Planned.{Acts, Planned, Like}
 use Rattle.station_plan.proofs.Ways.{open-less, quiet-of, counter-at, one-word, no-word}
 use Rattle.station_plan.proofs.Acting.{seven-plans, act-plans, turned-acts, reset-acts, purged-acts, marked-is, purged-is}
 use Rattle.station_plan.proofs.Like.{stays-like, condition-like, mark-like, words-like}
-use Rattle.acting.proofs.Started.{start-is}
-use Rattle.acting.proofs.Recovery.{recovered-is, recovered-sent, stop-is}
+use Rattle.plan_rules.specs.Rules.{recoveredWords}
+use Rattle.plan_rules.proofs.Started.{start-is}
+use Rattle.plan_rules.proofs.Recovery.{recovered-is, recovered-sent, stop-is}
 
 module _ (net : Net) (s : ℕ) (st : Station) (x : Condition) (w : Words) (like : Like x w st) where
   abbrev H : Holding

@@ -26,6 +26,7 @@ use Rattle.marks.specs.declared.Marks.{Marks}
 use Rattle.marks.specs.declared.Words.{Words}
 use Rattle.marks.specs.Marks.{marksAt, wordsWith, ownAt}
 use Rattle.station.specs.declared.Condition.{Condition}
+use Rattle.station.specs.declared.Effect.{Effect}
 use Rattle.station.specs.declared.Effect.the-variants.{Defers, Answers, Heals, Levels, Equal, Takes}
 use Rattle.station.specs.declared.Station.{Station}
 use Rattle.station.specs.Holding.{Holding, noMarks, mark, counter, counted, setAsked}
@@ -36,10 +37,11 @@ use Rattle.station.proofs.Laid.{Fit, marks-of, table-of, table-set, counters-se
 use Rattle.station.proofs.Sent.{members-none, tell-same, tell-one, sent-notices, sent-reply}
 use Rattle.station_plan.specs.declared.Plan.{Plan}
 use Rattle.station_plan.specs.Plans.{knownIn, narrowed, stays, tells, stationBy, lettersBy}
-use Rattle.station_plan.specs.Planned.{Acts, Like, settledBy}
+use Rattle.station_plan.specs.Planned.{Acts, Like}
 use Rattle.station_plan.proofs.Ways.{kept-links, open-is, open-less, quiet-of, counter-at, one-word}
 use Rattle.station_plan.proofs.Acting.{stay-acts, told-acts, purged-acts, marked-is, counted-is, purged-is}
 use Rattle.station_plan.proofs.Like.{words-like}
+use Rattle.plan_rules.specs.Rules.{every-link, putting, openWord, changed, effectPlan}
 
 -- replied marks keep quiet
 quiet-kept : (ms : List Marks) (k j : ℕ) → k < length ms → getD (set ms k (repliedMarks (getD ms k noMarks))) j noMarks .quiet ≡ getD ms j noMarks .quiet
@@ -167,7 +169,7 @@ module _ (net : Net) (s : ℕ) (st : Station) (x : Condition) (w : Words) (like 
       (λ t l. ap (λ (b : Bool). b && knownIn (linkCount net) (set (st .counters) k to) t) (all-in t l)))
       ∙ kept-links net s st (λ j. ltb 1 (getD (set (st .counters) k to) j 0)) (λ j. ltb 1 (counter (replied N s k to H) j)) (λ j l. ap (ltb 1) (counter-replied to j l))
 
-  heal-acts : (settled own c to ways : ℕ) (up : Bool) (raised : ℕ) (ws : Words) (r : Plan) → own ≡ wordBy (ownAt net s) → ws ≡ wordsWith w k (repliedMarks (marksAt w k))
+  pub heal-acts : (settled own c to ways : ℕ) (up : Bool) (raised : ℕ) (ws : Words) (r : Plan) → own ≡ wordBy (ownAt net s) → ws ≡ wordsWith w k (repliedMarks (marksAt w k))
       → ways ≡ wordBy (λ t. inWord own t && not (inWord (w .quiet) t)) → up ≡ ltb c to → raised ≡ bit up
       → r ≡ tells x ws k to true true 18446744073709551615 ways (counting settled raised 0)
       → Acts net s st st (effectOn N s k H (Heals to)) (counting settled (raisedEffect c (Heals to)) 0) r
@@ -182,7 +184,7 @@ module _ (net : Net) (s : ℕ) (st : Station) (x : Condition) (w : Words) (like 
       ∙ tell-same s (λ j. getD (set (st .counters) k to) j 0) (counter (replied N s k to H)) (λ j. ltb 1 (counter (replied N s k to H) j)) (openLinks N s (replied N s k to H)) (length (N .links))
       (λ j l. counter-replied to j (subst (λ (n : ℕ). j < n) (links-of net) l)))
 
-  level-acts : (settled own c to ways subjects : ℕ) (up : Bool) (raised : ℕ) (ws : Words) (r : Plan) → own ≡ wordBy (ownAt net s) → ws ≡ wordsWith w k (repliedMarks (marksAt w k))
+  pub level-acts : (settled own c to ways subjects : ℕ) (up : Bool) (raised : ℕ) (ws : Words) (r : Plan) → own ≡ wordBy (ownAt net s) → ws ≡ wordsWith w k (repliedMarks (marksAt w k))
       → subjects ≡ wordBy (λ t. if eqb t k then true else inWord 0 t) → ways ≡ wordBy (λ t. inWord own t && not (inWord (w .quiet) t)) → up ≡ ltb c to → raised ≡ bit up
       → r ≡ tells x ws k to false false subjects ways (counting settled raised 0)
       → Acts net s st st (effectOn N s k H (Levels to)) (counting settled (raisedEffect c (Levels to)) 0) r
@@ -195,17 +197,6 @@ module _ (net : Net) (s : ℕ) (st : Station) (x : Condition) (w : Words) (like 
       (k ∷ []) (openLinks N s (replied N s k to H)) refl (one-word k subjects (omega arith) es) (open-replied own ways to eo ey) refl
       ∙ tell-one s (λ j. getD (set (st .counters) k to) j 0) k (openLinks N s (replied N s k to H))
       ∙ ap (λ (n : ℕ). onEach s (Notice k n) (openLinks N s (replied N s k to H))) (getD-set-same (st .counters) k to 0 (omega (arith, like .size))))
-
-  -- one of the two
-  pub reply-acts : (own c to : ℕ) (heals : Bool) (ways alone subjects : ℕ) (up : Bool) (raised : ℕ) (ws : Words) (r : Plan) → own ≡ wordBy (ownAt net s)
-      → ws ≡ wordsWith w k (repliedMarks (marksAt w k)) → alone ≡ wordBy (λ t. if eqb t k then true else inWord 0 t)
-      → subjects ≡ (if heals then 18446744073709551615 else alone) → ways ≡ wordBy (λ t. inWord own t && not (inWord (w .quiet) t)) → up ≡ ltb c to → raised ≡ bit up
-      → r ≡ tells x ws k to heals heals subjects ways (counting 0 raised 0)
-      → Acts net s st st (effectOn N s k H (if heals then Heals to else Levels to)) (counting (settledBy (if heals then Heals to else Levels to)) (raisedEffect c (if heals then Heals to else Levels to)) 0) r
-  reply-acts own c to true ways alone subjects up raised ws r eo ew ea es ey eu er q =
-      heal-acts 0 own c to ways up raised ws r eo ew ey eu er (q ∙ ap (λ (v : ℕ). tells x ws k to true true v ways (counting 0 raised 0)) es)
-  reply-acts own c to false ways alone subjects up raised ws r eo ew ea es ey eu er q =
-      level-acts 0 own c to ways subjects up raised ws r eo ew (es ∙ ea) ey eu er q
 
   -- ---- a notice that is taken
   pub take-acts : (settled own c j to ways loud subjects : ℕ) (r : Plan) → Fit w → j < linkCount net → own ≡ wordBy (ownAt net s)
@@ -223,3 +214,18 @@ module _ (net : Net) (s : ℕ) (st : Station) (x : Condition) (w : Words) (like 
       (open-less net s st own eo (w .quiet) k loud ways H ey ez (λ i m. ap (λ (v : Words). inWord (v .quiet) i) (sym (like .words)) ∙ quiet-of net s st i m)) refl
       ∙ tell-one s (λ i. getD (set (st .counters) j to) i 0) j (less k (openLinks N s H))
       ∙ ap (λ (n : ℕ). onEach s (Notice j n) (less k (openLinks N s H))) (getD-set-same (st .counters) j to 0 (omega (arith, like .size))))
+
+  -- ---- any effect; a notice tells of a link that is there
+  pub effect-acts : (settled own c : ℕ) → own ≡ wordBy (ownAt net s) → c ≡ getD (st .counters) k 0 → Fit w → (e : Effect) → ((j d : ℕ) → e ≡ Takes j d → j < linkCount net)
+      → Acts net s st st (effectOn N s k H e) (counting settled (raisedEffect c e) 0) (effectPlan own k c settled x w e)
+  effect-acts settled own c eo ec f Defers t = defers-acts settled (changed (setAsked true) k w) (effectPlan own k c settled x w Defers) refl refl
+  effect-acts settled own c eo ec f Answers t =
+      answer-acts settled c (if odd c then putting every-link k false else 0) (putting 0 k true) (putting every-link k false) (even c) (odd c) (changed requestedMarks k w)
+      (effectPlan own k c settled x w Answers) ec refl refl refl refl refl refl refl
+  effect-acts settled own c eo ec f (Heals to) t =
+      heal-acts settled own c to (openWord own w) (ltb c to) (bit (ltb c to)) (changed repliedMarks k w) (effectPlan own k c settled x w (Heals to)) eo refl refl refl refl refl
+  effect-acts settled own c eo ec f (Levels to) t =
+      level-acts settled own c to (openWord own w) (putting 0 k true) (ltb c to) (bit (ltb c to)) (changed repliedMarks k w) (effectPlan own k c settled x w (Levels to)) eo refl refl refl refl refl refl
+  effect-acts settled own c eo ec f Equal t = equal-acts settled (changed repliedMarks k w) (effectPlan own k c settled x w Equal) refl refl
+  effect-acts settled own c eo ec f (Takes j to) t =
+      take-acts settled own c j to (putting (openWord own w) k false) (openWord own w) (putting 0 j true) (effectPlan own k c settled x w (Takes j to)) f (t j to refl) eo refl refl refl refl

@@ -1,0 +1,7 @@
+mod Started
+mod Recovery
+mod Events
+mod Effects
+mod Answered
+mod ByKind
+pub mod Laws

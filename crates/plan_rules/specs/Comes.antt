@@ -1,0 +1,69 @@
+-- What the plan of an event must say: at every station that has what it was made from, it is what the event comes to by station's rules.
+use Prim.Native.Nat.{ℕ, _<_}
+use mathlib.Core.Bool.{Bool, true, false}
+use mathlib.Core.Path.{_≡_}
+use lib.Dec.{T}
+use lib.ListN.{getD}
+use Rattle.net.specs.declared.Letter.{Letter}
+use Rattle.net.specs.declared.Net.{Net}
+use Rattle.net.specs.Values.{networkOf, linkCount}
+use Rattle.words.specs.Sets.{wordBy}
+use Rattle.marks.specs.declared.Words.{Words}
+use Rattle.marks.specs.Marks.{ownAt}
+use Rattle.station.specs.declared.Condition.{Condition}
+use Rattle.station.specs.declared.Kind.{Kind}
+use Rattle.station.specs.declared.Kind.the-variants.{NoSuch, Start, Stop, Recovery, IntervalEnd, TimeoutEnd, QuietEnd, Delivery, Loss}
+use Rattle.station.specs.declared.Station.{Station}
+use Rattle.station.specs.Acts.{subjectOf}
+use Rattle.station.specs.Events.{comesTo, ruleOf, takesLetter}
+use Rattle.station.specs.Values.{holdingOf, unmarked, blank}
+use Rattle.station_plan.specs.declared.Plan.{Plan}
+use Rattle.station_plan.specs.Planned.{Planned, Like}
+
+-- the room that a station's new holding is laid over: a start makes the marks anew, a stop everything
+abbrev pub roomOf : Kind → Station → Station
+roomOf NoSuch st = st
+roomOf Start st = unmarked st
+roomOf Stop st = blank
+roomOf Recovery st = st
+roomOf IntervalEnd st = st
+roomOf TimeoutEnd st = st
+roomOf QuietEnd st = st
+roomOf Delivery st = st
+roomOf Loss st = st
+
+-- an event of this kind at the station s, on link k or with the letter x
+abbrev pub Plans : Kind → Net → ℕ → ℕ → Letter → Station → Bool → Plan → Type 0
+Plans e net s k x st there r =
+    Planned net s st (roomOf e st) (comesTo there (ruleOf (networkOf net) s e k x (holdingOf net st)) (holdingOf net st)) r
+
+-- ---- what a plan is made from, beside the condition and the marks (Like): the own links, and the counter of link k
+abbrev pub Own : ℕ → Net → ℕ → Type 0
+Own own net s = own ≡ wordBy (ownAt net s)
+
+abbrev pub Counts : ℕ → ℕ → Station → Type 0
+Counts c k st = c ≡ getD (st .counters) k 0
+
+-- whether an event of this kind names a link of the station
+abbrev pub onLink : Kind → Bool
+onLink NoSuch = false
+onLink Start = false
+onLink Stop = false
+onLink Recovery = false
+onLink IntervalEnd = true
+onLink TimeoutEnd = true
+onLink QuietEnd = true
+onLink Delivery = true
+onLink Loss = false
+
+-- what the event names is there: its link k, or the letter came on it and tells of a link that is there
+pub record Meant (net : Net) (st : Station) (e : Kind) (k : ℕ) (l : Letter) (told : ℕ) : Type 0 where
+  pub link : T (onLink e) → k < linkCount net
+  pub letter : T (takesLetter e) → l .link ≡ k
+  pub subject : T (takesLetter e) → subjectOf (l .body) < linkCount net
+  pub tells : T (takesLetter e) → Counts told (subjectOf (l .body)) st
+
+abbrev pub EventPlans : Bool → Kind → ℕ → ℕ → ℕ → Letter → ℕ → ℕ → Condition → Words → Plan → Type 0
+EventPlans there e own s k l c told x w r =
+    (net : Net) (st : Station) → Like x w st → Own own net s → Counts c k st → (T there → Meant net st e k l told)
+    → Plans e net s k l st there r
