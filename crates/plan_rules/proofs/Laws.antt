@@ -11,85 +11,67 @@ use Rattle.counters.specs.Counters.{even, timedOut}
 use Rattle.marks.specs.declared.Words.{Words}
 use Rattle.marks.specs.Marks.{marksAt}
 use Rattle.station.specs.declared.Condition.{Condition}
-use Rattle.station.specs.declared.Condition.the-variants.{Down, Waiting, Live}
 use Rattle.station.specs.declared.Kind.{Kind}
 use Rattle.station.specs.declared.Kind.the-variants.{NoSuch, Start, Stop, Recovery, IntervalEnd, TimeoutEnd, QuietEnd, Delivery, Loss}
 use Rattle.station.specs.declared.Station.{Station}
 use Rattle.station.specs.Holding.{isDown, isWaiting, isLive, setQuiet}
 use Rattle.station.specs.Acts.{intervalMarks, intervalTests, testEnded}
-use Rattle.station.specs.Events.{counting, isNotice}
-use Rattle.station.specs.Values.{noWords}
+use Rattle.station.specs.Events.{isNotice}
 use Rattle.station.proofs.Laid.{Fit}
 use Rattle.station_plan.specs.declared.Plan.{Plan}
-use Rattle.station_plan.specs.Plans.{stays, turns, tells}
+use Rattle.station_plan.specs.Plans.{stays, turns}
 use Rattle.station_plan.specs.Planned.{Like}
-use Rattle.plan_rules.specs.Rules.{putting, openWord, testsOn, startedWords, recoveredWords, changed, failed, mayEnd, startPlan, stopPlan, recoveryPlan, intervalPlan, timeoutPlan, quietPlan, kindPlan, eventPlan}
+use Rattle.plan_rules.specs.Rules.{putting, openWord, testsOn, recoveredWords, changed, failed, mayEnd}
+use Rattle.plan_rules.specs.Rules.{startPlan, stopPlan, recoveryPlan, intervalPlan, timeoutPlan, quietPlan, kindPlan, eventPlan}
 use Rattle.plan_rules.specs.Comes.{Plans, Own, Counts, Meant, EventPlans}
 use Rattle.plan_rules.proofs.Events as E
 use Rattle.plan_rules.proofs.Answered.{letter-plans}
 use Rattle.plan_rules.proofs.ByKind.{none-there, by-kind, no-such, loss-done}
 
+-- a plan that goes by a test
+by-test : (b : Bool) (P : Plan → Type 0) (yes-plan no-plan : Plan) → (b ≡ true → P yes-plan) → (b ≡ false → P no-plan) → P (if b then yes-plan else no-plan)
+by-test true P y n f g = f refl
+by-test false P y n f g = g refl
+
 module _ (net : Net) (s : ℕ) (st : Station) (x : Condition) (w : Words) (like : Like x w st) (k : ℕ) (l : Letter) where
   start-plans : (own : ℕ) → Own own net s → Plans Start net s k l st true (startPlan own x w)
-  start-plans own o = go (isDown x) refl
-    where
-      go : (b : Bool) → isDown x ≡ b → Plans Start net s k l st true (if b then turns Waiting (startedWords own) 0 false else stays 7 0 0 x w)
-      go true e = E.start-done net s st x w like own (turns Waiting (startedWords own) 0 false) o e refl
-      go false e = E.start-refused net s st x w like (stays 7 0 0 x w) e refl
+  start-plans own o =
+      by-test (isDown x) (Plans Start net s k l st true) _ _ (λ e. E.start-done net s st x w like own _ o e refl)
+      (λ e. E.start-refused net s st x w like _ e refl)
 
   stop-plans : Plans Stop net s k l st true (stopPlan x w)
-  stop-plans = go (isDown x) refl
-    where
-      go : (b : Bool) → isDown x ≡ b → Plans Stop net s k l st true (if b then stays 7 0 0 x w else turns Down noWords 0 true)
-      go true e = E.stop-refused net s st x w like (stays 7 0 0 x w) e refl
-      go false e = E.stop-done net s st x w like (turns Down noWords 0 true) e refl
+  stop-plans =
+      by-test (isDown x) (Plans Stop net s k l st true) _ _ (λ e. E.stop-refused net s st x w like _ e refl)
+      (λ e. E.stop-done net s st x w like _ e refl)
 
   recovery-plans : (own : ℕ) → Own own net s → Fit w → Plans Recovery net s k l st true (recoveryPlan own x w)
-  recovery-plans own o f = go (isWaiting x) refl
-    where
-      go : (b : Bool) → isWaiting x ≡ b → Plans Recovery net s k l st true (if b then turns Live (recoveredWords own w) (testsOn own w) false else stays 7 0 0 x w)
-      go true e = E.recovery-done net s st x w like own (testsOn own w) (recoveredWords own w) (turns Live (recoveredWords own w) (testsOn own w) false) f o e refl refl refl
-      go false e = E.recovery-refused net s st x w like (stays 7 0 0 x w) e refl
+  recovery-plans own o f =
+      by-test (isWaiting x) (Plans Recovery net s k l st true) _ _
+      (λ e. E.recovery-done net s st x w like own (testsOn own w) (recoveredWords own w) _ f o e refl refl refl)
+      (λ e. E.recovery-refused net s st x w like _ e refl)
 
   module _ (h : k < linkCount net) where
     interval-plans : Plans IntervalEnd net s k l st true (intervalPlan k x w)
-    interval-plans = go (mayEnd (isLive x) (marksAt w k)) refl
-      where
-        done : Plan
-        done = turns x (changed intervalMarks k w) (putting 0 k (intervalTests (marksAt w k))) false
-
-        go : (b : Bool) → mayEnd (isLive x) (marksAt w k) ≡ b → Plans IntervalEnd net s k l st true (if b then done else stays 7 0 0 x w)
-        go true e =
-            E.interval-done net s st x w like k h (isLive x) (mayEnd (isLive x) (marksAt w k)) (intervalTests (marksAt w k)) (marksAt w k) (intervalMarks (marksAt w k)) (changed intervalMarks k w)
-            (putting 0 k (intervalTests (marksAt w k))) done refl refl refl e refl refl refl refl refl
-        go false e = E.interval-refused net s st x w like k h (isLive x) (mayEnd (isLive x) (marksAt w k)) (marksAt w k) (stays 7 0 0 x w) refl refl refl e refl
+    interval-plans =
+        by-test (mayEnd (isLive x) (marksAt w k)) (Plans IntervalEnd net s k l st true) _ _
+        (λ e. E.interval-done net s st x w like k h (isLive x) (mayEnd (isLive x) (marksAt w k)) (intervalTests (marksAt w k)) (marksAt w k)
+        (intervalMarks (marksAt w k)) (changed intervalMarks k w) (putting 0 k (intervalTests (marksAt w k))) _ refl refl refl e refl refl refl refl refl)
+        (λ e. E.interval-refused net s st x w like k h (isLive x) (mayEnd (isLive x) (marksAt w k)) (marksAt w k) _ refl refl refl e refl)
 
     timeout-plans : (own c : ℕ) → Own own net s → Counts c k st → Plans TimeoutEnd net s k l st true (timeoutPlan own k c x w)
-    timeout-plans own c o ec = go (inWord (w .testing) k) refl (even c) refl
-      where
-        raised : Plan
-        raised = tells x (changed failed k w) k (timedOut c) true false (putting 0 k true) (putting (openWord own w) k false) (counting 0 1 0)
-
-        ended : Plan
-        ended = turns x (changed testEnded k w) 0 false
-
-        go : (b : Bool) → inWord (w .testing) k ≡ b → (e : Bool) → even c ≡ e
-            → Plans TimeoutEnd net s k l st true (if b then (if e then raised else ended) else stays 7 0 0 x w)
-        go true p true q =
-            E.timeout-even net s st x w like k h c ec (inWord (w .testing) k) refl p own (putting (openWord own w) k false) (openWord own w) (putting 0 k true) (timedOut c) (changed failed k w) raised
-            o q refl refl refl refl refl refl
-        go true p false q = E.timeout-odd net s st x w like k h c ec (inWord (w .testing) k) refl p (changed testEnded k w) ended q refl refl
-        go false p e q = E.timeout-refused net s st x w like k h (inWord (w .testing) k) (stays 7 0 0 x w) refl p refl
+    timeout-plans own c o ec =
+        by-test (inWord (w .testing) k) (Plans TimeoutEnd net s k l st true) _ _
+        (λ p. by-test (even c) (Plans TimeoutEnd net s k l st true) _ _
+        (λ q. E.timeout-even net s st x w like k h c ec (inWord (w .testing) k) refl p own (putting (openWord own w) k false) (openWord own w) (putting 0 k true)
+        (timedOut c) (changed failed k w) _ o q refl refl refl refl refl refl)
+        (λ q. E.timeout-odd net s st x w like k h c ec (inWord (w .testing) k) refl p (changed testEnded k w) _ q refl refl))
+        (λ p. E.timeout-refused net s st x w like k h (inWord (w .testing) k) _ refl p refl)
 
     quiet-plans : Plans QuietEnd net s k l st true (quietPlan k x w)
-    quiet-plans = go (inWord (w .quiet) k) refl
-      where
-        loud : Plan
-        loud = turns x (changed (setQuiet false) k w) 0 false
-
-        go : (b : Bool) → inWord (w .quiet) k ≡ b → Plans QuietEnd net s k l st true (if b then loud else stays 7 0 0 x w)
-        go true e = E.quiet-done net s st x w like k h (inWord (w .quiet) k) (changed (setQuiet false) k w) loud refl e refl refl
-        go false e = E.quiet-refused net s st x w like k h (inWord (w .quiet) k) (stays 7 0 0 x w) refl e refl
+    quiet-plans =
+        by-test (inWord (w .quiet) k) (Plans QuietEnd net s k l st true) _ _
+        (λ e. E.quiet-done net s st x w like k h (inWord (w .quiet) k) (changed (setQuiet false) k w) _ refl e refl refl)
+        (λ e. E.quiet-refused net s st x w like k h (inWord (w .quiet) k) _ refl e refl)
 
 module _ (own s k : ℕ) (l : Letter) (c told : ℕ) (x : Condition) (w : Words) (f : Fit w) where
   kind-plans : (e : Kind) (net : Net) (st : Station) → Like x w st → Own own net s → Counts c k st → Meant net st e k l told

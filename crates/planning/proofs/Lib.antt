@@ -1,1 +1,3 @@
-pub mod ByKind
+mod Small
+mod Recovered
+mod ByKind

@@ -1,0 +1,28 @@
+use mathlib.Core.Path.{sym, _∙_, ap}
+use borrow.Author.Tests.{not-true, not-false}
+use borrow.Author.Needs.{needs}
+use Rattle.planning.proofs.plan_quiet_end.Statement.{statement}
+use Rattle.planning.proofs.plan_quiet_end.Tie as tie
+
+has-requires : tie.Need-has-requires
+has-requires c κs = search needs
+
+staying-requires : tie.Need-staying-requires
+staying-requires c κs = search needs
+
+returns : tie.Need-returns
+returns c = rw (sym (c .before .before .has .ensures) ∙ not-true _ (c .before .if1 .taken)) (c .staying .ensures)
+
+loud-words-requires : tie.Need-loud-words-requires
+loud-words-requires c κs = search needs
+
+turning-requires : tie.Need-turning-requires
+turning-requires c κs = search needs
+
+returns-2 : tie.Need-returns-2
+returns-2 c = rw (sym (c .before .before .before .has .ensures) ∙ not-false _ (c .before .before .if1 .left)) (rw (sym (c .before .loud-words .ensures)) (c .turning .ensures))
+
+pub plan-quiet-end-spec : {M : Type 1} → statement M
+plan-quiet-end-spec =
+    tie.close
+    (tie.spec has-requires staying-requires returns loud-words-requires turning-requires returns-2)

@@ -1,0 +1,23 @@
+use mathlib.Core.Path.{sym, _∙_}
+use borrow.Author.Needs.{needs}
+use Rattle.planning.proofs.plan_stop.Statement.{statement}
+use Rattle.planning.proofs.plan_stop.Tie as tie
+
+is-down-requires : tie.Need-is-down-requires
+is-down-requires c κs = search needs
+
+staying-requires : tie.Need-staying-requires
+staying-requires c κs = search needs
+
+returns : tie.Need-returns
+returns c = rw (sym (c .before .before .is-down .ensures) ∙ c .before .if1 .taken) (c .staying .ensures)
+
+turning-requires : tie.Need-turning-requires
+turning-requires c κs = search needs
+
+returns-2 : tie.Need-returns-2
+returns-2 c = rw (sym (c .before .before .is-down .ensures) ∙ c .before .if1 .left) (c .turning .ensures)
+
+pub plan-stop-spec : {M : Type 1} → statement M
+plan-stop-spec =
+    tie.close (tie.spec is-down-requires staying-requires returns turning-requires returns-2)
