@@ -9,7 +9,7 @@ use Rattle.lists.specs.Lists.{if_then_else_}
 use Rattle.lists.proofs.Tests.{if-elim}
 use Rattle.net.specs.declared.Letter.{Letter}
 use Rattle.world.specs.World.{noLetter}
-use Rattle.concerning.specs.Concerned.{inRoom}
+use Rattle.network.specs.Concerned.{inRoom}
 use Rattle.network.specs.Parts.{placeBy, fewerBy, numberBy}
 
 pub place-there : (a : ℕ) → a < 4096 → a ≡ placeBy a

@@ -43,7 +43,7 @@ use Rattle.world.proofs.Keeps.{Formed, Posted, meant-posted, concerned-real, na
 use Rattle.state.specs.declared.State.{State}
 use Rattle.state.specs.State.{stationIn, letterIn, worldOf, stateHolds, Sized}
 use Rattle.state.proofs.Meaning as M
-use Rattle.concerning.specs.Concerned.{inRoom, linkBy}
+use Rattle.network.specs.Concerned.{inRoom, linkBy}
 use Rattle.stepping.specs.Step.{event}
 use Rattle.network.specs.Parts.{placeBy}
 

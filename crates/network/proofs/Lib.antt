@@ -1,3 +1,4 @@
+pub mod Present
 pub mod Helpers
 pub mod Known
 pub mod Made

@@ -17,7 +17,7 @@ use Rattle.station.specs.declared.Kind.{Kind}
 use Rattle.station.specs.Events.{takesLetter}
 use Rattle.plan_rules.specs.Rules.{eventPlan}
 use Rattle.world.specs.World.{noLetter, existsAs, concernedBy}
-use Rattle.concerning.specs.Concerned.{inRoom, linkBy}
+use Rattle.network.specs.Concerned.{inRoom, linkBy}
 use Rattle.state.specs.declared.State.{State}
 use Rattle.state.specs.State.{letterIn, stationIn}
 use Rattle.posting.specs.Post.{posted, Going}
