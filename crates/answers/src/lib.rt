@@ -1,4 +1,5 @@
 // How many events were taken and refused, counted in the lines that the event program prints for them: the page's first line.
+// Inner doors: the calls are in docs/CALLS.md.
 ghost use mathlib.Core.Path.{_≡_};
 ghost use mathlib.Core.Bool.{true};
 ghost use lib.Dec.{leb};
@@ -44,6 +45,7 @@ fn count_byte(begins: bool, byte: u8, a: Answers) -> Answers
 }
 
 // The answers on these lines, which the event program prints for events, added to those before.
+// Promise: of the lines of the event program's text, those that begin with 0 are taken and the others refused.
 pub fn count_answers(bytes: &[u8], before: Answers) -> Answers
     ensures { λ r. ⌜ r ≡ counting true (now (bytes .entry)) before ⌝ }
 {
@@ -58,6 +60,7 @@ pub fn count_answers(bytes: &[u8], before: Answers) -> Answers
 }
 
 // The page's first line.
+// Promise: `T events taken, R refused`.
 pub fn put_counts(a: Answers, out: &mut [u8]) -> Wrote
     ensures answer { λ r. ⌜ r ≡ wroteBy (leb 64 (length (now (out .entry)))) (countsText (a .taken) (a .refused)) ⌝ }
     ensures output { λ r. ⌜ now (out .exit) ≡ outputBy (leb 64 (length (now (out .entry)))) (countsText (a .taken) (a .refused)) (now (out .entry)) ⌝ }

@@ -63,6 +63,8 @@ fn no_letter() -> Letter
 }
 
 // The state with every station down and no letter in flight; 11 for a bad network, with a state that no call accepts.
+// Promise: equals `Beginning.begunOf`: 0 and the state in which every station is down and no letter is in flight; 11 for a bad network,
+// with a state that no call accepts.
 pub fn fresh(net: Net) -> Begun
     ensures { λ r. ⌜ r ≡ begunOf net ⌝ }
 {

@@ -1,5 +1,6 @@
 // Carrying a plan out at a station: the table that the notices tell, what of it is sent, and the table that the event leaves. Inner
 // doors: the call is the network's step.
+// Inner doors: the calls are in docs/CALLS.md.
 ghost use mathlib.Core.Path.{_≡_};
 ghost use Prim.Native.Nat.{min};
 ghost use Rattle.carrying.specs.Carrying.{toldBy, narrowed, keptBy};
@@ -8,6 +9,7 @@ use net::Net;
 use sending::Sending;
 
 // The table with the one counter set: what the notices tell.
+// Promise: equals `Carrying.toldBy`: the table with the one counter set, as the notices tell it.
 pub fn told_table(sets: bool, at: u8, counter: u16, table: Counters) -> Counters
     ensures { λ r. ⌜ r ≡ toldBy sets at counter table ⌝ }
 {
@@ -24,6 +26,7 @@ pub fn told_table(sets: bool, at: u8, counter: u16, table: Counters) -> Counters
 }
 
 // What is sent: where the plan says so, only what is known is told of.
+// Promise: equals `Carrying.narrowed`: of the subjects only those that are known, where the plan says so.
 pub fn narrow(knows: bool, links: u8, table: Counters, sends: Sending) -> Sending
     ensures { λ r. ⌜ r ≡ narrowed knows (min links 64) table sends ⌝ }
 {
@@ -44,6 +47,7 @@ pub fn narrow(knows: bool, links: u8, table: Counters, sends: Sending) -> Sendin
 }
 
 // The table that the event leaves: every counter 1, or what is out of reach purged, or as it is told.
+// Promise: equals `Carrying.keptBy`: every counter 1, or what is out of reach by this very table purged, or the table as it is.
 pub fn kept_table(net: Net, me: u8, resets: bool, purges: bool, table: Counters) -> Counters
     ensures { λ r. ⌜ r ≡ keptBy net me resets purges table ⌝ }
 {

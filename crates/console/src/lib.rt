@@ -1,4 +1,5 @@
 // What the programs share, on bytes and values alone: nothing here reads or writes. Running events: crate `running`.
+// Inner doors: the calls are in docs/CALLS.md.
 ghost use mathlib.Core.Path.{_≡_};
 ghost use lib.Dec.{leb};
 ghost use lib.ListN.{length};
@@ -42,6 +43,7 @@ fn no_net() -> Net
 }
 
 // The bytes of the file `network.sheet`; one above 4,096 bytes is refused as 2.
+// Promise: the sheet of the file's bytes, 2 where they are more than 4,096.
 pub fn open_sheet(file: &[u8]) -> Opened
     ensures { λ r. ⌜ r ≡ openedBy (fileSheet (now (file .entry))) ⌝ }
 {
@@ -68,6 +70,7 @@ pub struct Wrote {
 }
 
 // A refused sheet's number alone.
+// Promise: a refused sheet's number alone.
 pub fn put_refusal(n: u8, out: &mut [u8]) -> Wrote
     ensures answer { λ r. ⌜ r ≡ wroteBy (leb 4 (length (now (out .entry)))) (refusalText n) ⌝ }
     ensures output { λ r. ⌜ now (out .exit) ≡ outputBy (leb 4 (length (now (out .entry)))) (refusalText n) (now (out .entry)) ⌝ }

@@ -1,4 +1,5 @@
 // A link's counter, and the rules for it that stand alone. Every public function answers every number.
+// Inner doors: the calls are in docs/CALLS.md.
 ghost use mathlib.Core.Path.{_≡_};
 ghost use Prim.Native.Nat.{max};
 ghost use Rattle.counters.specs.Counters.{even, timedOut, healing, newer};
@@ -13,6 +14,7 @@ pub enum Healed {
 }
 
 // Working, or unresponsive.
+// Promise: equals `Counters.even`: the link works.
 pub fn is_even(counter: u16) -> bool
     ensures { λ r. ⌜ r ≡ even counter ⌝ }
 {
@@ -20,6 +22,7 @@ pub fn is_even(counter: u16) -> bool
 }
 
 // The counter after a timeout: raised if the link worked till now.
+// Promise: equals `Counters.timedOut`: an even counter is raised by 1, an odd one stays.
 pub fn timed_out(own: u16) -> u16
     ensures { λ r. ⌜ r ≡ timedOut own ⌝ }
 {
@@ -27,6 +30,7 @@ pub fn timed_out(own: u16) -> u16
 }
 
 // The counter after a reply: even again, and never below the larger of the two.
+// Promise: equals `Counters.healing`: the larger of the two, or one more if that is odd; 8 where that is 65,536.
 pub fn heal(own: u16, carried: u16) -> Healed
     ensures { λ r. ⌜ r ≡ healing own carried ⌝ }
 {
@@ -41,6 +45,7 @@ pub fn heal(own: u16, carried: u16) -> Healed
 }
 
 // Whether a notice is taken: an equal one must not be, or it would circle for ever.
+// Promise: equals `Counters.newer`: strictly above.
 pub fn is_newer(own: u16, carried: u16) -> bool
     ensures { λ r. ⌜ r ≡ newer own carried ⌝ }
 {

@@ -1,4 +1,5 @@
 // Fields: a one-byte tag, a two-byte length with the high byte first, a value. Sheets and letters are made of them.
+// Inner doors: the calls are in docs/CALLS.md.
 ghost use mathlib.Core.Path.{_≡_};
 ghost use Rattle.fields.specs.Fields.{wide, firstField, cutOf, putField, putSize};
 
@@ -16,6 +17,7 @@ fn two_bytes(high: u8, low: u8) -> usize
 }
 
 // Cuts one field off the front.
+// Promise: equals `Fields.firstField`: short, or tag, value and rest.
 pub fn cut_first(bytes: &[u8]) -> Cut
     ensures { λ r. ⌜ r ≡ cutOf (firstField (now (bytes .entry))) ⌝ }
 {
@@ -33,6 +35,7 @@ pub fn cut_first(bytes: &[u8]) -> Cut
 }
 
 // Writes a field at the front of the output and answers its size. Where it does not fit, nothing is written.
+// Promise: the field's bytes over the front of the output and how many, or 0 and the output untouched where it does not fit.
 pub fn put(out: &mut [u8], tag: u8, value: &[u8]) -> usize
     ensures size { λ r. ⌜ r ≡ putSize (now (value .entry)) (now (out .entry)) ⌝ }
     ensures output { λ r. ⌜ now (out .exit) ≡ putField tag (now (value .entry)) (now (out .entry)) ⌝ }

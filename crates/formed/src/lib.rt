@@ -1,4 +1,5 @@
 // Whether what one station holds is well formed: a part of the test of a whole state.
+// An inner door: the calls are in docs/CALLS.md.
 ghost use mathlib.Core.Path.{_≡_};
 ghost use mathlib.Core.Bool.{not, _&&_};
 ghost use Rattle.lists.specs.Words.{inWord};
@@ -89,6 +90,7 @@ fn marks_formed(condition: Condition, own: u64, w: Words) -> bool
 }
 
 // Whether what the station s holds is well formed, with its unused room zero.
+// Promise: equals `Formed.stationFormed`: what the station holds is well formed and its unused room is zero.
 pub fn station_formed(net: Net, s: u8, st: Station) -> bool
     ensures { λ r. ⌜ r ≡ stationFormed net s st ⌝ }
 {

@@ -44,6 +44,7 @@ fn request_heard(testing: bool, sender: u16, me: u8) -> Heard
 }
 
 // The receiver's answer to a letter on link k: c is that link's counter, told that of the link that the letter tells of.
+// Promise: equals `Acts.answerBy`: gone, no effect, too high, or what the letter does.
 pub fn hearing(
     me: u8,
     k: u8,

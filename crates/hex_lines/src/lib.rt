@@ -1,4 +1,5 @@
 // Lines of hexadecimal digits, read byte by byte: a line may be of any length, and its bytes arrive in pieces.
+// Inner doors: the calls are in docs/CALLS.md.
 ghost use mathlib.Core.Path.{_≡_};
 ghost use Prim.Native.Nat.{_<_};
 ghost use Rattle.hex_lines.specs.Hex.{hexValue};
@@ -21,6 +22,7 @@ pub enum HexLine {
 }
 
 // A hexadecimal line of which no byte is read.
+// Promise: equals `HexSteps.hexStart`: no digit of the line is read yet.
 pub fn begin_hex() -> HexReading
     ensures { λ r. ⌜ r ≡ hexStart ⌝ }
 {
@@ -89,6 +91,8 @@ fn with_hex(r: HexReading, digit: u8) -> HexReading
 }
 
 // One byte more of a hexadecimal line; its newline is not one of them.
+// Promise: equals `HexSteps.readHex`: one byte more. Fed the bytes of a line one by one, the three give exactly the bytes that the whole line says
+// (`hex_lines.Hex.read-hex-line`).
 pub fn read_hex(r: HexReading, byte: u8) -> HexReading
     ensures { λ n. ⌜ n ≡ readHex r byte ⌝ }
 {
@@ -103,6 +107,7 @@ pub fn read_hex(r: HexReading, byte: u8) -> HexReading
 }
 
 // What a hexadecimal line says that ends here.
+// Promise: equals `HexSteps.hexEnd`: the bytes of the line: hexadecimal digits of either case, an even number of them, at most 64; or malformed.
 pub fn hex_end(r: HexReading) -> HexLine
     ensures { λ l. ⌜ l ≡ hexEnd r ⌝ }
 {

@@ -1,4 +1,5 @@
 // The wire program's line for bytes taken as a letter: the letter written back, or the number that says no.
+// An inner door: the calls are in docs/CALLS.md.
 ghost use mathlib.Core.Path.{_≡_};
 ghost use Prim.Native.Nat.{_+_, _≤_};
 ghost use lib.Dec.{T};
@@ -82,6 +83,8 @@ fn put_number_line(out: &mut [u8], at: usize, n: u8) -> usize
 
 // A line's bytes taken as a letter. No line is longer than 64 bytes: where the output has no room for 64, nothing is touched and the answer is
 // one beyond the output's end.
+// Promise: its line for these bytes as a letter, at that place, where there is room for 64 bytes, the longest line; else nothing is
+// touched, and the answer is a place past the end.
 pub fn put_read(out: &mut [u8], at: usize, net: Net, bytes: &[u8]) -> usize
     ensures place { λ r. ⌜ r ≡ placeBehind (readLine net (now (bytes .entry))) at (now (out .entry)) ⌝ }
     ensures output { λ r. ⌜ now (out .exit) ≡ lineAt (readLine net (now (bytes .entry))) at (now (out .entry)) ⌝ }

@@ -73,6 +73,7 @@ fn put_letter(out: &mut [u8], link: u8, side: u8, body: Body) -> Wrote
 }
 
 // A letter to lent output. A longer output keeps its tail, and a refusal touches none of it.
+// Promise: equals `letters.Values.writing`: 11, then 3, then 10, else the bytes of `writeLetter`.
 pub fn write(net: Net, letter: Letter, out: &mut [u8]) -> Wrote
     ensures answer { λ r. ⌜ wroteNumbers r ≡ writingNumbers (writing net letter (now (out .entry))) ⌝ }
     ensures output { λ r. ⌜ now (out .exit) ≡ writingOutput (writing net letter (now (out .entry))) (now (out .entry)) ⌝ }

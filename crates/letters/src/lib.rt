@@ -93,6 +93,7 @@ fn sender_of(low: u8, high: u8, side: u8) -> u8
 }
 
 // Bytes to a letter.
+// Promise: equals `reading`: 11, then 1, 2, 3 by the field, then 2 for bytes after it, else the letter.
 pub fn read(net: Net, bytes: &[u8]) -> Answer
     ensures { λ r. ⌜ lettersOf r ≡ reading net (now (bytes .entry)) ⌝ }
 {

@@ -1,4 +1,5 @@
 // Lines of three decimal numbers, read byte by byte: a line may be of any length, and its bytes arrive in pieces.
+// Inner doors: the calls are in docs/CALLS.md.
 ghost use mathlib.Core.Path.{_≡_};
 ghost use Prim.Native.Nat.{_≤_};
 ghost use Rattle.lines.specs.Steps.{start, spoilt, withDigit, nextNumber, readOn, lineEnd, lineNumbers};
@@ -22,6 +23,7 @@ pub enum Line {
 }
 
 // A line of which no byte is read.
+// Promise: equals `Steps.start`: no byte of the line is read yet.
 pub fn begin() -> Reading
     ensures { λ r. ⌜ r ≡ start ⌝ }
 {
@@ -94,6 +96,8 @@ fn next_number(r: Reading) -> Reading
 }
 
 // One byte more of the line; its newline is not one of them.
+// Promise: equals `Steps.readOn`: one byte more. Fed the bytes of a line one by one, the three give exactly `Events.eventLine` of the
+// whole line (`lines.Events.read-line`).
 pub fn read_on(r: Reading, byte: u8) -> Reading
     ensures { λ n. ⌜ n ≡ readOn r byte ⌝ }
 {
@@ -110,6 +114,7 @@ pub fn read_on(r: Reading, byte: u8) -> Reading
 }
 
 // What a line says that ends here.
+// Promise: its numbers equal `Steps.lineEnd`: three decimal numbers of 1 to 9 digits with one space between, or malformed.
 pub fn line_end(r: Reading) -> Line
     ensures { λ l. ⌜ lineNumbers l ≡ lineEnd r ⌝ }
 {

@@ -1,4 +1,5 @@
 // The five marks of each link as five sets of links, and the links that a station is an end of as one such set.
+// Inner doors: the calls are in docs/CALLS.md.
 ghost use mathlib.Core.Path.{_≡_};
 ghost use mathlib.Core.Bool.{_||_};
 ghost use lib.Dec.{eqb};
@@ -25,6 +26,7 @@ pub struct Words {
 }
 
 // The five marks of link k.
+// Promise: equals `Marks.marksAt`: the five marks of link k.
 pub fn marks_at(w: Words, k: u8) -> Marks
     ensures { λ r. ⌜ r ≡ marksAt w k ⌝ }
 {
@@ -38,6 +40,7 @@ pub fn marks_at(w: Words, k: u8) -> Marks
 }
 
 // The words with these marks for link k.
+// Promise: equals `Marks.wordsWith`: these marks for link k, all others as before.
 pub fn with_marks(w: Words, k: u8, m: Marks) -> Words
     ensures { λ r. ⌜ r ≡ wordsWith w k m ⌝ }
 {
@@ -60,6 +63,7 @@ fn is_end(low: u8, high: u8, s: u8) -> bool
 }
 
 // The links that the station s is an end of.
+// Promise: the links that exist and have s as an end (`Marks.ownAt`).
 pub fn own_links(net: Net, s: u8) -> u64
     ensures { λ r. ⌜ r ≡ wordBy (ownAt net s) ⌝ }
 {

@@ -1,4 +1,5 @@
 // The network and the letters that travel in it, as values, and what a letter may say.
+// An inner door: the calls are in docs/CALLS.md.
 ghost use mathlib.Core.Path.{_≡_};
 ghost use Rattle.net.specs.Values.{bodyTest};
 
@@ -27,6 +28,8 @@ pub struct Letter {
 }
 
 // Whether a body's subject exists, in a network of so many links, and its counter is in range.
+// Promise: equals `Values.bodyTest`: in a network of so many links the body's subject exists and its counter is in range; with a network's
+// links this is `Letters.bodyHolds` (`Bodies.body-is`).
 pub fn body_holds(links: u8, body: Body) -> bool
     ensures { λ r. ⌜ r ≡ bodyTest links body ⌝ }
 {

@@ -239,6 +239,8 @@ fn freed(leaves: bool, x: Letter) -> Letter
 }
 
 // One event. Refusals in their order: 11, 6, 7, 8, 9; each hands back the state it was given.
+// Promise: equals `Step.steppedOf`: 11, then the world's refusal 6, 7, 8 or 9 with exactly the state given and nothing counted; else 0,
+// the world after the event laid out in zero room, and the notices settled, counters raised and letters dropped by the event.
 pub fn step(mut s: State, kind: u32, a: u32, b: u32) -> Stepped
     ensures { λ r. ⌜ r ≡ steppedOf s kind a b ⌝ }
 {

@@ -1,4 +1,5 @@
 // The page's part for each station of a state: what `reaching` and `reports` answer for it, put by `parts`.
+// An inner door: the calls are in docs/CALLS.md.
 ghost use mathlib.Core.Path.{_≡_};
 ghost use Rattle.station.specs.Holding.{isWaiting};
 ghost use Rattle.asking.specs.Asking.{placeBy};
@@ -27,6 +28,7 @@ fn place_of(i: u8) -> usize
 }
 
 // Station i's part of the page. Refusals in their order: 11, 6, 10; none of them touches the output.
+// Promise: the part of station i, from the answers of `reaching::reach` and `reports::report` for it.
 pub fn put_station(s: State, i: u8, out: &mut [u8]) -> Wrote
     ensures answer { λ r. ⌜ r ≡ partWrote (askedOf s i .answer) (stationPart s i) (now (out .entry)) ⌝ }
     ensures output { λ r. ⌜ now (out .exit) ≡ partOutput (askedOf s i .answer) (stationPart s i) (now (out .entry)) ⌝ }

@@ -1,5 +1,6 @@
 // One station's part of the page, on bytes and small values alone: its own line, and under a live one a line for each station and
 // each link as the report shows them.
+// An inner door: the calls are in docs/CALLS.md.
 ghost use mathlib.Core.Path.{_≡_};
 ghost use Prim.Native.Nat.{_+_, _*_, _≤_};
 ghost use lib.ListN.{length, getD};
@@ -151,6 +152,8 @@ fn is_there(number: u8) -> bool
 }
 
 // The part, by the reach's number and by small values alone.
+// Promise: one station's part of the page by the reach's number: 0 its line and a line for each station and each link of the report's
+// bytes, 7 its line alone, any other number handed back with nothing put.
 pub fn put_part(
     number: u8,
     net: Net,

@@ -270,6 +270,7 @@ fn plan_quiet_end(k: u8, condition: Condition, w: Words) -> Plan
 
 // What the event comes to at the station me. there: whether what it names is there. own: the station's links. k: the link that the
 // event is about, with its counter c. told: the counter of the link that the letter tells of.
+// Promise: equals `Rules.eventPlan`: any event: 6 where what it names is not there, 7, 8, or what it comes to.
 pub fn plan_event(
     there: bool,
     kind: Kind,

@@ -2,6 +2,7 @@
 // left after it. So the network appends the letters by one flat loop, and no list of them is built before. The table that is told
 // is not in it: whoever owns the table reads the one counter that a notice tells. Each step goes by cases; to compute them all and
 // to pick takes longer. Every public function answers every input.
+// Inner doors: the calls are in docs/CALLS.md.
 ghost use mathlib.Core.Path.{_≡_};
 ghost use mathlib.Core.Bool.{_&&_};
 ghost use mathlib.Core.List.{List};
@@ -42,6 +43,7 @@ fn bit(on: bool) -> u16
 }
 
 // How many letters the sending means, whoever sends it and whatever table is told.
+// Promise: how many letters the sending means, whoever sends it and whatever table is told.
 pub fn count(send: Sending) -> u16
     ensures { λ r. ⌜ ((s : ℕ) (told : List ℕ) → r ≡ length (lettersOf s told send)) ⌝ }
 {
@@ -80,6 +82,7 @@ fn tells(subjects: u64, left: u64) -> bool
 // ---- posting
 
 // The sending with nothing posted.
+// Promise: equals `Post.begunPost`: all of the sending is left.
 pub fn begun(send: Sending) -> Post
     ensures { λ r. ⌜ r ≡ begunPost send ⌝ }
 {
@@ -95,6 +98,7 @@ pub fn begun(send: Sending) -> Post
 }
 
 // The link that the next notice tells of, 0 where none is left.
+// Promise: the link that the next notice tells of.
 pub fn subject(post: Post) -> u8
     ensures { λ r. ⌜ r ≡ lowestIn (post .subjects) ⌝ }
 {
@@ -102,6 +106,7 @@ pub fn subject(post: Post) -> u8
 }
 
 // The first letter left, from the station me, where a notice tells this counter; where none is left, any.
+// Promise: equals `Post.firstLeft`: the first letter left, a notice telling this counter.
 pub fn first(post: Post, me: u8, counter: u16) -> Letter
     ensures { λ r. ⌜ r ≡ firstLeft me counter post ⌝ }
 {
@@ -146,6 +151,7 @@ fn changed(post: Post, requests: u64, subjects: u64, left: u64, replies: bool) -
 }
 
 // What is left after it: where the ways for a subject are used up, all of them are left for the next.
+// Promise: equals `Post.restLeft`: what is left after it; with `PostLaws.step-seen` the letters of a sending, in their order.
 pub fn rest(post: Post) -> Post
     ensures { λ r. ⌜ r ≡ restLeft post ⌝ }
 {

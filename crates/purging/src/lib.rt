@@ -1,5 +1,6 @@
 // Purge: what a station forgets of links that it doesn't reach. Every public function answers every input;
 // what a bad network or a station that is not there gives is said in reach/specs/Values.antt.
+// An inner door: the calls are in docs/CALLS.md.
 ghost use mathlib.Core.Path.{_≡_};
 ghost use Rattle.lists.specs.Words.{inWord};
 ghost use Rattle.reach.specs.Values.{purgedOf};
@@ -15,6 +16,8 @@ fn purge_one(a: u8, b: u8, counter: u16, w: u32) -> u16
 }
 
 // The counters after a purge at s: 1 for each link neither of whose ends s reaches over the working links.
+// Promise: equals `reach.Values.purgedOf`: counter 1 for every link neither of whose ends s reaches over the working links, all else as it
+// was.
 pub fn purged(net: Net, working: u64, counters: Counters, s: u8) -> Counters
     ensures { λ r. ⌜ r ≡ purgedOf net (inWord working) counters s ⌝ }
 {

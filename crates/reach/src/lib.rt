@@ -1,5 +1,6 @@
 // Who reaches whom over the links that work, which of them work by a station's counters, and the laws of it. Every input is answered;
 // what a bad network or a station that is not there gives is said in specs/Values.antt.
+// Inner doors: the calls are in docs/CALLS.md.
 ghost use mathlib.Core.Path.{_≡_};
 ghost use Prim.Native.Nat.{_+_, _<_, _^_};
 ghost use Rattle.lists.specs.Words.{bitAt, inWord, wordOf};
@@ -45,6 +46,7 @@ fn grown(a: u8, b: u8, w: u32) -> u32
 }
 
 // The links that are there and work by the counters, as a word: bit k for link k.
+// Promise: equals `Values.workingOf`: bit k exactly for the links that are there and whose counter is even.
 pub fn working_links(links: u8, counters: Counters) -> u64
     ensures { λ r. ⌜ r ≡ workingOf links counters ⌝ }
 {
@@ -59,6 +61,7 @@ pub fn working_links(links: u8, counters: Counters) -> u64
 
 // The stations that s reaches over the working links, as a word: from s on, take the first link, by number, that joins a
 // reached station to an unreached one and works, until none is left. A station that is not there reaches nothing.
+// Promise: equals the word of `Values.reachOf`: bit t exactly for the stations that s reaches over the working links.
 pub fn reach_word(net: Net, working: u64, s: u8) -> u32
     ensures { λ r. ⌜ r ≡ wordOf (reachOf net (inWord working) s) ⌝ }
 {

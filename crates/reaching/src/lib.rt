@@ -27,6 +27,7 @@ fn reached_by(number: u8, net: Net, working: u64, me: u8) -> Reached
 }
 
 // The reach of station a by its own table. Refusals in their order: 11, 6, 7.
+// Promise: equals `Answers.askedOf`: 11, 6, 7, else word, ones and lowest not reached of station a's own table.
 pub fn reach(s: State, a: u32) -> Asked
     ensures { λ r. ⌜ r ≡ askedOf s a ⌝ }
 {

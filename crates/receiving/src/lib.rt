@@ -21,6 +21,7 @@ use station_plan::Plan;
 use tally::Tally;
 
 // A notice that is taken off is settled.
+// Promise: 1 for a notice, else 0.
 pub fn settled_by(letter: Letter) -> u64
     ensures { λ r. ⌜ r ≡ bit (isNotice (letter .body)) ⌝ }
 {
@@ -218,6 +219,7 @@ fn plan_drop(said: Heard, settled: u64, condition: Condition, w: Words) -> Plan
 }
 
 // 7. A letter arrives on link k.
+// Promise: equals `Rules.letterPlan`: a delivery by the receiver's answer, or 8.
 pub fn plan_letter(
     own: u64,
     me: u8,

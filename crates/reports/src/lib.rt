@@ -61,6 +61,7 @@ fn written(number: u8, net: Net, working: u64, me: u8, out: &mut [u8]) -> u8
 
 // One byte for each station, then one for each link, as station a sees them. Refusals in their order: 11, 6, 7, 10; none of
 // them touches the output, and a longer one keeps its tail.
+// Promise: the answer and the output after the call: 11, 6, 7, 10 with the output untouched, else the report's bytes and the old tail.
 pub fn report(s: State, a: u32, out: &mut [u8]) -> u8
     ensures answer { λ r. ⌜ r ≡ answerOf s a (now (out .entry)) ⌝ }
     ensures output { λ r. ⌜ now (out .exit) ≡ outputOf s a (now (out .entry)) ⌝ }

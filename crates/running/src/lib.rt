@@ -1,5 +1,6 @@
 // Running events, on bytes and values alone: the lines of a piece of the input. Nothing here reads or writes. The stations' lines at
 // the end: crate `standing`.
+// An inner door: the calls are in docs/CALLS.md.
 ghost use mathlib.Core.Path.{_≡_};
 ghost use Prim.Native.Nat.{_+_, _≤_};
 ghost use lib.ListN.{length, drop};
@@ -92,6 +93,8 @@ pub struct Ran {
 }
 
 // Runs the event lines that end in these bytes.
+// Promise: for the lines that end in these bytes: what document 01's event program prints for each, and the state, tally and reading after
+// them.
 pub fn run_events(given: State, t: Tally, r: Reading, bytes: &[u8], out: &mut [u8]) -> Ran
     ensures answer { λ n. ⌜ n ≡ ranBy (enough (now (bytes .entry)) (now (out .entry))) (deskOf given t) r (now (bytes .entry)) ⌝ }
     ensures output { λ n. ⌜ now (out .exit) ≡ outputBy (enough (now (bytes .entry)) (now (out .entry))) (texts (deskOf given t) r (now (bytes .entry))) (now (out .entry)) ⌝ }

@@ -1,4 +1,5 @@
 // What a station sends, as a small description that the network expands: no list of letters is built before it is appended.
+// An inner door: the calls are in docs/CALLS.md.
 ghost use mathlib.Core.Path.{_≡_};
 ghost use Prim.Native.Nat.{min};
 ghost use lib.Dec.{ltb};
@@ -18,6 +19,7 @@ pub struct Sending {
 }
 
 // The links whose counter is above 1.
+// Promise: the links whose counter is above 1.
 pub fn known_links(links: u8, counters: Counters) -> u64
     ensures { λ r. ⌜ r ≡ wordBy (upTo (λ j. ltb 1 (getD counters j 0)) (min links 64)) ⌝ }
 {

@@ -189,6 +189,7 @@ fn read_links(bytes: &[u8], n: u8) -> Reading
 }
 
 // Bytes to a network.
+// Promise: `Says r (readSheet bytes)`: the network, or the refusal's number and no network.
 pub fn read(bytes: &[u8]) -> Reading
     ensures { λ r. ⌜ Says r (readSheet (now (bytes .entry))) ⌝ }
 {

@@ -1,4 +1,5 @@
 // The wire program's first line, on bytes and values alone: the sheet written back, or the number of a refused one.
+// An inner door: the calls are in docs/CALLS.md.
 ghost use mathlib.Core.Path.{_≡_};
 ghost use Prim.Native.Nat.{_≤_};
 ghost use lib.Dec.{T, leb};
@@ -44,6 +45,7 @@ fn put_network(out: &mut [u8], net: Net) -> usize
 }
 
 // `sheet 0 STATIONS LINKS HEX`, or `sheet N` for a refused one.
+// Promise: the wire program's first line.
 pub fn put_sheet(file: &[u8], out: &mut [u8]) -> Wrote
     ensures answer { λ r. ⌜ r ≡ wroteBy (leb 700 (length (now (out .entry)))) (sheetText (fileSheet (now (file .entry)))) ⌝ }
     ensures output { λ r. ⌜ now (out .exit) ≡ outputBy (leb 700 (length (now (out .entry)))) (sheetText (fileSheet (now (file .entry)))) (now (out .entry)) ⌝ }

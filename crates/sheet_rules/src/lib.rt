@@ -1,5 +1,6 @@
 // The sheet rules, which every call that is given a network tests first. This crate stands above `reach`, so that a rule may
 // say what reach says.
+// An inner door: the calls are in docs/CALLS.md.
 ghost use mathlib.Core.Path.{_≡_};
 ghost use Rattle.sheet_rules.specs.Values.{netHolds};
 ghost use Rattle.sheet_rules.specs.Steps.{follows, placeTest};
@@ -41,6 +42,8 @@ fn place_holds(links: u8, stations: u8, k: u8, a: u8, b: u8, low: u8, high: u8) 
 }
 
 // Whether a network keeps the sheet rules with its unused room zero. Where not, a call that is given it refuses with 11.
+// Promise: equals `Values.netHolds`: 1 to 32 stations, at most 64 links, each with two stations as ends, lower first, strictly after the
+// one before it, and the unused room zero.
 pub fn keeps_sheet_rules(net: Net) -> bool
     ensures { λ r. ⌜ r ≡ netHolds net ⌝ }
 {

@@ -46,6 +46,7 @@ fn put_links(out: &mut [u8], low: [u8; 64], high: [u8; 64], m: usize)
 }
 
 // A network to lent output. A longer output keeps its tail, and a refusal touches none of it.
+// Promise: equals `Values.writing`: 11, then 10, else the bytes of `writeSheet`.
 pub fn write(net: Net, out: &mut [u8]) -> Wrote
     ensures answer { λ r. ⌜ wroteNumbers r ≡ writingNumbers (writing net (now (out .entry))) ⌝ }
     ensures output { λ r. ⌜ now (out .exit) ≡ writingOutput (writing net (now (out .entry))) (now (out .entry)) ⌝ }

@@ -1,10 +1,12 @@
 // The parts of the wire program's lines, put like crate `text`'s words: where a part does not fit whole, nothing is touched and the answer is
 // one beyond the output's end.
+// Inner doors: the calls are in docs/CALLS.md.
 ghost use mathlib.Core.Path.{_≡_};
 ghost use Rattle.text.specs.Text.{putAt, placeAfter};
 ghost use Rattle.spelling.specs.Parts.{fieldText, hexText};
 
 // A byte is two digits, upper case.
+// Promise: bytes in hexadecimal, put as crate `text` puts a word.
 pub fn put_bytes(out: &mut [u8], at: usize, bytes: &[u8]) -> usize
     ensures place { λ r. ⌜ r ≡ placeAfter (hexText (now (bytes .entry))) at (now (out .entry)) ⌝ }
     ensures output { λ r. ⌜ now (out .exit) ≡ putAt (hexText (now (bytes .entry))) at (now (out .entry)) ⌝ }
@@ -24,6 +26,7 @@ pub fn put_bytes(out: &mut [u8], at: usize, bytes: &[u8]) -> usize
 }
 
 // A number and a space.
+// Promise: a number and a space, put as crate `text` puts a word.
 pub fn put_field(out: &mut [u8], at: usize, n: u16) -> usize
     ensures place { λ r. ⌜ r ≡ placeAfter (fieldText n) at (now (out .entry)) ⌝ }
     ensures output { λ r. ⌜ now (out .exit) ≡ putAt (fieldText n) at (now (out .entry)) ⌝ }

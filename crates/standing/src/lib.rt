@@ -1,5 +1,6 @@
 // Where the stations stand at the end of the event program: each station's counters, on bytes and values alone. Nothing here reads
 // or writes.
+// An inner door: the calls are in docs/CALLS.md.
 ghost use mathlib.Core.Path.{_≡_};
 ghost use Prim.Native.Nat.{_+_, _≤_};
 ghost use lib.Dec.{leb};
@@ -24,6 +25,7 @@ fn put_station(out: &mut [u8], at: usize, i: u8, links: u8, counters: [u16; 64])
 }
 
 // One line per station.
+// Promise: one line per station, its number and its counters by link.
 pub fn put_stations(s: State, out: &mut [u8]) -> Wrote
     ensures answer { λ r. ⌜ r ≡ wroteBy (leb 12800 (length (now (out .entry)))) (stationsText s) ⌝ }
     ensures output { λ r. ⌜ now (out .exit) ≡ outputBy (leb 12800 (length (now (out .entry)))) (stationsText s) (now (out .entry)) ⌝ }

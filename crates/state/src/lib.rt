@@ -1,4 +1,5 @@
 // The whole network as one value: what every station holds and the letters in flight, and its test (11).
+// An inner door: the calls are in docs/CALLS.md.
 ghost use mathlib.Core.Path.{_≡_};
 ghost use mathlib.Core.Bool.{true, _&&_};
 ghost use Prim.Native.Nat.{min, _≤_, _<_};
@@ -109,6 +110,8 @@ fn frame_holds(net: Net, flying: u16) -> bool
 }
 
 // Whether the state is well formed. Where not, a call that is given it refuses with 11.
+// Promise: equals `State.stateHolds`, every clause of document 01's paragraph (what the type itself says of a well-formed value, its
+// arrays' sizes and its words' widths, is told along).
 pub fn well_formed(s: State) -> bool
     ensures { λ r. ⌜ (r ≡ stateHolds s) × (r ≡ true → Sized s) ⌝ }
 {

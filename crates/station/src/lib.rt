@@ -1,6 +1,7 @@
 // One station: what it holds, which events there are, and the rules of every event and letter at it as definitions (specs/Acts.antt,
 // specs/Events.antt). It knows the network's links and nothing of other stations. What an event comes to there, in words: the crate
 // station_plan.
+// Inner doors: the calls are in docs/CALLS.md.
 ghost use mathlib.Core.Path.{_≡_};
 ghost use Rattle.station.specs.Holding.{isLive};
 ghost use Prim.Native.Nat.{min};
@@ -56,6 +57,7 @@ pub enum Heard {
     Does(Effect),
 }
 
+// Promise: equals `Holding.isLive`.
 pub fn is_live(c: Condition) -> bool
     ensures { λ r. ⌜ r ≡ isLive c ⌝ }
 {
@@ -67,6 +69,7 @@ pub fn is_live(c: Condition) -> bool
 }
 
 // The kind of event that a number says: the only place where it is looked at.
+// Promise: equals `Events.kindOf`: the kind of event that a number says, or none of them.
 pub fn kind_of(n: u32) -> Kind
     ensures { λ r. ⌜ r ≡ kindOf n ⌝ }
 {
@@ -90,6 +93,7 @@ fn no_counters() -> Counters
 }
 
 // The table of a station that knows of no link: every counter 1.
+// Promise: equals `Values.freshTable`: counter 1 for each link that is there, the unused room zero.
 pub fn fresh_counters(links: u8) -> Counters
     ensures { λ r. ⌜ r ≡ freshTable (min links 64) ⌝ }
 {

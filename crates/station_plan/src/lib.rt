@@ -30,6 +30,7 @@ pub struct Plan {
 }
 
 // Nothing changes and nothing is sent: refused, or a letter is gone.
+// Promise: equals `Plans.stays`: nothing changes and nothing is sent; a number that says no, or what is counted of a letter.
 pub fn staying(number: u8, settled: u64, dropped: u64, condition: Condition, w: Words) -> Plan
     ensures { λ r. ⌜ r ≡ stays number settled dropped condition w ⌝ }
 {
@@ -60,6 +61,7 @@ pub fn staying(number: u8, settled: u64, dropped: u64, condition: Condition, w: 
 }
 
 // The condition and the marks change, and requests are sent.
+// Promise: equals `Plans.turns`: the condition and the marks change, and requests are sent.
 pub fn turning(condition: Condition, w: Words, requests: u64, resets: bool) -> Plan
     ensures { λ r. ⌜ r ≡ turns condition w requests resets ⌝ }
 {
@@ -90,6 +92,7 @@ pub fn turning(condition: Condition, w: Words, requests: u64, resets: bool) -> P
 }
 
 // One counter is set, and notices of these subjects are sent on these ways.
+// Promise: equals `Plans.tells`: one counter is set and told of.
 pub fn telling(
     condition: Condition,
     w: Words,

@@ -1,11 +1,13 @@
 // Text into lent output: each function puts its text at a place and answers the place behind it. Where the text does not fit,
 // nothing is touched and the answer is one beyond the output's end. Nothing fits there, so a chain of puts needs one test, at its end.
+// Inner doors: the calls are in docs/CALLS.md.
 ghost use mathlib.Core.Path.{_≡_};
 ghost use Prim.Native.Nat.{_≤_, _<_};
 ghost use lib.ListN.{length, drop};
 ghost use Rattle.text.specs.Text.{digits, hexDigit, hexPair, putAt, placeAfter};
 
 // A word as it stands.
+// Promise: the word at that place, all else as it was, and the place behind it; a place past the end where it does not fit.
 pub fn put_word(out: &mut [u8], at: usize, word: &[u8]) -> usize
     ensures place { λ r. ⌜ r ≡ placeAfter (now (word .entry)) at (now (out .entry)) ⌝ }
     ensures output { λ r. ⌜ now (out .exit) ≡ putAt (now (word .entry)) at (now (out .entry)) ⌝ }
@@ -33,6 +35,7 @@ fn hex_digit(n: u8) -> u8
 }
 
 // A byte as two hexadecimal digits, upper case.
+// Promise: two hexadecimal digits at that place, all else as it was, and the place behind it; a place past the end where they do not fit.
 pub fn put_hex(out: &mut [u8], at: usize, byte: u8) -> usize
     ensures place { λ r. ⌜ r ≡ placeAfter (hexPair byte) at (now (out .entry)) ⌝ }
     ensures output { λ r. ⌜ now (out .exit) ≡ putAt (hexPair byte) at (now (out .entry)) ⌝ }
@@ -59,6 +62,8 @@ fn spell(room: &mut [u8], n: u64) -> usize
 }
 
 // A number in decimal.
+// Promise: the number's decimal digits at that place, all else as it was, and the place behind it; a place past the end where they do not
+// fit. They read back to it (`text.Digits.reads-back`).
 pub fn put_number(out: &mut [u8], at: usize, n: u64) -> usize
     ensures place { λ r. ⌜ r ≡ placeAfter (digits n) at (now (out .entry)) ⌝ }
     ensures output { λ r. ⌜ now (out .exit) ≡ putAt (digits n) at (now (out .entry)) ⌝ }

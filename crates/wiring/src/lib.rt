@@ -1,4 +1,5 @@
 // The wire program's lines, on bytes and values alone: letters read and written back, line by line. Nothing here reads or writes.
+// An inner door: the calls are in docs/CALLS.md.
 ghost use mathlib.Core.Path.{_≡_};
 ghost use Prim.Native.Nat.{_+_, _≤_};
 ghost use lib.ListN.{length, drop};
@@ -60,6 +61,7 @@ pub struct Passed {
 }
 
 // Reads and writes back the letters whose lines end in these bytes.
+// Promise: that line for each letter whose line ends in these bytes.
 pub fn run_letters(net: Net, r: HexReading, bytes: &[u8], out: &mut [u8]) -> Passed
     ensures answer { λ n. ⌜ n ≡ passedBy (enough (now (bytes .entry)) (now (out .entry))) net r (now (bytes .entry)) ⌝ }
     ensures output { λ n. ⌜ now (out .exit) ≡ outputBy (enough (now (bytes .entry)) (now (out .entry))) (texts net r (now (bytes .entry))) (now (out .entry)) ⌝ }

@@ -1,4 +1,5 @@
 // Sets of links as 64-bit words, bit k for link k, and how many links there are room for.
+// Inner doors: the calls are in docs/CALLS.md.
 ghost use mathlib.Core.Path.{_≡_};
 ghost use Prim.Native.Nat.{min};
 ghost use mathlib.Core.Bool.{not, _&&_, _||_};
@@ -8,6 +9,7 @@ ghost use Rattle.lists.specs.Words.{inWord};
 ghost use Rattle.words.specs.Sets.{wordBy};
 
 // Whether k is in the set; a place beyond the word is not.
+// Promise: equals `Words.inWord`: k is in the set, and no place beyond 64 is.
 pub fn has(w: u64, k: u8) -> bool
     ensures { λ r. ⌜ r ≡ inWord w k ⌝ }
 {
@@ -15,6 +17,7 @@ pub fn has(w: u64, k: u8) -> bool
 }
 
 // The set with k, or without it; a place beyond the word changes nothing.
+// Promise: the word that has k as `on` says and every other place as before; a place beyond 64 changes nothing.
 pub fn put(w: u64, k: u8, on: bool) -> u64
     ensures { λ r. ⌜ r ≡ wordBy (λ t. if eqb t k then on else inWord w t) ⌝ }
 {
@@ -31,6 +34,7 @@ pub fn put(w: u64, k: u8, on: bool) -> u64
 }
 
 // What is in the first set and not in the second.
+// Promise: what is in a and not in b.
 pub fn without(a: u64, b: u64) -> u64
     ensures { λ r. ⌜ r ≡ wordBy (λ t. inWord a t && not (inWord b t)) ⌝ }
 {
@@ -38,6 +42,7 @@ pub fn without(a: u64, b: u64) -> u64
 }
 
 // What is in either set.
+// Promise: what is in either.
 pub fn join(a: u64, b: u64) -> u64
     ensures { λ r. ⌜ r ≡ wordBy (λ t. inWord a t || inWord b t) ⌝ }
 {
@@ -45,6 +50,7 @@ pub fn join(a: u64, b: u64) -> u64
 }
 
 // As many links as the room holds.
+// Promise: as many links as the room holds.
 pub fn at_most_64(x: u8) -> u8
     ensures { λ r. ⌜ r ≡ min x 64 ⌝ }
 {
