@@ -32,10 +32,7 @@ use Rattle.station.proofs.Answers.{letter-link}
 use Rattle.station.proofs.Rules.{Names}
 use Rattle.station_plan.specs.declared.Plan.{Plan}
 use Rattle.station_plan.specs.Planned.{Acts, Planned, Like}
-use Rattle.plan_rules.specs.Rules.{eventPlan}
 use Rattle.plan_rules.specs.Comes.{Meant, EventPlans, roomOf, onLink}
-use Rattle.plan_rules.proofs.Laws.{event-plans}
-use Rattle.station.proofs.Laid.{Fit}
 use Rattle.world.specs.World.{World, Event, noLetter, holdingAt, letterAt, existsAs, exists, concernedBy, concerned, rule, comes}
 use Rattle.world.proofs.There.{letter-there, station-there}
 use Rattle.world.proofs.Steps.{passes, absent-six}
@@ -88,8 +85,8 @@ pub record Seen (s : State) (kind a b place me : ℕ) (named : Bool) (k about ow
   pub link : k ≡ linkBy (kindOf kind) b (letterIn s place) % 64
   pub subject : about ≡ subjectOf (letterIn s place .body) % 64
   pub mine : own ≡ wordBy (ownAt (s .net) me)
-  pub plan : p ≡ eventPlan named (kindOf kind) own me k (letterIn s place) (getD (stationIn s me .counters) k 0) (getD (stationIn s me .counters) about 0)
-      (stationIn s me .condition) (stationIn s me .marks)
+  pub plans : EventPlans named (kindOf kind) own me k (letterIn s place) (getD (stationIn s me .counters) k 0) (getD (stationIn s me .counters) about 0)
+      (stationIn s me .condition) (stationIn s me .marks) p
 
 module _ {s : State} {kind a b place me : ℕ} {named : Bool} {k about own : ℕ} {p : Plan} (f : Seen s kind a b place me named k about own p) where
   abbrev pub w : World
@@ -202,19 +199,9 @@ module _ {s : State} {kind a b place me : ℕ} {named : Bool} {k about own : ℕ
         ∙ ap₂ (λ (r : Rule) (h : Holding). comesTo (exists w E) r h) rule-is held-is
 
   -- ---- the plan is the world's
-  plans : me < 32 → EventPlans named K own me k x (getD (st .counters) k 0) (getD (st .counters) about 0) (st .condition) (st .marks) p
-  plans i =
-      subst⁻¹ (EventPlans named K own me k x (getD (st .counters) k 0) (getD (st .counters) about 0) (st .condition) (st .marks)) (f .plan)
-      (event-plans own me k x (getD (st .counters) k 0) (getD (st .counters) about 0) (st .condition) (st .marks) fit named K)
-    where
-      fit : Fit (st .marks)
-      fit =
-          let room = f .sized .each me i in
-          record { token = room .token; turn = room .turn; testing = room .testing; asked = room .asked; quiet = room .quiet }
-
   planned : (i : me < 32) → Planned (s .net) me st (roomOf K st) (comesTo named (ruleOf (networkOf (s .net)) me K k x H) H) p
   planned i =
-      plans i (s .net) st (record { condition = refl; words = refl; size = f .sized .each me i .counters }) (f .mine) refl
+      f .plans (s .net) st (record { condition = refl; words = refl; size = f .sized .each me i .counters }) (f .mine) refl
       (λ t. meant (subst T named-is t))
 
   abbrev six : Comes → ℕ

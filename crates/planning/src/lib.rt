@@ -6,6 +6,7 @@ ghost use Rattle.station.specs.Holding.{isDown, isWaiting, setQuiet};
 ghost use Rattle.station.specs.Acts.{intervalMarks, intervalTests, testEnded};
 ghost use Rattle.plan_rules.specs.Rules.{testsOn, recoveredWords, changed, failed, mayEnd};
 ghost use Rattle.plan_rules.specs.Rules.{startPlan, stopPlan, recoveryPlan, intervalPlan, timeoutPlan, quietPlan, eventPlan};
+ghost use Rattle.plan_rules.specs.Comes.{EventPlans};
 use marks::Marks;
 use marks::Words;
 use net::Letter;
@@ -270,7 +271,8 @@ fn plan_quiet_end(k: u8, condition: Condition, w: Words) -> Plan
 
 // What the event comes to at the station me. there: whether what it names is there. own: the station's links. k: the link that the
 // event is about, with its counter c. told: the counter of the link that the letter tells of.
-// Promise: equals `Rules.eventPlan`: any event: 6 where what it names is not there, 7, 8, or what it comes to.
+// Promise: equals `Rules.eventPlan` of the words given: 6 where what the event names is not there, 7, 8, or what is done; and at every station
+// that has these words this is what the event comes to there, by document 01 (`Comes.EventPlans`: `comesTo` of `ruleOf`).
 pub fn plan_event(
     there: bool,
     kind: Kind,
@@ -283,7 +285,7 @@ pub fn plan_event(
     condition: Condition,
     w: Words,
 ) -> Plan
-    ensures { λ r. ⌜ r ≡ eventPlan there kind own me k letter c told condition w ⌝ }
+    ensures { λ r. ⌜ (r ≡ eventPlan there kind own me k letter c told condition w) × EventPlans there kind own me k letter c told condition w r ⌝ }
 {
     if !there {
         return station_plan::staying(6, 0, 0, condition, w);

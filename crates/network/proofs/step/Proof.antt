@@ -15,7 +15,7 @@ use Rattle.net.specs.declared.Letter.{Letter}
 use Rattle.net.specs.Values.{networkOf}
 use Rattle.station.specs.declared.Kind.{Kind}
 use Rattle.station.specs.Events.{takesLetter}
-use Rattle.plan_rules.specs.Rules.{eventPlan}
+use Rattle.plan_rules.specs.Comes.{EventPlans}
 use Rattle.world.specs.World.{noLetter, existsAs, concernedBy}
 use Rattle.network.specs.Concerned.{inRoom, linkBy}
 use Rattle.state.specs.declared.State.{State}
@@ -75,7 +75,7 @@ facts c =
         link = c .before .before .before .before .before .before .before .before .before .before .before .before .before .link-of .ensures ∙ ap (λ (e : Kind). linkBy e (a .b) x % 64) k;
         subject = c .before .before .before .before .before .before .before .before .before .before .before .before .subject-of .ensures;
         mine = c .before .before .before .before .before .before .before .before .before .before .before .own-links .ensures;
-        plan = c .before .before .before .before .before .before .before .plan-event .ensures ∙ ap (λ (e : Kind). eventPlan (c .before .before .before .before .before .before .before .before .before .before .before .before .before .before .there .result) e (c .before .before .before .before .before .before .before .before .before .before .before .own-links .result) (c .before .before .before .before .before .before .before .before .before .before .before .before .before .before .before .concerned .result) (c .before .before .before .before .before .before .before .before .before .before .before .before .before .link-of .result) x (getD (st .counters) (c .before .before .before .before .before .before .before .before .before .before .before .before .before .link-of .result) 0) (getD (st .counters) (c .before .before .before .before .before .before .before .before .before .before .before .before .subject-of .result) 0) (st .condition) (st .marks)) k;
+        plans = subst (λ (e : Kind). EventPlans (c .before .before .before .before .before .before .before .before .before .before .before .before .before .before .there .result) e (c .before .before .before .before .before .before .before .before .before .before .before .own-links .result) (c .before .before .before .before .before .before .before .before .before .before .before .before .before .before .before .concerned .result) (c .before .before .before .before .before .before .before .before .before .before .before .before .before .link-of .result) x (getD (st .counters) (c .before .before .before .before .before .before .before .before .before .before .before .before .before .link-of .result) 0) (getD (st .counters) (c .before .before .before .before .before .before .before .before .before .before .before .before .subject-of .result) 0) (st .condition) (st .marks) (c .before .before .before .before .before .before .before .plan-event .result)) k (c .before .before .before .before .before .before .before .plan-event .ensures .1);
       };
       within = who-within (c .before .before .before .before .before .before .before .before .before .before .before .before .before .before .before);
       tells = c .before .before .before .before .before .before .told-table .ensures;

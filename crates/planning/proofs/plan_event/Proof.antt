@@ -4,9 +4,13 @@ use borrow.Author.Tests.{not-true, not-false}
 use Rattle.station.specs.declared.Kind.the-variants.{NoSuch, Start, Stop, Recovery, IntervalEnd, TimeoutEnd, QuietEnd, Delivery, Loss}
 use Rattle.station_plan.specs.Plans.{stays}
 use Rattle.planning.proofs.ByKind.{none-there, by-kind}
+use Rattle.station.proofs.Laid.{Fit}
 use borrow.Author.Needs.{needs}
 use Rattle.planning.proofs.plan_event.Statement.{statement}
 use Rattle.planning.proofs.plan_event.Tie as tie
+
+fit : (c : tie.Start) → Fit (c .args .w)
+fit c = record { token = search needs; turn = search needs; testing = search needs; asked = search needs; quiet = search needs }
 
 staying-requires : tie.Need-staying-requires
 staying-requires c κs = search needs
@@ -14,7 +18,7 @@ staying-requires c κs = search needs
 returns : tie.Need-returns
 returns c =
     let a = c .before .before .args in
-    none-there (a .there) (a .kind) (a .own) (a .me) (a .k) (a .letter) (a .c) (a .told) (a .condition) (a .w) _ (not-true _ (c .before .if1 .taken)) (c .staying .ensures)
+    none-there (a .there) (a .kind) (a .own) (a .me) (a .k) (a .letter) (a .c) (a .told) (a .condition) (a .w) (fit (c .before .before)) _ (not-true _ (c .before .if1 .taken)) (c .staying .ensures)
 
 enum-told : tie.Need-enum-told
 enum-told c = search needs
@@ -76,47 +80,47 @@ staying-requires-2 c κs = search needs
 returns-2 : tie.Need-returns-2
 returns-2 c =
     let a = c .before .before .before .before .args in
-    by-kind (a .there) (a .kind) (a .own) (a .me) (a .k) (a .letter) (a .c) (a .told) (a .condition) (a .w) _ NoSuch (not-false _ (c .before .before .before .if1 .left)) (c .before .enum-told .given .1) (c .turning .ensures)
+    by-kind (a .there) (a .kind) (a .own) (a .me) (a .k) (a .letter) (a .c) (a .told) (a .condition) (a .w) (fit (c .before .before .before .before)) _ NoSuch (not-false _ (c .before .before .before .if1 .left)) (c .before .enum-told .given .1) (c .turning .ensures)
 
 returns-3 : tie.Need-returns-3
 returns-3 c =
     let a = c .before .before .before .before .args in
-    by-kind (a .there) (a .kind) (a .own) (a .me) (a .k) (a .letter) (a .c) (a .told) (a .condition) (a .w) _ Start (not-false _ (c .before .before .before .if1 .left)) (c .before .enum-told2 .given .1) (c .plan-start .ensures)
+    by-kind (a .there) (a .kind) (a .own) (a .me) (a .k) (a .letter) (a .c) (a .told) (a .condition) (a .w) (fit (c .before .before .before .before)) _ Start (not-false _ (c .before .before .before .if1 .left)) (c .before .enum-told2 .given .1) (c .plan-start .ensures)
 
 returns-4 : tie.Need-returns-4
 returns-4 c =
     let a = c .before .before .before .before .args in
-    by-kind (a .there) (a .kind) (a .own) (a .me) (a .k) (a .letter) (a .c) (a .told) (a .condition) (a .w) _ Stop (not-false _ (c .before .before .before .if1 .left)) (c .before .enum-told3 .given .1) (c .plan-stop .ensures)
+    by-kind (a .there) (a .kind) (a .own) (a .me) (a .k) (a .letter) (a .c) (a .told) (a .condition) (a .w) (fit (c .before .before .before .before)) _ Stop (not-false _ (c .before .before .before .if1 .left)) (c .before .enum-told3 .given .1) (c .plan-stop .ensures)
 
 returns-5 : tie.Need-returns-5
 returns-5 c =
     let a = c .before .before .before .before .args in
-    by-kind (a .there) (a .kind) (a .own) (a .me) (a .k) (a .letter) (a .c) (a .told) (a .condition) (a .w) _ Recovery (not-false _ (c .before .before .before .if1 .left)) (c .before .enum-told4 .given .1) (c .plan-recovery .ensures)
+    by-kind (a .there) (a .kind) (a .own) (a .me) (a .k) (a .letter) (a .c) (a .told) (a .condition) (a .w) (fit (c .before .before .before .before)) _ Recovery (not-false _ (c .before .before .before .if1 .left)) (c .before .enum-told4 .given .1) (c .plan-recovery .ensures)
 
 returns-6 : tie.Need-returns-6
 returns-6 c =
     let a = c .before .before .before .before .args in
-    by-kind (a .there) (a .kind) (a .own) (a .me) (a .k) (a .letter) (a .c) (a .told) (a .condition) (a .w) _ IntervalEnd (not-false _ (c .before .before .before .if1 .left)) (c .before .enum-told5 .given .1) (c .plan-interval .ensures)
+    by-kind (a .there) (a .kind) (a .own) (a .me) (a .k) (a .letter) (a .c) (a .told) (a .condition) (a .w) (fit (c .before .before .before .before)) _ IntervalEnd (not-false _ (c .before .before .before .if1 .left)) (c .before .enum-told5 .given .1) (c .plan-interval .ensures)
 
 returns-7 : tie.Need-returns-7
 returns-7 c =
     let a = c .before .before .before .before .args in
-    by-kind (a .there) (a .kind) (a .own) (a .me) (a .k) (a .letter) (a .c) (a .told) (a .condition) (a .w) _ TimeoutEnd (not-false _ (c .before .before .before .if1 .left)) (c .before .enum-told6 .given .1) (c .plan-timeout .ensures)
+    by-kind (a .there) (a .kind) (a .own) (a .me) (a .k) (a .letter) (a .c) (a .told) (a .condition) (a .w) (fit (c .before .before .before .before)) _ TimeoutEnd (not-false _ (c .before .before .before .if1 .left)) (c .before .enum-told6 .given .1) (c .plan-timeout .ensures)
 
 returns-8 : tie.Need-returns-8
 returns-8 c =
     let a = c .before .before .before .before .args in
-    by-kind (a .there) (a .kind) (a .own) (a .me) (a .k) (a .letter) (a .c) (a .told) (a .condition) (a .w) _ QuietEnd (not-false _ (c .before .before .before .if1 .left)) (c .before .enum-told7 .given .1) (c .plan-quiet-end .ensures)
+    by-kind (a .there) (a .kind) (a .own) (a .me) (a .k) (a .letter) (a .c) (a .told) (a .condition) (a .w) (fit (c .before .before .before .before)) _ QuietEnd (not-false _ (c .before .before .before .if1 .left)) (c .before .enum-told7 .given .1) (c .plan-quiet-end .ensures)
 
 returns-9 : tie.Need-returns-9
 returns-9 c =
     let a = c .before .before .before .before .args in
-    by-kind (a .there) (a .kind) (a .own) (a .me) (a .k) (a .letter) (a .c) (a .told) (a .condition) (a .w) _ Delivery (not-false _ (c .before .before .before .if1 .left)) (c .before .enum-told8 .given .1) (c .plan-letter .ensures)
+    by-kind (a .there) (a .kind) (a .own) (a .me) (a .k) (a .letter) (a .c) (a .told) (a .condition) (a .w) (fit (c .before .before .before .before)) _ Delivery (not-false _ (c .before .before .before .if1 .left)) (c .before .enum-told8 .given .1) (c .plan-letter .ensures)
 
 returns-10 : tie.Need-returns-10
 returns-10 c =
     let a = c .before .before .before .before .before .args in
-    by-kind (a .there) (a .kind) (a .own) (a .me) (a .k) (a .letter) (a .c) (a .told) (a .condition) (a .w) _ Loss (not-false _ (c .before .before .before .before .if1 .left)) (c .before .before .enum-told9 .given .1)
+    by-kind (a .there) (a .kind) (a .own) (a .me) (a .k) (a .letter) (a .c) (a .told) (a .condition) (a .w) (fit (c .before .before .before .before .before)) _ Loss (not-false _ (c .before .before .before .before .if1 .left)) (c .before .before .enum-told9 .given .1)
     (c .staying2 .ensures ∙ ap (λ (n : ℕ). stays 0 n 1 (a .condition) (a .w)) (c .before .settled-by .ensures))
 
 pub plan-event-spec : {M : Type 1} → statement M
