@@ -1,8 +1,7 @@
 // A plan: what an event comes to at the one station that it concerns, in words. It holds no table and no station, and is made from the
 // station's condition, its five words of marks, its own links and the counters concerned. Nothing is stored here; the network's step
 // does that, by crate carrying. Here is what a plan says and the three forms that most plans have; plan_rules has the plan of each event
-// as a definition, and acting (events 1 to 6), receiving (a letter) and planning (any event) make it. Inner doors: the call is the
-// network's step.
+// as a definition, and receiving (a letter) and planning (any event) make it. Inner doors: the call is the network's step.
 ghost use mathlib.Core.Path.{_≡_};
 ghost use Rattle.station_plan.specs.Plans.{stays, turns, tells};
 use marks::Words;
