@@ -23,7 +23,7 @@ use Rattle.stepping.proofs.Bridge.{Good, is-step, countsBy}
 use Rattle.laws.specs.Tallied.{acceptedCounts, countsOf, everCounted, tallyBy}
 use Rattle.laws.proofs.Tallies.{Fits}
 use Rattle.laws.proofs.Calls as C
-use Rattle.counting.specs.Counting.{talliedBy}
+use Rattle.stepping.specs.Counting.{talliedBy}
 
 -- one call of `step_counted` on the state s with the event e, lent the tally x: it handed back the state t and left y in the tally
 pub record Lent (s : State) (x : Tally) (e : Event) (t : State) (y : Tally) : Type 0 where

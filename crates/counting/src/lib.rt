@@ -1,7 +1,7 @@
 // The network's step for a caller that keeps the tally: the tally is lent to the call and added to.
 ghost use mathlib.Core.Path.{_≡_};
 ghost use Rattle.stepping.specs.Step.{steppedOf};
-ghost use Rattle.counting.specs.Counting.{talliedBy};
+ghost use Rattle.stepping.specs.Counting.{talliedBy};
 use state::State;
 use stepping::Stepped;
 use tally::Tally;

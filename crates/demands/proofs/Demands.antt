@@ -46,7 +46,7 @@ use Rattle.state.specs.declared.State.{State}
 use Rattle.state.specs.State.{worldOf, Ends64, Sized}
 use Rattle.stepping.specs.Step.{refusing}
 use Rattle.stepping.proofs.Bridge.{Good}
-use Rattle.counting.specs.Counting.{talliedBy}
+use Rattle.stepping.specs.Counting.{talliedBy}
 use Rattle.reaching.specs.Answers.{noReach}
 use Rattle.reaching.proofs.WordShown.{PathTo, WordShown}
 use Rattle.reports.proofs.Shown.{Shown}

@@ -31,7 +31,7 @@ use Rattle.reaching.proofs.reach.Reads as Reach
 use Rattle.reports.proofs.report.Kinds as ReportKinds
 use Rattle.reports.proofs.report.Reads as Report
 use Rattle.counting.proofs.step_counted as Counted
-use Rattle.counting.specs.Counting.{talliedBy}
+use Rattle.stepping.specs.Counting.{talliedBy}
 use Rattle.stepping.specs.Step.{event, steppedOf}
 use Rattle.demands.specs.Calls.{ReadsSheet, WritesSheet, ReadsLetter, WritesLetter, Begins, Steps, AsksReach, AsksReport}
 

@@ -21,7 +21,7 @@ use Rattle.beginning.specs.declared.Begun.{Begun}
 use Rattle.beginning.specs.Beginning.{unread, begunOf}
 use Rattle.stepping.specs.declared.Stepped.{Stepped}
 use Rattle.stepping.specs.Step.{event, refusing, accepting, numberOf, steppedOf}
-use Rattle.counting.specs.Counting.{talliedBy}
+use Rattle.stepping.specs.Counting.{talliedBy}
 use Rattle.asking.specs.Asking.{numberOf as numberAsked}
 use Rattle.asking.proofs.Refusals as Ask
 use Rattle.reaching.specs.declared.Asked.{Asked}

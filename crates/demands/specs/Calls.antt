@@ -21,7 +21,7 @@ use Rattle.beginning.specs.declared.Begun.{Begun}
 use Rattle.beginning.specs.Beginning.{begunOf}
 use Rattle.stepping.specs.declared.Stepped.{Stepped}
 use Rattle.stepping.specs.Step.{steppedOf}
-use Rattle.counting.specs.Counting.{talliedBy}
+use Rattle.stepping.specs.Counting.{talliedBy}
 use Rattle.reaching.specs.declared.Asked.{Asked}
 use Rattle.reaching.specs.Answers.{askedOf}
 use Rattle.reports.specs.Answers.{answerOf, outputOf}

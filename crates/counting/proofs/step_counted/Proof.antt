@@ -44,8 +44,8 @@ use Rattle.tally.specs.Sums.{tallied}
 use Rattle.state.specs.declared.State.{State}
 use Rattle.stepping.specs.declared.Stepped.{Stepped}
 use Rattle.stepping.specs.Step.{steppedOf}
-use Rattle.counting.specs.Counting.{talliedBy}
-use Rattle.counting.proofs.Counts.{added-by}
+use Rattle.stepping.specs.Counting.{talliedBy}
+use Rattle.stepping.proofs.Counts.{added-by}
 use Rattle.tally.proofs.Tally as T
 use Rattle.tally.proofs.Tally.Laws as T′
 use Rattle.state.proofs.State as S

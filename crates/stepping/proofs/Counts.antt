@@ -9,9 +9,9 @@ use Rattle.tally.specs.declared.Tally.{Tally}
 use Rattle.tally.specs.Sums.{counted, tallied}
 use Rattle.tally.specs.Plain.{noCounts}
 use Rattle.state.specs.declared.State.{State}
 use Rattle.stepping.specs.declared.Stepped.{Stepped}
 use Rattle.stepping.specs.Step.{event, refusing, accepting, numberOf, steppedOf}
-use Rattle.counting.specs.Counting.{talliedBy}
+use Rattle.stepping.specs.Counting.{talliedBy}
 
 -- three counts of 64 bits
 pub record Fits (t : Tally) : Type 0 where
