@@ -1,7 +1,7 @@
 // The state right after a sheet is read: every station down, no letter in flight.
 ghost use mathlib.Core.Path.{_≡_};
 ghost use Rattle.net.specs.Values.{networkOf};
-ghost use Rattle.station.specs.Acts.{stopped};
+ghost use Rattle.station.specs.Done.{stopped};
 ghost use Rattle.station.specs.Values.{laid, blank};
 ghost use Rattle.world.specs.World.{noLetter};
 ghost use Rattle.beginning.specs.Beginning.{begunOf};

@@ -12,7 +12,7 @@ use Rattle.words.specs.Sets.{wordBy}
 use Rattle.words.proofs.WordLaws.{by-same, in-by}
 use Rattle.sending.specs.declared.Sending.{Sending}
 use Rattle.station.specs.Values.{freshTable}
-use Rattle.carrying.specs.Carrying.{toldBy, purgedIn, keptBy, knownIn, narrowed}
+use Rattle.station_plan.specs.Carrying.{toldBy, purgedIn, keptBy, knownIn, narrowed}
 
 -- ---- the table
 module _ (sets : Bool) (at c : ℕ) (table : List ℕ) where

@@ -3,7 +3,7 @@
 // Inner doors: the calls are in docs/CALLS.md.
 ghost use mathlib.Core.Path.{_≡_};
 ghost use Prim.Native.Nat.{min};
-ghost use Rattle.carrying.specs.Carrying.{toldBy, narrowed, keptBy};
+ghost use Rattle.station_plan.specs.Carrying.{toldBy, narrowed, keptBy};
 use counters::Counters;
 use net::Net;
 use sending::Sending;

@@ -79,11 +79,11 @@ module _ (s : State) (e : Event) (r : Stepped) (i : IsStep s e r) (z : r .answer
 
   dropped-by : rule w e .counts .dropped ≡ bit (loses (kindOf (e .kind)) || (delivers (kindOf (e .kind)) && not (heardAt w (letterOf s e) (concerned w e))))
   unfolding rule
-  dropped-by = rule-drops (w .net) (concerned w e) (e .b) (letterOf s e) (holdingAt w (concerned w e)) (kindOf (e .kind))
+  dropped-by = rule-drops (concerned w e) (e .b) (letterOf s e) (holdingAt w (concerned w e)) (kindOf (e .kind))
 
   settled-by : rule w e .counts .settled ≡ (if takesLetter (kindOf (e .kind)) then bit (isNotice (letterOf s e .body)) else 0)
   unfolding rule
-  settled-by = rule-settles (w .net) (concerned w e) (e .b) (letterOf s e) (holdingAt w (concerned w e)) (kindOf (e .kind))
+  settled-by = rule-settles (concerned w e) (e .b) (letterOf s e) (holdingAt w (concerned w e)) (kindOf (e .kind))
 
   raised-by : raised w e
       ≡ sumOf (λ k. higher (w .net) (holdingAt w k) (holdingAt (worldOf (r .state)) k)) (below (w .net .stations))

@@ -88,7 +88,7 @@ settled-one w e q t =
     let takes = T-is (takesLetter k) (and-l (takesLetter k) _ t) in
     let notice = T-is (isNotice (x .body)) (and-r (takesLetter k) _ t) in
     ap (λ (c : Tally). c .settled) (taken w e (after w e) q .counts)
-    ∙ rule-settles (w .net) (concerned w e) (e .b) x (holdingAt w (concerned w e)) k
+    ∙ rule-settles (concerned w e) (e .b) x (holdingAt w (concerned w e)) k
     ∙ ap₂ (λ (a b : Bool). if a then bit b else 0) takes notice
 
 pub settled-is-length : (w : World) (es : List Event) → T (onlyNotices w es) → everSettled w es ≡ length es

@@ -23,8 +23,9 @@ use Rattle.counters.specs.Counters.{newer}
 use Rattle.station.specs.declared.Kind.{Kind}
 use Rattle.station.specs.declared.Kind.the-variants.{NoSuch, Start, Stop, Recovery, IntervalEnd, TimeoutEnd, QuietEnd, Delivery, Loss}
 use Rattle.station.specs.Holding.{Holding, counter, isLive}
-use Rattle.station.specs.Acts.{Done, unchanged, received}
-use Rattle.station.specs.Events.{kindOf, isNotice, ruleOf}
+use Rattle.station.specs.Done.{Done, doneBy}
+use Rattle.station.proofs.Doing.{unchanged, answer, received}
+use Rattle.station.specs.Events.{kindOf, isNotice, ruleAt}
 use Rattle.station.proofs.Answers.{heard}
 use Rattle.station.proofs.Rises.{Took, notice-takes, notice-drops, received-gone}
 use Rattle.station.proofs.Counts.{is-notice, Spreads, notice-spreads}
@@ -215,11 +216,12 @@ module _ (site : Site) where
   abbrev ruled : Kind → World → ℕ → ℕ → World
   ruled k u a b =
       let r = concernedBy k (u .net) a (letterAt u a) in
-      let d = ruleOf (u .net) r k b (letterAt u a) (holdingAt u r) .done in
+      let d = doneBy (u .net) r (holdingAt u r) (ruleAt r k b (letterAt u a) (holdingAt u r) .act) in
       record { net = u .net; holdings = set (u .holdings) r (d .holding); letters = leftBy k a (u .letters) ++ d .sent }
 
   as-kind : (k : Kind) (u : World) (a b : ℕ) → Fits site u → T (existsAs k (u .net) (length (u .letters)) a b)
       → T (takesNotice k (letterAt u a)) → Step u (ruled k u a b)
+  unfolding answer doneBy
   as-kind NoSuch u a b f x t = absurd t
   as-kind Start u a b f x t = absurd t
   as-kind Stop u a b f x t = absurd t

@@ -16,6 +16,17 @@ abbrev pub marksAt : Words → ℕ → Marks
 marksAt w k =
     record { token = inWord (w .token) k; turn = inWord (w .turn) k; testing = inWord (w .testing) k; asked = inWord (w .asked) k; quiet = inWord (w .quiet) k }
 
+-- the five words of marks that are given for each link
+abbrev pub wordsBy : (ℕ → Marks) → Words
+wordsBy g =
+    record {
+      token = wordBy (λ t. g t .token);
+      turn = wordBy (λ t. g t .turn);
+      testing = wordBy (λ t. g t .testing);
+      asked = wordBy (λ t. g t .asked);
+      quiet = wordBy (λ t. g t .quiet);
+    }
+
 -- the words with these marks for link k
 abbrev pub wordsWith : Words → ℕ → Marks → Words
 wordsWith w k m =

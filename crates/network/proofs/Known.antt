@@ -26,13 +26,13 @@ use Rattle.station.specs.declared.Kind.the-variants.{NoSuch, Start, Stop, Recov
 use Rattle.station.specs.declared.Station.{Station}
 use Rattle.station.specs.Holding.{Holding}
 use Rattle.station.specs.Acts.{subjectOf}
-use Rattle.station.specs.Events.{kindOf, takesLetter, Rule, ruleOf, Comes, comesTo}
+use Rattle.station.specs.Events.{kindOf, takesLetter, Rule, ruleAt, dueOf, Comes, comesTo, linkOf}
 use Rattle.station.specs.Values.{holdingOf}
 use Rattle.station.proofs.Answers.{letter-link}
 use Rattle.station.proofs.Rules.{Names}
 use Rattle.station_plan.specs.declared.Plan.{Plan}
 use Rattle.station_plan.specs.Planned.{Acts, Planned, Like}
-use Rattle.plan_rules.specs.Comes.{Meant, EventPlans, roomOf, onLink}
+use Rattle.station_plan.specs.Comes.{Meant, EventPlans, roomOf, onLink}
 use Rattle.world.specs.World.{World, Event, noLetter, holdingAt, letterAt, existsAs, exists, concernedBy, concerned, rule, comes}
 use Rattle.world.proofs.There.{letter-there, station-there}
 use Rattle.world.proofs.Steps.{passes, absent-six}
@@ -40,13 +40,13 @@ use Rattle.world.proofs.Keeps.{Formed, Posted, meant-posted, concerned-real, na
 use Rattle.state.specs.declared.State.{State}
 use Rattle.state.specs.State.{stationIn, letterIn, worldOf, stateHolds, Sized}
 use Rattle.state.proofs.Meaning as M
-use Rattle.network.specs.Concerned.{inRoom, linkBy}
+use Rattle.network.specs.Concerned.{inRoom}
 use Rattle.stepping.specs.Step.{event}
 use Rattle.network.specs.Parts.{placeBy}
 
 -- ---- by the kind of the event
 -- the link that it names is there
-link-few : (net : Network) (s : ℕ) (e : Kind) (b : ℕ) (x : Letter) → Names net s e b x → T (onLink e) → linkBy e b x < length (net .links)
+link-few : (net : Network) (s : ℕ) (e : Kind) (b : ℕ) (x : Letter) → Names net s e b x → T (onLink e) → linkOf e b x < length (net .links)
 link-few net s NoSuch b x n t = absurd t
 link-few net s Start b x n t = absurd t
 link-few net s Stop b x n t = absurd t
@@ -58,16 +58,16 @@ link-few net s Delivery b x n t = letter-link net x (n .0)
 link-few net s Loss b x n t = absurd t
 
 -- and only that link matters to its rule
-rule-link : (net : Network) (s : ℕ) (e : Kind) (k b : ℕ) (x : Letter) (h : Holding) → (T (onLink e) → k ≡ linkBy e b x) → ruleOf net s e k x h ≡ ruleOf net s e b x h
-rule-link net s NoSuch k b x h f = refl
-rule-link net s Start k b x h f = refl
-rule-link net s Stop k b x h f = refl
-rule-link net s Recovery k b x h f = refl
-rule-link net s IntervalEnd k b x h f = ap (λ (i : ℕ). ruleOf net s IntervalEnd i x h) (f tt)
-rule-link net s TimeoutEnd k b x h f = ap (λ (i : ℕ). ruleOf net s TimeoutEnd i x h) (f tt)
-rule-link net s QuietEnd k b x h f = ap (λ (i : ℕ). ruleOf net s QuietEnd i x h) (f tt)
-rule-link net s Delivery k b x h f = refl
-rule-link net s Loss k b x h f = refl
+rule-link : (s : ℕ) (e : Kind) (k b : ℕ) (x : Letter) (h : Holding) → (T (onLink e) → k ≡ linkOf e b x) → ruleAt s e k x h ≡ ruleAt s e b x h
+rule-link s NoSuch k b x h f = refl
+rule-link s Start k b x h f = refl
+rule-link s Stop k b x h f = refl
+rule-link s Recovery k b x h f = refl
+rule-link s IntervalEnd k b x h f = ap (λ (i : ℕ). ruleAt s IntervalEnd i x h) (f tt)
+rule-link s TimeoutEnd k b x h f = ap (λ (i : ℕ). ruleAt s TimeoutEnd i x h) (f tt)
+rule-link s QuietEnd k b x h f = ap (λ (i : ℕ). ruleAt s QuietEnd i x h) (f tt)
+rule-link s Delivery k b x h f = refl
+rule-link s Loss k b x h f = refl
 
 -- a letter that may travel tells of a link that is there
 subject-few : (net : Network) (b : Body) → T (bodyHolds net b) → 0 < length (net .links) → subjectOf b < length (net .links)
@@ -82,7 +82,7 @@ pub record Seen (s : State) (kind a b place me : ℕ) (named : Bool) (k about ow
   pub at : place ≡ placeBy a
   pub who : me ≡ inRoom (concernedBy (kindOf kind) (networkOf (s .net)) a (letterIn s place))
   pub names : named ≡ existsAs (kindOf kind) (networkOf (s .net)) (s .flying) a b
-  pub link : k ≡ linkBy (kindOf kind) b (letterIn s place) % 64
+  pub link : k ≡ linkOf (kindOf kind) b (letterIn s place) % 64
   pub subject : about ≡ subjectOf (letterIn s place .body) % 64
   pub mine : own ≡ wordBy (ownAt (s .net) me)
   pub plans : EventPlans named (kindOf kind) own me k (letterIn s place) (getD (stationIn s me .counters) k 0) (getD (stationIn s me .counters) about 0)
@@ -161,13 +161,13 @@ module _ {s : State} {kind a b place me : ℕ} {named : Bool} {k about own : ℕ
     mod-few : (n : ℕ) → n < length (w .net .links) → n % 64 ≡ n
     mod-few n h = mod-eq-of-lt (omega (arith, h, links-are))
 
-    link-there : T (onLink K) → linkBy K b x < length (w .net .links)
+    link-there : T (onLink K) → linkOf K b x < length (w .net .links)
     link-there t =
-        subst⁻¹ (λ (l : Letter). linkBy K b l < length (w .net .links)) letter-is
+        subst⁻¹ (λ (l : Letter). linkOf K b l < length (w .net .links)) letter-is
         (link-few (w .net) (concerned w E) K b (letterAt w a) (names w ok E q) t)
 
-    link-is : T (onLink K) → k ≡ linkBy K b x
-    link-is t = f .link ∙ mod-few (linkBy K b x) (link-there t)
+    link-is : T (onLink K) → k ≡ linkOf K b x
+    link-is t = f .link ∙ mod-few (linkOf K b x) (link-there t)
 
     posted : T (takesLetter K) → Posted w x
     posted t = subst⁻¹ (Posted w) letter-is (meant-posted w ok E q t)
@@ -185,21 +185,22 @@ module _ {s : State} {kind a b place me : ℕ} {named : Bool} {k about own : ℕ
         subject-there t = let o = posted t .link in subject-few (w .net) (x .body) (posted t .body) (omega arith)
 
     -- ---- what it comes to
-    rule-is : ruleOf (networkOf (s .net)) me K k x H ≡ rule w E
+    rule-is : ruleAt me K k x H ≡ rule w E
     unfolding rule
     rule-is =
-        rule-link (networkOf (s .net)) me K k b x H link-is
-        ∙ ap₂ (λ (n : Network) (i : ℕ). ruleOf n i K b x H) (sym net-is) me-is
-        ∙ ap₂ (λ (l : Letter) (h : Holding). ruleOf (w .net) (concerned w E) K b l h) letter-is held-is
+        rule-link me K k b x H link-is
+        ∙ ap (λ (i : ℕ). ruleAt i K b x H) me-is
+        ∙ ap₂ (λ (l : Letter) (h : Holding). ruleAt (concerned w E) K b l h) letter-is held-is
 
-    comes-is : comesTo named (ruleOf (networkOf (s .net)) me K k x H) H ≡ comes w E
+    comes-is : comesTo (networkOf (s .net)) me named (ruleAt me K k x H) H ≡ comes w E
     unfolding comes
     comes-is =
-        ap (λ (c : Bool). comesTo c (ruleOf (networkOf (s .net)) me K k x H) H) named-is
-        ∙ ap₂ (λ (r : Rule) (h : Holding). comesTo (exists w E) r h) rule-is held-is
+        ap (λ (c : Bool). comesTo (networkOf (s .net)) me c (ruleAt me K k x H) H) named-is
+        ∙ ap₂ (λ (n : Network) (i : ℕ). comesTo n i (exists w E) (ruleAt me K k x H) H) (sym net-is) me-is
+        ∙ ap₂ (λ (r : Rule) (h : Holding). comesTo (w .net) (concerned w E) (exists w E) r h) rule-is held-is
 
   -- ---- the plan is the world's
-  planned : (i : me < 32) → Planned (s .net) me st (roomOf K st) (comesTo named (ruleOf (networkOf (s .net)) me K k x H) H) p
+  planned : (i : me < 32) → Planned (s .net) me st (roomOf K st) (comesTo (networkOf (s .net)) me named (ruleAt me K k x H) H) p
   planned i =
       f .plans (s .net) st (record { condition = refl; words = refl; size = f .sized .each me i .counters }) (f .mine) refl
       (λ t. meant (subst T named-is t))
@@ -208,13 +209,13 @@ module _ {s : State} {kind a b place me : ℕ} {named : Bool} {k about own : ℕ
   six c = c .number
 
   pub number-is : me < 32 → p .answer ≡ comes w E .number
-  unfolding comesTo
+  unfolding comesTo dueOf
   number-is i = go (exists w E) refl
     where
       go : (c : Bool) → exists w E ≡ c → p .answer ≡ comes w E .number
       go true e = planned i .answer ∙ ap (λ (y : Comes). y .number) (comes-is (is-T _ e))
       go false e =
-          planned i .answer ∙ ap (λ (c : Bool). comesTo c (ruleOf (networkOf (s .net)) me K k x H) H .number) (named-is ∙ e)
+          planned i .answer ∙ ap (λ (c : Bool). comesTo (networkOf (s .net)) me c (ruleAt me K k x H) H .number) (named-is ∙ e)
           ∙ sym (ap (λ (y : Comes). y .number) (absent-six w E (subst⁻¹ (λ (t : Bool). T (not t)) e tt)))
 
   -- where the plan refuses nothing

@@ -26,9 +26,9 @@ use Rattle.station.specs.Holding.{Holding}
 use Rattle.station.specs.Events.{kindOf, takesLetter}
 use Rattle.station.specs.Values.{laid, blank, unmarked, lettersOf}
 use Rattle.station_plan.specs.declared.Plan.{Plan}
-use Rattle.carrying.specs.Carrying.{keptBy, narrowed}
+use Rattle.station_plan.specs.Carrying.{keptBy, narrowed}
 use Rattle.station_plan.specs.Plans.{toldIn, stationBy, lettersBy}
-use Rattle.plan_rules.specs.Comes.{roomOf}
+use Rattle.station_plan.specs.Comes.{roomOf}
 use Rattle.world.specs.World.{World, Event, noLetter, exists, concerned, comes, leftBy, left, after, fits, refusal}
 use Rattle.world.proofs.There.{letter-there}
 use Rattle.world.proofs.Steps.{refused-there, passes-there, fits-is}

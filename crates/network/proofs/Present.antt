@@ -13,9 +13,9 @@ use Rattle.net.specs.Network.{Network, ends, other, isEnd}
 use Rattle.net.specs.Values.{networkOf, linkCount}
 use Rattle.net.proofs.ValueLaws.{links-of}
 use Rattle.station.specs.declared.Kind.{Kind}
-use Rattle.station.specs.Events.{takesLetter}
+use Rattle.station.specs.Events.{takesLetter, linkOf}
 use Rattle.world.specs.World.{isLinkAt, receiverIn, concernedBy}
-use Rattle.network.specs.Concerned.{inRoom, linkBy}
+use Rattle.network.specs.Concerned.{inRoom}
 
 -- ---- a link's ends
 module _ (net : Net) (k : ℕ) where
@@ -62,10 +62,10 @@ module _ (N : Network) (kind : Kind) (a : ℕ) (x : Letter) (t : Bool) (e : t �
   concerned-act r y p = p ∙ ap inRoom (sym (ap (λ (b : Bool). if b then receiverIn N x else a) (sym e ∙ y)))
 
 module _ (kind : Kind) (b : ℕ) (x : Letter) (t : Bool) (e : t ≡ takesLetter kind) where
-  pub link-letter : t ≡ true → x .link % 64 ≡ linkBy kind b x % 64
+  pub link-letter : t ≡ true → x .link % 64 ≡ linkOf kind b x % 64
   link-letter y = sym (ap (λ (c : Bool). (if c then x .link else b) % 64) (sym e ∙ y))
 
-  pub link-act : t ≡ false → b % 64 ≡ linkBy kind b x % 64
+  pub link-act : t ≡ false → b % 64 ≡ linkOf kind b x % 64
   link-act y = sym (ap (λ (c : Bool). (if c then x .link else b) % 64) (sym e ∙ y))
 
 -- ---- one test, then another

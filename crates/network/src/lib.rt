@@ -12,8 +12,8 @@ ghost use Rattle.network.specs.Parts.{placeBy, fewerBy, numberBy};
 ghost use Rattle.net.specs.Network.{ends};
 ghost use Rattle.net.specs.Values.{networkOf};
 ghost use Rattle.station.specs.Acts.{subjectOf};
-ghost use Rattle.station.specs.Events.{takesLetter};
-ghost use Rattle.network.specs.Concerned.{inRoom, linkBy};
+ghost use Rattle.station.specs.Events.{takesLetter, linkOf};
+ghost use Rattle.network.specs.Concerned.{inRoom};
 use net::Body;
 use net::Letter;
 use net::Net;
@@ -101,7 +101,7 @@ fn concerned(net: Net, kind: Kind, a: u32, letter: Letter) -> u8
 
 // The link that an event is about, for a room of 64: that of the letter, or b.
 fn link_of(kind: Kind, b: u32, letter: Letter) -> u8
-    ensures { λ r. ⌜ r ≡ linkBy kind b letter % 64 ⌝ }
+    ensures { λ r. ⌜ r ≡ linkOf kind b letter % 64 ⌝ }
 {
     if takes_letter(kind) {
         return (letter.link % 64) as u8;

@@ -1,12 +1,13 @@
-// What an event comes to at the one station that it concerns, by its kind: the plan that plan_rules defines. Events 1 to 6 are here, a
+// What an event comes to at the one station that it concerns, by its kind: the plan that station_plan defines. Events 1 to 6 are here, a
 // letter's arrival is in receiving. An inner door: the call is the network's step.
 ghost use mathlib.Core.Path.{_≡_};
 ghost use mathlib.Core.Bool.{false};
+ghost use Rattle.marks.specs.Marks.{marksAt, wordsWith};
+ghost use Rattle.station.specs.declared.Kind.the-variants.{Start, Stop, Recovery, IntervalEnd, TimeoutEnd, QuietEnd};
 ghost use Rattle.station.specs.Holding.{isDown, isWaiting, setQuiet};
-ghost use Rattle.station.specs.Acts.{intervalMarks, intervalTests, testEnded};
-ghost use Rattle.plan_rules.specs.Rules.{testsOn, recoveredWords, changed, failed, mayEnd};
-ghost use Rattle.plan_rules.specs.Rules.{startPlan, stopPlan, recoveryPlan, intervalPlan, timeoutPlan, quietPlan, eventPlan};
-ghost use Rattle.plan_rules.specs.Comes.{EventPlans};
+ghost use Rattle.station.specs.Acts.{allOwn, mayEnd, intervalMarks, intervalTests, testEnded, failed, recoveryAct};
+ghost use Rattle.station_plan.specs.Plans.{linksWord, marksBy};
+ghost use Rattle.station_plan.specs.Comes.{ownPlan, eventPlan, EventPlans};
 use marks::Marks;
 use marks::Words;
 use net::Letter;
@@ -79,7 +80,7 @@ fn test_ended(m: Marks) -> Marks
 
 // The marks of all links once a test on link k has ended.
 fn ended_words(w: Words, k: u8) -> Words
-    ensures { λ r. ⌜ r ≡ changed testEnded k w ⌝ }
+    ensures { λ r. ⌜ r ≡ wordsWith w k (testEnded (marksAt w k)) ⌝ }
 {
     let m = marks::marks_at(w, k);
     marks::with_marks(w, k, test_ended(m))
@@ -87,7 +88,7 @@ fn ended_words(w: Words, k: u8) -> Words
 
 // The same, and the link is kept quiet: nothing is sent or heard there until quiet ends.
 fn failed_words(w: Words, k: u8) -> Words
-    ensures { λ r. ⌜ r ≡ changed failed k w ⌝ }
+    ensures { λ r. ⌜ r ≡ wordsWith w k (failed (marksAt w k)) ⌝ }
 {
     let m = test_ended(marks::marks_at(w, k));
     let silenced = Marks {
@@ -102,7 +103,7 @@ fn failed_words(w: Words, k: u8) -> Words
 
 // Quiet ends on link k.
 fn loud_words(w: Words, k: u8) -> Words
-    ensures { λ r. ⌜ r ≡ changed (setQuiet false) k w ⌝ }
+    ensures { λ r. ⌜ r ≡ wordsWith w k (setQuiet false (marksAt w k)) ⌝ }
 {
     let m = marks::marks_at(w, k);
     let loud = Marks {
@@ -117,7 +118,7 @@ fn loud_words(w: Words, k: u8) -> Words
 
 // Event 4's marks for each own link at once: token off; turn off or on where there was no token; testing on where a test begins.
 fn recovered_words(own: u64, w: Words) -> Words
-    ensures { λ r. ⌜ r ≡ recoveredWords own w ⌝ }
+    ensures { λ r. ⌜ r ≡ marksBy own w (recoveryAct .marks) ⌝ }
 {
     let flips = words::without(own, w.token);
     let turn = words::join(words::without(w.turn, flips), words::without(flips, w.turn));
@@ -133,7 +134,7 @@ fn recovered_words(own: u64, w: Words) -> Words
 
 // The own links on which a test begins.
 fn tests_on(own: u64, w: Words) -> u64
-    ensures { λ r. ⌜ r ≡ testsOn own w ⌝ }
+    ensures { λ r. ⌜ r ≡ linksWord own w (allOwn intervalTests) ⌝ }
 {
     let neither = words::without(words::without(own, w.token), w.turn);
     words::without(own, neither)
@@ -162,10 +163,10 @@ fn is_waiting(c: Condition) -> bool
 }
 
 // Whether an interval may end on a link with these marks.
-fn may_end(live: bool, m: Marks) -> bool
-    ensures { λ r. ⌜ r ≡ mayEnd live m ⌝ }
+fn may_end(condition: Condition, m: Marks) -> bool
+    ensures { λ r. ⌜ r ≡ mayEnd condition m ⌝ }
 {
-    if !live {
+    if !station::is_live(condition) {
         return false;
     }
     if m.testing {
@@ -176,10 +177,10 @@ fn may_end(live: bool, m: Marks) -> bool
 
 // 1. Start.
 fn plan_start(own: u64, condition: Condition, w: Words) -> Plan
-    ensures { λ r. ⌜ r ≡ startPlan own condition w ⌝ }
+    ensures { λ r. ⌜ r ≡ ownPlan Start own 0 0 condition w ⌝ }
 {
     if !is_down(condition) {
-        return station_plan::staying(7, 0, 0, condition, w);
+        return plan_forms::staying(7, 0, 0, condition, w);
     }
     let token = Words {
         token: own,
@@ -188,15 +189,15 @@ fn plan_start(own: u64, condition: Condition, w: Words) -> Plan
         asked: 0,
         quiet: 0,
     };
-    station_plan::turning(Condition::Waiting, token, 0, false)
+    plan_forms::turning(Condition::Waiting, token, 0, false)
 }
 
 // 2. Stop.
 fn plan_stop(condition: Condition, w: Words) -> Plan
-    ensures { λ r. ⌜ r ≡ stopPlan condition w ⌝ }
+    ensures { λ r. ⌜ r ≡ ownPlan Stop 0 0 0 condition w ⌝ }
 {
     if is_down(condition) {
-        return station_plan::staying(7, 0, 0, condition, w);
+        return plan_forms::staying(7, 0, 0, condition, w);
     }
     let none = Words {
         token: 0,
@@ -205,44 +206,44 @@ fn plan_stop(condition: Condition, w: Words) -> Plan
         asked: 0,
         quiet: 0,
     };
-    station_plan::turning(Condition::Down, none, 0, true)
+    plan_forms::turning(Condition::Down, none, 0, true)
 }
 
 // 3. The recovery wait ends.
 fn plan_recovery(own: u64, condition: Condition, w: Words) -> Plan
-    ensures { λ r. ⌜ r ≡ recoveryPlan own condition w ⌝ }
+    ensures { λ r. ⌜ r ≡ ownPlan Recovery own 0 0 condition w ⌝ }
 {
     if !is_waiting(condition) {
-        return station_plan::staying(7, 0, 0, condition, w);
+        return plan_forms::staying(7, 0, 0, condition, w);
     }
     let requests = tests_on(own, w);
     let after = recovered_words(own, w);
-    station_plan::turning(Condition::Live, after, requests, false)
+    plan_forms::turning(Condition::Live, after, requests, false)
 }
 
 // 4. An interval ends on link k.
 fn plan_interval(k: u8, condition: Condition, w: Words) -> Plan
-    ensures { λ r. ⌜ r ≡ intervalPlan k condition w ⌝ }
+    ensures { λ r. ⌜ r ≡ ownPlan IntervalEnd 0 k 0 condition w ⌝ }
 {
     let m = marks::marks_at(w, k);
-    if !may_end(station::is_live(condition), m) {
-        return station_plan::staying(7, 0, 0, condition, w);
+    if !may_end(condition, m) {
+        return plan_forms::staying(7, 0, 0, condition, w);
     }
     let requests = words::put(0, k, tests_now(m));
     let after = marks::with_marks(w, k, interval_marks(m));
-    station_plan::turning(condition, after, requests, false)
+    plan_forms::turning(condition, after, requests, false)
 }
 
 // 5. A timeout ends on link k, whose counter is c. A link that worked is raised, told of and kept quiet; what is out of reach then is
 // purged.
 fn plan_timeout(own: u64, k: u8, c: u16, condition: Condition, w: Words) -> Plan
-    ensures { λ r. ⌜ r ≡ timeoutPlan own k c condition w ⌝ }
+    ensures { λ r. ⌜ r ≡ ownPlan TimeoutEnd own k c condition w ⌝ }
 {
     if !words::has(w.testing, k) {
-        return station_plan::staying(7, 0, 0, condition, w);
+        return plan_forms::staying(7, 0, 0, condition, w);
     }
     if !counters::is_even(c) {
-        return station_plan::turning(condition, ended_words(w, k), 0, false);
+        return plan_forms::turning(condition, ended_words(w, k), 0, false);
     }
     let after = failed_words(w, k);
     let subjects = words::put(0, k, true);
@@ -254,24 +255,24 @@ fn plan_timeout(own: u64, k: u8, c: u16, condition: Condition, w: Words) -> Plan
     };
     // a link that failed may have cut others off: purge
     let up = counters::timed_out(c);
-    station_plan::telling(condition, after, k, up, true, false, subjects, ways, raised)
+    plan_forms::telling(condition, after, k, up, true, false, subjects, ways, raised)
 }
 
 // 6. Quiet ends on link k.
 fn plan_quiet_end(k: u8, condition: Condition, w: Words) -> Plan
-    ensures { λ r. ⌜ r ≡ quietPlan k condition w ⌝ }
+    ensures { λ r. ⌜ r ≡ ownPlan QuietEnd 0 k 0 condition w ⌝ }
 {
     if !words::has(w.quiet, k) {
-        return station_plan::staying(7, 0, 0, condition, w);
+        return plan_forms::staying(7, 0, 0, condition, w);
     }
-    station_plan::turning(condition, loud_words(w, k), 0, false)
+    plan_forms::turning(condition, loud_words(w, k), 0, false)
 }
 
 // ---- any event
 
 // What the event comes to at the station me. there: whether what it names is there. own: the station's links. k: the link that the
 // event is about, with its counter c. told: the counter of the link that the letter tells of.
-// Promise: equals `Rules.eventPlan` of the words given: 6 where what the event names is not there, 7, 8, or what is done; and at every station
+// Promise: equals `Comes.eventPlan` of the words given: 6 where what the event names is not there, 7, 8, or what is done; and at every station
 // that has these words this is what the event comes to there, by document 01 (`Comes.EventPlans`: `comesTo` of `ruleOf`).
 pub fn plan_event(
     there: bool,
@@ -288,10 +289,10 @@ pub fn plan_event(
     ensures { λ r. ⌜ (r ≡ eventPlan there kind own me k letter c told condition w) × EventPlans there kind own me k letter c told condition w r ⌝ }
 {
     if !there {
-        return station_plan::staying(6, 0, 0, condition, w);
+        return plan_forms::staying(6, 0, 0, condition, w);
     }
     match kind {
-        Kind::NoSuch => station_plan::turning(condition, w, 0, false),
+        Kind::NoSuch => plan_forms::turning(condition, w, 0, false),
         Kind::Start => plan_start(own, condition, w),
         Kind::Stop => plan_stop(condition, w),
         Kind::Recovery => plan_recovery(own, condition, w),
@@ -299,6 +300,6 @@ pub fn plan_event(
         Kind::TimeoutEnd => plan_timeout(own, k, c, condition, w),
         Kind::QuietEnd => plan_quiet_end(k, condition, w),
         Kind::Delivery => receiving::plan_letter(own, me, k, letter, c, told, condition, w),
-        Kind::Loss => station_plan::staying(0, receiving::settled_by(letter), 1, condition, w),
+        Kind::Loss => plan_forms::staying(0, receiving::settled_by(letter), 1, condition, w),
     }
 }

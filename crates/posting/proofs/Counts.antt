@@ -16,7 +16,7 @@ use Rattle.lists.proofs.Heads.{kept-ones}
 use Rattle.net.specs.declared.Body.the-variants.{Request, Reply, Notice}
 use Rattle.net.specs.declared.Letter.{Letter}
 use Rattle.sending.specs.declared.Sending.{Sending}
-use Rattle.station.specs.Acts.{letter, onEach, tell}
+use Rattle.station.specs.Done.{letter, onEach, tell}
 use Rattle.station.specs.Values.{membersOf, lettersOf}
 
 -- ---- how many links a word has

@@ -3,7 +3,7 @@ use Prim.Native.Nat.{ℕ, _^_, _<_}
 use mathlib.Core.Bool.{Bool, true, false}
 use mathlib.Core.Path.{_≡_, refl, sym, ap, ap₂, _∙_}
 use Rattle.net.specs.declared.Body.the-variants.{Request, Reply, Notice}
-use Rattle.station.specs.Acts.{letter}
+use Rattle.station.specs.Done.{letter}
 use Rattle.posting.specs.declared.Post.{Post}
 use Rattle.posting.specs.Links.{someIn, lowestIn, lessLowest}
 use Rattle.posting.specs.Post.{tells, firstBy, firstLeft, changedPost, restBy, restLeft}

@@ -9,7 +9,7 @@ use Rattle.lists.specs.Lists.{if_then_else_}
 use Rattle.net.specs.declared.Body.the-variants.{Request, Reply, Notice}
 use Rattle.net.specs.declared.Letter.{Letter}
 use Rattle.sending.specs.declared.Sending.{Sending}
-use Rattle.station.specs.Acts.{letter, onEach, tell}
+use Rattle.station.specs.Done.{letter, onEach, tell}
 use Rattle.station.specs.Values.{membersOf}
 use Rattle.posting.specs.declared.Post.{Post}
 use Rattle.posting.specs.Links.{someIn, lowestIn, lessLowest}

@@ -3,12 +3,14 @@ ghost use mathlib.Core.Path.{_≡_};
 ghost use mathlib.Core.Bool.{true};
 ghost use Rattle.lists.specs.Lists.{if_then_else_};
 ghost use Rattle.lists.specs.Words.{bit};
+ghost use Rattle.marks.specs.Marks.{marksAt, wordsWith};
+ghost use Rattle.station.specs.declared.Effect.the-variants.{Answers, Heals, Levels, Takes};
+ghost use Rattle.station.specs.declared.Kind.the-variants.{Delivery};
 ghost use Rattle.station.specs.Holding.{setAsked};
-ghost use Rattle.station.specs.Acts.{requestedMarks, repliedMarks};
-ghost use Rattle.station.specs.declared.Effect.the-variants.{Takes};
-ghost use Rattle.station.specs.Events.{counting, isNotice};
-ghost use Rattle.station_plan.specs.Plans.{dropping};
-ghost use Rattle.plan_rules.specs.Rules.{changed, answerPlan, replyPlan, effectPlan, letterPlan};
+ghost use Rattle.station.specs.Acts.{requestedMarks, repliedMarks, effectAct};
+ghost use Rattle.station.specs.Events.{counting, isNotice, raisedEffect};
+ghost use Rattle.station_plan.specs.Plans.{donePlan, dropPlan};
+ghost use Rattle.station_plan.specs.Comes.{eventPlan};
 use marks::Marks;
 use marks::Words;
 use net::Body;
@@ -58,7 +60,7 @@ fn counted(settled: u64, raised: u64) -> Tally
 
 // A request that is put off.
 fn asked_words(w: Words, k: u8) -> Words
-    ensures { λ r. ⌜ r ≡ changed (setAsked true) k w ⌝ }
+    ensures { λ r. ⌜ r ≡ wordsWith w k (setAsked true (marksAt w k)) ⌝ }
 {
     let m = marks::marks_at(w, k);
     let asked = Marks {
@@ -73,7 +75,7 @@ fn asked_words(w: Words, k: u8) -> Words
 
 // A request that is answered: testing and asked off, token on, turn off.
 fn requested_words(w: Words, k: u8) -> Words
-    ensures { λ r. ⌜ r ≡ changed requestedMarks k w ⌝ }
+    ensures { λ r. ⌜ r ≡ wordsWith w k (requestedMarks (marksAt w k)) ⌝ }
 {
     let m = marks::marks_at(w, k);
     let rested = Marks {
@@ -88,7 +90,7 @@ fn requested_words(w: Words, k: u8) -> Words
 
 // A reply to a test on link k: testing and asked off.
 fn replied_words(w: Words, k: u8) -> Words
-    ensures { λ r. ⌜ r ≡ changed repliedMarks k w ⌝ }
+    ensures { λ r. ⌜ r ≡ wordsWith w k (repliedMarks (marksAt w k)) ⌝ }
 {
     let m = marks::marks_at(w, k);
     let ended = Marks {
@@ -103,7 +105,7 @@ fn replied_words(w: Words, k: u8) -> Words
 
 // A request is answered: over a link that was down all that is known is told, but of the link itself; last comes the reply.
 fn plan_answer(k: u8, c: u16, settled: u64, condition: Condition, w: Words) -> Plan
-    ensures { λ r. ⌜ r ≡ answerPlan k c settled condition w ⌝ }
+    ensures { λ r. ⌜ r ≡ donePlan 0 w (effectAct condition k c Answers) (counting settled 0 0) ⌝ }
 {
     let after = requested_words(w, k);
     let down = !counters::is_even(c);
@@ -144,14 +146,14 @@ fn plan_reply(
     condition: Condition,
     w: Words,
 ) -> Plan
-    ensures { λ r. ⌜ r ≡ replyPlan own k settled raised to heals condition w ⌝ }
+    ensures { λ r. ⌜ r ≡ donePlan own w (effectAct condition k 0 (if heals then Heals to else Levels to)) (counting settled raised 0) ⌝ }
 {
     let after = replied_words(w, k);
     let alone = words::put(0, k, true);
     let subjects = pick(heals, 18446744073709551615, alone);
     let ways = words::without(own, w.quiet);
     let counts = counted(settled, raised);
-    station_plan::telling(
+    plan_forms::telling(
         condition,
         after,
         k,
@@ -168,20 +170,19 @@ fn plan_reply(
 fn plan_take(
     own: u64,
     k: u8,
-    c: u16,
     settled: u64,
     j: u8,
     to: u16,
     condition: Condition,
     w: Words,
 ) -> Plan
-    ensures { λ r. ⌜ r ≡ effectPlan own k c settled condition w (Takes j to) ⌝ }
+    ensures { λ r. ⌜ r ≡ donePlan own w (effectAct condition k 0 (Takes j to)) (counting settled 1 0) ⌝ }
 {
     let subjects = words::put(0, j, true);
     let ways = words::put(words::without(own, w.quiet), k, false); // not back
     let counts = counted(settled, 1);
     // no purge, or one notice could circle a ring for ever
-    station_plan::telling(condition, w, j, to, false, false, subjects, ways, counts)
+    plan_forms::telling(condition, w, j, to, false, false, subjects, ways, counts)
 }
 
 // What a letter that is heard comes to, by what it does.
@@ -194,32 +195,32 @@ fn plan_effect(
     condition: Condition,
     w: Words,
 ) -> Plan
-    ensures { λ r. ⌜ r ≡ effectPlan own k c settled condition w effect ⌝ }
+    ensures { λ r. ⌜ r ≡ donePlan own w (effectAct condition k c effect) (counting settled (raisedEffect c effect) 0) ⌝ }
 {
     match effect {
-        Effect::Defers => station_plan::staying(0, settled, 0, condition, asked_words(w, k)),
+        Effect::Defers => plan_forms::staying(0, settled, 0, condition, asked_words(w, k)),
         Effect::Answers => plan_answer(k, c, settled, condition, w),
         Effect::Heals(to) => plan_reply(own, k, settled, one_if(c < to), to, true, condition, w),
         Effect::Levels(to) => plan_reply(own, k, settled, one_if(c < to), to, false, condition, w),
-        Effect::Equal => station_plan::staying(0, settled, 0, condition, replied_words(w, k)),
-        Effect::Takes(j, to) => plan_take(own, k, c, settled, j, to, condition, w),
+        Effect::Equal => plan_forms::staying(0, settled, 0, condition, replied_words(w, k)),
+        Effect::Takes(j, to) => plan_take(own, k, settled, j, to, condition, w),
     }
 }
 
 // What becomes of a letter that does nothing: refused, dropped, or without effect.
 fn plan_drop(said: Heard, settled: u64, condition: Condition, w: Words) -> Plan
-    ensures { λ r. ⌜ r ≡ dropping said settled condition w ⌝ }
+    ensures { λ r. ⌜ r ≡ dropPlan said settled condition w ⌝ }
 {
     match said {
-        Heard::Gone => station_plan::staying(0, settled, 1, condition, w),
-        Heard::Nothing => station_plan::staying(0, settled, 0, condition, w),
-        Heard::Overflows => station_plan::staying(8, 0, 0, condition, w),
-        Heard::Does(_) => station_plan::staying(0, settled, 0, condition, w),
+        Heard::Gone => plan_forms::staying(0, settled, 1, condition, w),
+        Heard::Nothing => plan_forms::staying(0, settled, 0, condition, w),
+        Heard::Overflows => plan_forms::staying(8, 0, 0, condition, w),
+        Heard::Does(_) => plan_forms::staying(0, settled, 0, condition, w),
     }
 }
 
 // 7. A letter arrives on link k.
-// Promise: equals `Rules.letterPlan`: a delivery by the receiver's answer, or 8.
+// Promise: equals `Comes.eventPlan` of a delivery whose letter is there: by the receiver's answer, or 8.
 pub fn plan_letter(
     own: u64,
     me: u8,
@@ -230,7 +231,7 @@ pub fn plan_letter(
     condition: Condition,
     w: Words,
 ) -> Plan
-    ensures { λ r. ⌜ r ≡ letterPlan own me k letter c told condition w ⌝ }
+    ensures { λ r. ⌜ r ≡ eventPlan true Delivery own me k letter c told condition w ⌝ }
 {
     let body = letter.body;
     let said = hearing::hearing(me, k, letter.sender, body, c, told, condition, w);

@@ -8,7 +8,7 @@ use lib.ListN.{length}
 use borrow.Author.Tests.{le-leb}
 use Rattle.tally.specs.declared.Tally.{Tally}
 use Rattle.tally.specs.Sums.{counted}
-use Rattle.station.specs.Events.{comesTo}
+use Rattle.station.specs.Events.{dueOf, comesTo}
 use Rattle.world.specs.World.{World, Outcome, refused, step, exists, comes, refusal}
 use Rattle.world.specs.History.{run, orElse, everSettled}
 use Rattle.world.proofs.Steps.{step-refuses, step-number}
@@ -19,7 +19,7 @@ use Rattle.running.specs.Runs.{enough}
 
 -- ---- a malformed line names no event
 no-kind : (w : World) → refusal w (eventBy (6 ∷ [])) ≡ 6
-unfolding refusal exists comes comesTo
+unfolding refusal exists comes comesTo dueOf
 no-kind w = refl
 
 none-taken : (w : World) → step w (eventBy (6 ∷ [])) ≡ refused 6

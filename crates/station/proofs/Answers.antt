@@ -20,7 +20,8 @@ use Rattle.station.specs.declared.Effect.the-variants.{Defers, Answers, 
 use Rattle.station.specs.declared.Heard.{Heard}
 use Rattle.station.specs.declared.Heard.the-variants.{Gone, Nothing, Overflows, Does}
 use Rattle.station.specs.Holding.{Holding, counter, mark}
-use Rattle.station.specs.Acts.{hears, repliedBy, bodyAnswer, subjectOf, answer}
+use Rattle.station.specs.Acts.{hears, repliedBy, bodyAnswer, subjectOf}
+use Rattle.station.proofs.Doing.{answer}
 use Rattle.station.proofs.Slots.{counter-healed, healed-above, healed-works}
 
 -- the letter is heard: the receiver is live and not quiet on its link

@@ -18,8 +18,9 @@ use Rattle.sheet_rules.proofs.Examples.{line-of-three}
 use Rattle.station.specs.declared.Condition.the-variants.{Live}
 use Rattle.station.specs.declared.Kind.the-variants.{TimeoutEnd}
 use Rattle.station.specs.Holding.{Holding, noMarks, counter, setTesting, holdingHolds}
-use Rattle.station.specs.Acts.{Done, letter, openLinks, known, timeout, answer, effectOn, received}
-use Rattle.station.specs.Events.{ruleOf}
+use Rattle.station.specs.Done.{Done, letter, known, doneBy, ownLinks}
+use Rattle.station.proofs.Doing.{openLinks, timeout, answer, effectOn, received}
+use Rattle.station.specs.Events.{ruleAt}
 use Rattle.station.specs.Numbers.{heardNumbers}
 
 line : Network
@@ -53,14 +54,14 @@ stands net s h = sheetHolds net && holdingHolds net s h
 
 -- a timeout on link 0: 1 if what stands before it is well formed and allows it
 timesOut : Holding → List ℕ
-unfolding line seen stands timeout openLinks purge
+unfolding line seen stands doneBy ownLinks purge
 timesOut h =
-    let r = ruleOf line 1 TimeoutEnd 0 (letter 0 0 Request) h in
-    bit (stands line 1 h && r .allowed) ∷ seen (r .done)
+    let r = ruleAt 1 TimeoutEnd 0 (letter 0 0 Request) h in
+    bit (stands line 1 h && r .allowed) ∷ seen (doneBy line 1 h (r .act))
 
 -- a letter from station 0 on link 0: the same, then the paper's number and whether the letter is dropped, and what it does
 hears : Holding → Body → List ℕ
-unfolding line seen stands letterHolds answer healed healing received effectOn openLinks known purge
+unfolding line seen stands letterHolds answer healed healing doneBy ownLinks known purge
 hears h b = bit (stands line 1 h && letterHolds line (letter 0 0 b)) ∷ heardNumbers (answer 1 (letter 0 0 b) h) ++ seen (received line 1 (letter 0 0 b) h)
 
 pub table : List Case

@@ -23,8 +23,11 @@ use Rattle.counters.specs.Counters.{even, odd, healed}
 use Rattle.station.specs.declared.Effect.the-variants.{Defers, Answers, Heals, Levels, Equal, Takes}
 use Rattle.station.specs.declared.Heard.{Heard}
 use Rattle.station.specs.Holding.{Holding, counter, mark}
-use Rattle.station.specs.Acts.{Done, intervalTests, letter, onEach, tell, less, openLinks, known, started, stopped, recovered}
-use Rattle.station.specs.Acts.{interval, timeout, spoken, replied, effectOn, heardOn, received}
+use Rattle.station.specs.Acts.{intervalTests}
+use Rattle.station.specs.Done.{Done, letter, onEach, tell, less, known, stopped, doneBy, ownLinks}
+use Rattle.station.specs.Acts.{Sends, Act}
+use Rattle.station.specs.Done.{sentOf}
+use Rattle.station.proofs.Doing.{openLinks, started, recovered, interval, timeout, spoken, replied, effectOn, heardOn, received}
 use Rattle.station.proofs.Answers.{request-cases, reply-cases, notice-cases}
 use Rattle.station.proofs.HoldingLaws.{ownLink, own-kept}
 
@@ -73,27 +76,27 @@ refuse a false t = absurd t
 module _ (net : Network) (s : ℕ) where
   -- ---- start, stop, quiet end: no letter
   pub started-sends : (h : Holding) → started net s h .sent ≡ []
-  unfolding started
+  unfolding doneBy
   started-sends h = refl
 
   pub stopped-sends : stopped net s .sent ≡ []
-  unfolding stopped
+  unfolding stopped doneBy
   stopped-sends = refl
 
   pub spoken-sends : (k : ℕ) (h : Holding) → spoken net s k h .sent ≡ []
-  unfolding spoken
+  unfolding doneBy
   spoken-sends k h = refl
 
   -- ---- an interval: at most one
   pub interval-few : (k : ℕ) (h : Holding) → length (interval net s k h .sent) ≤ 1
-  unfolding interval
-  interval-few k h = if-elim (λ (xs : List Letter). length xs ≤ 1) (intervalTests (mark h k)) (λ t. omega arith) (λ t. omega arith)
+  unfolding doneBy
+  interval-few k h = if-elim (λ (y : Sends). length (sentOf net s h (h .table) y) ≤ 1) (intervalTests (mark h k)) (λ t. omega arith) (λ t. omega arith)
 
   -- ---- a recovery: at most one on each own link
   pub recovered-few : (h : Holding) → length (recovered net s h .sent) ≤ length (own net s)
-  unfolding recovered
+  unfolding doneBy ownLinks
   recovered-few h =
-      subst⁻¹ (λ (n : ℕ). n ≤ length (own net s)) (on-each-count s Request (keep (λ k. isEnd net k s && intervalTests (mark h k)) (linkNumbers net)))
+      subst⁻¹ (λ (n : ℕ). n ≤ length (own net s)) (on-each-count s Request (ownLinks net s intervalTests h))
       (keep-fewer (λ k. isEnd net k s && intervalTests (mark h k)) (λ k. isEnd net k s) (λ k t. and-l (isEnd net k s) _ t) (linkNumbers net))
 
   -- ---- own links that aren't quiet
@@ -102,16 +105,16 @@ module _ (net : Network) (s : ℕ) where
   openOwn h k = ownLink net s k && not (mark h k .quiet)
 
   module _ (h : Holding) where
-    pub known-few : length (known net s h) ≤ length (net .links)
+    pub known-few : length (known net (h .table)) ≤ length (net .links)
     unfolding known
     known-few = omega (arith, keep-le (λ k. ltb 1 (counter h k)) (linkNumbers net), length-from 0 (length (net .links)))
 
     pub open-few : length (openLinks net s h) ≤ length (own net s)
-    unfolding openLinks
+    unfolding ownLinks
     open-few = keep-fewer (λ k. isEnd net k s && not (mark h k .quiet)) (λ k. isEnd net k s) (λ k t. and-l (isEnd net k s) _ t) (linkNumbers net)
 
     pub open-open : T (every (openOwn h) (openLinks net s h))
-    unfolding openLinks
+    unfolding ownLinks
     open-open =
         let p : ℕ → Bool = λ k. isEnd net k s && not (mark h k .quiet) in
         every-both (ownLink net s) (λ k. not (mark h k .quiet)) (keep p (linkNumbers net)) (own-kept net s p (λ k t. and-l (isEnd net k s) _ t))
@@ -123,7 +126,7 @@ module _ (net : Network) (s : ℕ) where
 
       -- one fewer than the own links, where k is one
       pub open-less-few : k < length (net .links) → T (isEnd net k s) → length (less k (openLinks net s h)) ≤ length (own net s) - 1
-      unfolding openLinks
+      unfolding ownLinks
       open-less-few l o =
           subst⁻¹ (λ (ks : List ℕ). length ks ≤ length (own net s) - 1) (keep-keep (λ j. isEnd net j s && not (mark h j .quiet)) (λ j. not (eqb j k)) (linkNumbers net))
           (keep-one-fewer but (λ j. isEnd net j s) (λ j t. and-l (isEnd net j s) _ (and-l (isEnd net j s && not (mark h j .quiet)) _ t)) k
@@ -162,21 +165,21 @@ module _ (net : Network) (s : ℕ) where
 
     -- a notice taken on link k is sent on
     pub takes-spreads : (j c : ℕ) → Spreads k j c h (effectOn net s k h (Takes j c) .sent)
-    unfolding effectOn
+    unfolding doneBy
     takes-spreads j c = spread j c
 
     -- a timeout on link k: the raised counter is told, or nothing
     pub timeout-spreads : Spreads k k (counter h k + 1) h (timeout net s k h .sent)
-    unfolding timeout
+    unfolding doneBy
     timeout-spreads =
-        if-elim (λ (d : Done). Spreads k k (counter h k + 1) h (d .sent)) (even (counter h k))
+        if-elim (λ (a : Act). Spreads k k (counter h k + 1) h (doneBy net s h a .sent)) (even (counter h k))
         (λ t. rw (T-is (even (counter h k)) t) (spread k (counter h k + 1))) (λ t. no-letters k (counter h k + 1))
 
   -- a notice come on an own link: taken and sent on, or nothing
   pub notice-spreads : (h : Holding) (x : Letter) → x .link < length (net .links) → T (isEnd net (x .link) s) → (j c : ℕ)
       → x .body ≡ Notice j c
       → Spreads (x .link) j c h (received net s x h .sent)
-  unfolding received
+  unfolding doneBy
   notice-spreads h x l o j c e =
       let none = no-letters h (x .link) l o j c in
       notice-cases s x h (λ (a : Heard). Spreads (x .link) j c h (heardOn net s (x .link) h a .sent)) j c e (λ t. none) (λ t u. none) (λ t u. takes-spreads h (x .link) l o j c)
@@ -184,7 +187,7 @@ module _ (net : Network) (s : ℕ) where
   -- ---- a request that is answered on link k: at most a notice of each other known link, then the reply, all of it on k
   module _ (h : Holding) (k : ℕ) where
     pub defers-sends : effectOn net s k h Defers .sent ≡ []
-    unfolding effectOn
+    unfolding doneBy
     defers-sends = refl
 
     abbrev knows : ℕ → Bool
@@ -194,49 +197,49 @@ module _ (net : Network) (s : ℕ) where
     not-itself = refuse (ltb 1 (counter h k)) (eqb k k) (eqb-refl k)
 
     -- those but k as one test
-    known-less : less k (known net s h) ≡ keep knows (linkNumbers net)
+    known-less : less k (known net (h .table)) ≡ keep knows (linkNumbers net)
     unfolding known
     known-less = keep-keep (λ j. ltb 1 (counter h j)) (λ j. not (eqb j k)) (linkNumbers net)
 
     -- one fewer than the links
-    pub known-less-few : k < length (net .links) → length (less k (known net s h)) ≤ length (net .links) - 1
+    pub known-less-few : k < length (net .links) → length (less k (known net (h .table))) ≤ length (net .links) - 1
     known-less-few l =
         subst⁻¹ (λ (ks : List ℕ). length ks ≤ length (net .links) - 1) known-less
         (omega (arith, keep-one-fewer knows (λ j. true) (λ j t. tt) k not-itself tt (length (net .links)) l, keep-le (λ j. true) (linkNumbers net), length-from 0 (length (net .links))))
 
     -- and, where k is known, one fewer than the known ones
-    pub known-less-known : k < length (net .links) → T (ltb 1 (counter h k)) → length (less k (known net s h)) ≤ length (known net s h) - 1
+    pub known-less-known : k < length (net .links) → T (ltb 1 (counter h k)) → length (less k (known net (h .table))) ≤ length (known net (h .table)) - 1
     unfolding known
     known-less-known l t =
-        subst⁻¹ (λ (ks : List ℕ). length ks ≤ length (known net s h) - 1) known-less
+        subst⁻¹ (λ (ks : List ℕ). length ks ≤ length (known net (h .table)) - 1) known-less
         (keep-one-fewer knows (λ j. ltb 1 (counter h j)) (λ j u. and-l (ltb 1 (counter h j)) _ u) k not-itself t (length (net .links)) l)
 
     pub record Answered (xs : List Letter) : Type 0 where
-      pub few : length xs ≤ length (less k (known net s h)) + 1
+      pub few : length xs ≤ length (less k (known net (h .table))) + 1
       pub back : T (every (λ x. eqb (x .link) k) xs)
 
     pub answers-back : Answered (effectOn net s k h Answers .sent)
-    unfolding effectOn
+    unfolding doneBy
     answers-back =
         record {
-          few = subst⁻¹ (λ (n : ℕ). n ≤ length (less k (known net s h)) + 1) (length-append news last)
-              (if-elim (λ (xs : List Letter). length xs + 1 ≤ length (less k (known net s h)) + 1) (odd (counter h k)) (λ u. told-few) (λ u. omega arith));
+          few = subst⁻¹ (λ (n : ℕ). n ≤ length (less k (known net (h .table))) + 1) (length-append news last)
+              (if-elim (λ (xs : List Letter). length xs + 1 ≤ length (less k (known net (h .table))) + 1) (odd (counter h k)) (λ u. told-few) (λ u. omega arith));
           back = every-joined (λ x. eqb (x .link) k) news last (told (λ x. eqb (x .link) k) (λ b. eqb-refl k)) (and-i (eqb k k) _ (eqb-refl k) tt);
         }
       where
         news : List Letter
-        news = if odd (counter h k) then tell s (counter h) (less k (known net s h)) (k ∷ []) else []
+        news = if odd (counter h k) then tell s (counter h) (less k (known net (h .table))) (k ∷ []) else []
 
         last : List Letter
         last = letter s k (Reply (counter h k)) ∷ []
 
-        told-few : length (tell s (counter h) (less k (known net s h)) (k ∷ [])) + 1 ≤ length (less k (known net s h)) + 1
-        told-few = omega (arith, tell-count s (counter h) (less k (known net s h)) (k ∷ []))
+        told-few : length (tell s (counter h) (less k (known net (h .table))) (k ∷ [])) + 1 ≤ length (less k (known net (h .table))) + 1
+        told-few = omega (arith, tell-count s (counter h) (less k (known net (h .table))) (k ∷ []))
 
         told : (p : Letter → Bool) → ((b : Body) → T (p (letter s k b))) → T (every p news)
         told p f =
             if-elim (λ (xs : List Letter). T (every p xs)) (odd (counter h k))
-            (λ u. tell-every p s (counter h) (less k (known net s h)) (k ∷ []) (λ j. and-i (p (letter s k (Notice j (counter h j)))) _ (f (Notice j (counter h j))) tt))
+            (λ u. tell-every p s (counter h) (less k (known net (h .table))) (k ∷ []) (λ j. and-i (p (letter s k (Notice j (counter h j)))) _ (f (Notice j (counter h j))) tt))
             (λ u. tt)
 
     -- so no more than there are links
@@ -246,7 +249,7 @@ module _ (net : Network) (s : ℕ) where
   -- a request that comes on a link that is there
   pub request-few : (h : Holding) (x : Letter) → x .link < length (net .links) → x .body ≡ Request
       → length (received net s x h .sent) ≤ length (net .links)
-  unfolding received
+  unfolding doneBy
   request-few h x l e =
       request-cases s x h (λ (a : Heard). length (heardOn net s (x .link) h a .sent) ≤ length (net .links)) e (λ t. zero-le)
       (λ t u. subst⁻¹ (λ (xs : List Letter). length xs ≤ length (net .links)) (defers-sends h (x .link)) zero-le) (λ t u. answers-few h (x .link) l)
@@ -254,37 +257,36 @@ module _ (net : Network) (s : ℕ) where
   -- ---- a reply to a test on link k, with c for the new counter
   module _ (h : Holding) (k c : ℕ) where
     -- either was odd, a healing: subjects times open own links
-    pub heals-count : length (effectOn net s k h (Heals c) .sent) ≡ length (known net s (replied net s k c h)) * length (openLinks net s (replied net s k c h))
-    unfolding effectOn
+    pub heals-count : length (effectOn net s k h (Heals c) .sent) ≡ length (known net (replied net s k c h .table)) * length (openLinks net s h)
+    unfolding doneBy
     heals-count =
         let next = replied net s k c h in
-        tell-count s (counter next) (known net s next) (openLinks net s next)
+        tell-count s (counter next) (known net (next .table)) (openLinks net s h)
 
     -- both even and different, a level: this link alone, at most once on each own link, alike
     pub record Levelled (xs : List Letter) : Type 0 where
       pub few : length xs ≤ length (own net s)
       pub alike : T (every (λ x. isNotice k c (x .body)) xs)
-      pub ways : T (every (λ x. openOwn (replied net s k c h) (x .link)) xs)
+      pub ways : T (every (λ x. openOwn h (x .link)) xs)
 
     pub levels-alike : Levelled (effectOn net s k h (Levels c) .sent)
-    unfolding effectOn
+    unfolding doneBy
     levels-alike =
-        let next = replied net s k c h in
-        let ks = openLinks net s next in
+        let ks = openLinks net s h in
         record {
-          few = subst⁻¹ (λ (n : ℕ). n ≤ length (own net s)) (on-each-count s (Notice k c) ks) (open-few next);
+          few = subst⁻¹ (λ (n : ℕ). n ≤ length (own net s)) (on-each-count s (Notice k c) ks) (open-few h);
           alike = on-each-every (λ x. isNotice k c (x .body)) s (Notice k c) ks (every-imp (λ i. true) (λ i. eqb k k && eqb c c) (λ i t. and-i (eqb k k) _ (eqb-refl k) (eqb-refl c)) ks (always ks));
-          ways = on-each-every (λ x. openOwn next (x .link)) s (Notice k c) ks (open-open next);
+          ways = on-each-every (λ x. openOwn h (x .link)) s (Notice k c) ks (open-open h);
         }
 
     -- equal: nothing
     pub equal-sends : effectOn net s k h Equal .sent ≡ []
-    unfolding effectOn
+    unfolding doneBy
     equal-sends = refl
 
     -- in every case no more than links times own links
     pub heals-few : length (effectOn net s k h (Heals c) .sent) ≤ length (net .links) * length (own net s)
-    heals-few = subst⁻¹ (λ (n : ℕ). n ≤ length (net .links) * length (own net s)) heals-count (mul-le-mul (known-few (replied net s k c h)) (open-few (replied net s k c h)))
+    heals-few = subst⁻¹ (λ (n : ℕ). n ≤ length (net .links) * length (own net s)) heals-count (mul-le-mul (known-few (replied net s k c h)) (open-few h))
 
     pub levels-few : k < length (net .links) → length (effectOn net s k h (Levels c) .sent) ≤ length (net .links) * length (own net s)
     levels-few l =
@@ -293,7 +295,7 @@ module _ (net : Network) (s : ℕ) where
 
   pub reply-few : (h : Holding) (x : Letter) → x .link < length (net .links) → (c : ℕ) → x .body ≡ Reply c
       → length (received net s x h .sent) ≤ length (net .links) * length (own net s)
-  unfolding received
+  unfolding doneBy
   reply-few h x l c e =
       let Few : Heard → Type 0 = λ a. length (heardOn net s (x .link) h a .sent) ≤ length (net .links) * length (own net s) in
       let new : ℕ = healed (counter h (x .link)) c in

@@ -21,7 +21,9 @@ use Rattle.reach.specs.Reach.{counterIn}
 use Rattle.marks.specs.declared.Marks.{Marks}
 use Rattle.station.specs.declared.Condition.{Condition}
 use Rattle.station.specs.Holding.{Holding, noMarks, counter, mark, isLive, marked, counted, slotHolds, holdingHolds}
-use Rattle.station.specs.Acts.{letter, onEach, tell, less, openLinks, known, purged}
+use Rattle.station.specs.Done.{letter, onEach, tell, less, known, ownLinks}
+use Rattle.station.specs.Acts.{isOpen}
+use Rattle.station.proofs.Doing.{openLinks, purged}
 use Rattle.station.proofs.Slots.{slot-counter, slot-recount, slot-one}
 use Rattle.station.proofs.Purges.{purged-length, purged-lowers}
 
@@ -139,20 +141,20 @@ module _ (net : Network) where
       (tell-holds s c js ks (and-r (mayTell c j) _ p) t)
 
   module _ (s : ℕ) (h : Holding) where
-    pub open-links-own : T (every (ownLink s) (openLinks net s h))
-    unfolding openLinks
-    open-links-own = own-kept s (λ k. isEnd net k s && not (mark h k .quiet)) (λ k t. and-l (isEnd net k s) _ t)
+    pub own-links-own : (test : Marks → Bool) → T (every (ownLink s) (ownLinks net s test h))
+    unfolding ownLinks
+    own-links-own test = own-kept s (λ k. isEnd net k s && test (mark h k)) (λ k t. and-l (isEnd net k s) _ t)
 
     pub open-less-own : (k : ℕ) → T (every (ownLink s) (less k (openLinks net s h)))
-    open-less-own k = every-keep (ownLink s) (λ j. not (eqb j k)) (openLinks net s h) open-links-own
+    open-less-own k = every-keep (ownLink s) (λ j. not (eqb j k)) (openLinks net s h) (own-links-own isOpen)
 
     -- every counter may be told
-    pub known-tell : Formed s h → T (every (mayTell (counter h)) (known net s h))
+    pub known-tell : Formed s h → T (every (mayTell (counter h)) (known net (h .table)))
     unfolding known
     known-tell f =
         every-keep (mayTell (counter h)) (λ k. ltb 1 (counter h k)) (linkNumbers net)
         (at-below (mayTell (counter h)) (length (net .links))
         (λ k l. and-i (ltb k (length (net .links))) _ (lt→ltb k _ l) (slot-counter (h .condition) (isEnd net k s) (counter h k) (mark h k) (f .slots k l))))
 
-    pub known-less-tell : Formed s h → (k : ℕ) → T (every (mayTell (counter h)) (less k (known net s h)))
-    known-less-tell f k = every-keep (mayTell (counter h)) (λ j. not (eqb j k)) (known net s h) (known-tell f)
+    pub known-less-tell : Formed s h → (k : ℕ) → T (every (mayTell (counter h)) (less k (known net (h .table))))
+    known-less-tell f k = every-keep (mayTell (counter h)) (λ j. not (eqb j k)) (known net (h .table)) (known-tell f)

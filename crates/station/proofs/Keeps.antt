@@ -24,14 +24,17 @@ use Rattle.station.specs.declared.Heard.{Heard}
 use Rattle.station.specs.declared.Heard.the-variants.{Gone, Nothing, Overflows, Does}
 use Rattle.station.specs.Holding.{Holding, noMarks, counter, mark, isLive, isWaiting, isDown, setToken, setAsked, setQuiet, marked}
 use Rattle.station.specs.Holding.{counted, implies, together, slotHolds, holdingHolds}
-use Rattle.station.specs.Acts.{Done, unchanged, intervalTests, intervalMarks, testEnded, requestedMarks, repliedMarks, letter, onEach}
-use Rattle.station.specs.Acts.{tell, less, openLinks, known, purged, started, stopped, recovered, interval, timeout, spoken, answer}
-use Rattle.station.specs.Acts.{replied, effectOn, heardOn, received}
+use Rattle.station.specs.Acts.{intervalTests, intervalMarks, testEnded, requestedMarks, repliedMarks}
+use Rattle.station.specs.Done.{Done, letter, onEach, tell, less, known, stopped, doneBy}
+use Rattle.station.specs.Acts.{mayEnd, isOpen, theLink, Sends, nothing, requests, Act}
+use Rattle.station.specs.Done.{ownLinks, sentOf}
+use Rattle.station.proofs.Doing.{unchanged, openLinks, purged, started, recovered, interval, timeout, spoken, answer, replied}
+use Rattle.station.proofs.Doing.{effectOn, heardOn, received}
 use Rattle.station.proofs.Slots.{allMarks, rule, slot-counter, slot-together, own-slot, busy, busy-live, stopped-slot, started-slot}
 use Rattle.station.proofs.Slots.{recovered-slot, counter-next}
 use Rattle.station.proofs.Answers.{EffectFits, HeardFits, letter-link, answer-fits}
 use Rattle.station.proofs.HoldingLaws.{Formed, formed, holds, marked-formed, recounted-formed, purged-formed, anew-formed, ownLink}
-use Rattle.station.proofs.HoldingLaws.{own-is, own-kept, on-each-holds, tell-holds, open-links-own, open-less-own, known-tell}
+use Rattle.station.proofs.HoldingLaws.{own-is, own-kept, on-each-holds, tell-holds, own-links-own, open-less-own, known-tell}
 use Rattle.station.proofs.HoldingLaws.{known-less-tell}
 
 module _ (net : Network) (s : ℕ) where
@@ -45,7 +48,7 @@ module _ (net : Network) (s : ℕ) where
 
   -- ---- 2. Stop: whatever it held
   pub stopped-keeps : Kept (stopped net s)
-  unfolding stopped
+  unfolding stopped doneBy
   stopped-keeps =
       kept (record { condition = Down; table = map (λ k. 1) (linkNumbers net); marks = map (λ k. noMarks) (linkNumbers net) }) []
       (anew-formed net s Down (map (λ k. 1) (linkNumbers net)) (λ k. noMarks) (length-map-below (λ k. 1) (length (net .links)))
@@ -58,7 +61,7 @@ module _ (net : Network) (s : ℕ) where
 
     -- ---- 1. Start
     pub started-keeps : T (isDown (h .condition)) → Kept (started net s h)
-    unfolding started
+    unfolding doneBy
     started-keeps d =
         kept (record { condition = Waiting; table = h .table; marks = map (λ k. if isEnd net k s then setToken true noMarks else noMarks) (linkNumbers net) }) []
         (anew-formed net s Waiting (h .table) (λ k. if isEnd net k s then setToken true noMarks else noMarks) (f .table-length)
@@ -67,14 +70,13 @@ module _ (net : Network) (s : ℕ) where
 
     -- ---- 3. Recovery wait ends
     pub recovered-keeps : T (isWaiting (h .condition)) → Kept (recovered net s h)
-    unfolding recovered
+    unfolding doneBy
     recovered-keeps w =
         kept (record { condition = Live; table = h .table; marks = map (λ k. if isEnd net k s then intervalMarks (mark h k) else mark h k) (linkNumbers net) })
-        (onEach s Request (keep (λ k. isEnd net k s && intervalTests (mark h k)) (linkNumbers net)))
+        (onEach s Request (ownLinks net s intervalTests h))
         (anew-formed net s Live (h .table) (λ k. if isEnd net k s then intervalMarks (mark h k) else mark h k) (f .table-length)
         (λ k l. recovered-slot (h .condition) (isEnd net k s) (counter h k) (mark h k) w (f .slots k l)))
-        (on-each-holds net s Request (keep (λ k. isEnd net k s && intervalTests (mark h k)) (linkNumbers net)) tt
-        (own-kept net s (λ k. isEnd net k s && intervalTests (mark h k)) (λ k t. and-l (isEnd net k s) _ t)))
+        (on-each-holds net s Request (ownLinks net s intervalTests h) tt (own-links-own net s h intervalTests))
 
     -- ---- on an own link k
     module _ (k : ℕ) (l : k < length (net .links)) (o : T (isEnd net k s)) where
@@ -107,17 +109,17 @@ module _ (net : Network) (s : ℕ) where
       renewed p g c t v q r = recounted-formed net s (marked k (g (mark h k)) h) (remarked p g t v q) k c l v r
 
       -- ---- 4. Interval ends
-      pub interval-keeps : T (isLive (h .condition) && (not (mark h k .testing) && not (mark h k .quiet))) → Kept (interval net s k h)
-      unfolding interval
+      pub interval-keeps : T (mayEnd (h .condition) (mark h k)) → Kept (interval net s k h)
+      unfolding doneBy
       interval-keeps a =
-          kept (marked k (intervalMarks (mark h k)) h) (if intervalTests (mark h k) then (letter s k Request ∷ []) else [])
+          kept (marked k (intervalMarks (mark h k)) h) (sentOf net s h (h .table) (if intervalTests (mark h k) then requests (theLink k) else nothing))
           (remarked (λ m. not (m .testing) && not (m .quiet)) intervalMarks tt (and-l (isLive (h .condition)) _ a) (and-r (isLive (h .condition)) _ a))
-          (if-elim (λ xs. T (every (letterHolds net) xs)) (intervalTests (mark h k)) (λ t. on-each-holds net s Request (k ∷ []) tt own-one) (λ t. tt))
+          (if-elim (λ (y : Sends). T (every (letterHolds net) (sentOf net s h (h .table) y))) (intervalTests (mark h k)) (λ t. on-each-holds net s Request (k ∷ []) tt own-one) (λ t. tt))
 
       -- ---- 5. Timeout ends
       pub timeout-keeps : T (mark h k .testing) → Kept (timeout net s k h)
-      unfolding timeout
-      timeout-keeps a = if-elim Kept (even (counter h k)) raises (λ e. kept (marked k (testEnded (mark h k)) h) [] (remarked (λ m. m .testing) testEnded tt v a) tt)
+      unfolding doneBy
+      timeout-keeps a = if-elim (λ (y : Act). Kept (doneBy net s h y)) (even (counter h k)) raises (λ e. kept (marked k (testEnded (mark h k)) h) [] (remarked (λ m. m .testing) testEnded tt v a) tt)
         where
           v : T (isLive (h .condition))
           v = is-live (rule (λ m. m .testing) busy tt (mark h k) a)
@@ -140,7 +142,7 @@ module _ (net : Network) (s : ℕ) where
 
       -- ---- 6. Quiet ends
       pub spoken-keeps : T (mark h k .quiet) → Kept (spoken net s k h)
-      unfolding spoken
+      unfolding doneBy
       spoken-keeps a =
           kept (marked k (setQuiet false (mark h k)) h) [] (remarked (λ m. m .quiet) (setQuiet false) tt (is-live (rule (λ m. m .quiet) busy tt (mark h k) a)) a) tt
 
@@ -150,30 +152,31 @@ module _ (net : Network) (s : ℕ) where
         next-formed c r = renewed (λ m. true) repliedMarks c tt v tt r
 
         pub effect-keeps : (e : Effect) → EffectFits net k h e → Kept (effectOn net s k h e)
-        unfolding effectOn
+        unfolding doneBy
         effect-keeps Defers p = kept (marked k (setAsked true (mark h k)) h) [] (remarked (λ m. m .testing) (setAsked true) tt v p) tt
         effect-keeps Answers p =
             kept (marked k (requestedMarks (mark h k)) h) (news ++ (letter s k (Reply (counter h k)) ∷ [])) (remarked (λ m. true) requestedMarks tt v tt)
             (every-joined (letterHolds net) news (letter s k (Reply (counter h k)) ∷ [])
-            (if-elim (λ xs. T (every (letterHolds net) xs)) (odd (counter h k)) (λ u. tell-holds net s (counter h) (less k (known net s h)) (k ∷ []) (known-less-tell net s h f k) own-one) (λ u. tt))
+            (if-elim (λ xs. T (every (letterHolds net) xs)) (odd (counter h k)) (λ u. tell-holds net s (counter h) (less k (known net (h .table))) (k ∷ []) (known-less-tell net s h f k) own-one) (λ u. tt))
             (on-each-holds net s (Reply (counter h k)) (k ∷ []) own-counter own-one))
           where
             news : List Letter
-            news = if odd (counter h k) then tell s (counter h) (less k (known net s h)) (k ∷ []) else []
+            news = if odd (counter h k) then tell s (counter h) (less k (known net (h .table))) (k ∷ []) else []
         effect-keeps (Heals c) p =
             let next = replied net s k c h in
-            kept (purged net s next) (tell s (counter next) (known net s next) (openLinks net s next)) (purged-formed net s next (next-formed c (p .range)))
-            (tell-holds net s (counter next) (known net s next) (openLinks net s next) (known-tell net s next (next-formed c (p .range))) (open-links-own net s next))
+            kept (purged net s next) (tell s (counter next) (known net (next .table)) (openLinks net s h)) (purged-formed net s next (next-formed c (p .range)))
+            (tell-holds net s (counter next) (known net (next .table)) (openLinks net s h) (known-tell net s next (next-formed c (p .range))) (own-links-own net s h isOpen))
         effect-keeps (Levels c) p =
             let next = replied net s k c h in
-            kept next (onEach s (Notice k c) (openLinks net s next)) (next-formed c (p .range))
-            (on-each-holds net s (Notice k c) (openLinks net s next) (and-i (ltb k (length (net .links))) _ (lt→ltb k _ l) (p .range)) (open-links-own net s next))
+            kept next (onEach s (Notice k c) (openLinks net s h)) (next-formed c (p .range))
+            (on-each-holds net s (Notice k c) (openLinks net s h) (and-i (ltb k (length (net .links))) _ (lt→ltb k _ l) (p .range)) (own-links-own net s h isOpen))
         effect-keeps Equal p = kept (marked k (repliedMarks (mark h k)) h) [] (remarked (λ m. true) repliedMarks tt v tt) tt
         effect-keeps (Takes j c) p =
             kept (counted j c h) (onEach s (Notice j c) (less k (openLinks net s h))) (recounted-formed net s h f j c (p .there) v (p .range))
             (on-each-holds net s (Notice j c) (less k (openLinks net s h)) (and-i (ltb j (length (net .links))) _ (lt→ltb j _ (p .there)) (p .range)) (open-less-own net s h k))
 
       heard-keeps : (a : Heard) → HeardFits net k h a → Kept (heardOn net s k h a)
+      unfolding doneBy
       heard-keeps Gone p = kept h [] f tt
       heard-keeps Nothing p = kept h [] f tt
       heard-keeps Overflows p = kept h [] f tt
@@ -185,7 +188,6 @@ module _ (net : Network) (s : ℕ) where
 
     -- whatever letter comes on an own link
     pub received-keeps : (x : Letter) → T (letterHolds net x) → T (isEnd net (x .link) s) → Kept (received net s x h)
-    unfolding received
     received-keeps x t o =
         let l = letter-link net x t in
         heard-keeps (x .link) l o (answer s x h) (answer-fits net s x h (own-counter (x .link) l o) t)

@@ -19,7 +19,7 @@ use Rattle.words.specs.Sets.{wordBy}
 use Rattle.words.proofs.WordLaws.{by-ext, by-same}
 use Rattle.marks.specs.declared.Marks.{Marks}
 use Rattle.marks.specs.declared.Words.{Words}
-use Rattle.marks.specs.Marks.{marksAt, wordsWith}
+use Rattle.marks.specs.Marks.{marksAt, wordsBy, wordsWith}
 use Rattle.station.specs.declared.Station.{Station}
 use Rattle.station.specs.Holding.{Holding, noMarks, mark, counter, marked}
 use Rattle.station.specs.Values.{holdingOf, bitsOf, laidWord, laidWords, laid}
@@ -44,17 +44,6 @@ word-laid n l f old bs e first rest =
         getD-map-below f 64 i false h
         ∙ sym (subst (λ (x : ℕ). getD (bs ++ drop n (bitsOf old)) x false ≡ getD (drop n (bitsOf old)) j false) q (getD-append-add bs (drop n (bitsOf old)) j false)
         ∙ getD-drop n (bitsOf old) j false ∙ ap (λ (x : ℕ). getD (bitsOf old) x false) q′ ∙ getD-map-below (inWord old) 64 i false h ∙ rest i (omega arith) h)
-
--- the five words of marks that are given for each link
-abbrev pub wordsBy : (ℕ → Marks) → Words
-wordsBy g =
-    record {
-      token = wordBy (λ t. g t .token);
-      turn = wordBy (λ t. g t .turn);
-      testing = wordBy (λ t. g t .testing);
-      asked = wordBy (λ t. g t .asked);
-      quiet = wordBy (λ t. g t .quiet);
-    }
 
 pub words-laid : (n : ℕ) → n ≤ 64 → (g : ℕ → Marks) (old : Words) (ms : List Marks) → length ms ≡ n → ((t : ℕ) → t < n → getD ms t noMarks ≡ g t)
     → ((t : ℕ) → n ≤ t → t < 64 → marksAt old t ≡ g t) → wordsBy g ≡ laidWords n old ms

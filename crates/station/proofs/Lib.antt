@@ -1,4 +1,5 @@
 pub mod MarkLaws
+pub mod Doing
 pub mod Laid
 pub mod Fresh
 pub mod Sent

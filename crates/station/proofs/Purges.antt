@@ -15,7 +15,7 @@ use Rattle.net.specs.Network.{Network, ends, isEnd}
 use Rattle.reach.specs.Reach.{counterIn, worksIn, has, reach, near, purge}
 use Rattle.reach.proofs.ReachLaws.{reach-self, complete}
 use Rattle.station.specs.Holding.{Holding, counter}
-use Rattle.station.specs.Acts.{purged}
+use Rattle.station.proofs.Doing.{purged}
 
 -- a counter that stays or is set to 1
 abbrev pub Lowered : ℕ → ℕ → Type 0

@@ -20,8 +20,9 @@ use Rattle.station.specs.declared.Effect.the-variants.{Defers, Answers, 
 use Rattle.station.specs.declared.Heard.{Heard}
 use Rattle.station.specs.declared.Heard.the-variants.{Gone, Nothing, Overflows, Does}
 use Rattle.station.specs.Holding.{Holding, counter, mark, holdingHolds}
-use Rattle.station.specs.Acts.{Done, unchanged, purged, started, stopped, recovered, interval, timeout, spoken, answer, effectOn}
-use Rattle.station.specs.Acts.{heardOn, received}
+use Rattle.station.specs.Done.{Done, stopped, doneBy}
+use Rattle.station.proofs.Doing.{unchanged, purged, started, recovered, interval, timeout, spoken, answer, effectOn, heardOn}
+use Rattle.station.proofs.Doing.{received}
 use Rattle.station.proofs.Slots.{slot-counter, counter-range, healed-above, healed-works, healed-equal}
 use Rattle.station.proofs.Purges.{Lowered, lowered-le, purged-lowers, purged-own}
 use Rattle.station.proofs.Answers as A
@@ -36,36 +37,36 @@ module _ (net : Network) (s : ℕ) where
   -- ---- acts that change no counter: start, recovery, interval, quiet end, a request, an equal reply
   module _ (h : Holding) where
     pub started-table : started net s h .holding .table ≡ h .table
-    unfolding started
+    unfolding doneBy
     started-table = refl
 
     pub recovered-table : recovered net s h .holding .table ≡ h .table
-    unfolding recovered
+    unfolding doneBy
     recovered-table = refl
 
     pub interval-table : (k : ℕ) → interval net s k h .holding .table ≡ h .table
-    unfolding interval
+    unfolding doneBy
     interval-table k = refl
 
     pub spoken-table : (k : ℕ) → spoken net s k h .holding .table ≡ h .table
-    unfolding spoken
+    unfolding doneBy
     spoken-table k = refl
 
     pub defers-table : (k : ℕ) → effectOn net s k h Defers .holding .table ≡ h .table
-    unfolding effectOn
+    unfolding doneBy
     defers-table k = refl
 
     pub answers-table : (k : ℕ) → effectOn net s k h Answers .holding .table ≡ h .table
-    unfolding effectOn
+    unfolding doneBy
     answers-table k = refl
 
     pub equal-table : (k : ℕ) → effectOn net s k h Equal .holding .table ≡ h .table
-    unfolding effectOn
+    unfolding doneBy
     equal-table k = refl
 
   -- a stop sets every counter to 1
   pub stopped-table : (j : ℕ) → counter (stopped net s .holding) j ≡ 1
-  unfolding stopped
+  unfolding stopped doneBy
   stopped-table j = ones (linkNumbers net) j
     where
       ones : (xs : List ℕ) (j : ℕ) → _≡_ {A = ℕ} (getD (map (λ k. 1) xs) j 1) 1
@@ -116,7 +117,7 @@ module _ (net : Network) (s : ℕ) where
 
     -- a reply that levels
     pub levels-sets : (c : ℕ) → Sets k c h (effectOn net s k h (Levels c))
-    unfolding effectOn
+    unfolding doneBy
     levels-sets c = sets c _ refl
 
     -- with a purge after it
@@ -132,22 +133,22 @@ module _ (net : Network) (s : ℕ) where
 
       -- a timeout: an even counter is raised by one, then purge; with an odd one no counter changes
       pub timeout-even : T (even (counter h k)) → Sets k (counter h k + 1) h (timeout net s k h)
-      unfolding timeout
+      unfolding doneBy
       timeout-even e = rw (T-is (even (counter h k)) e) (sets-purged (counter h k + 1) _ _ refl)
 
       -- a reply that heals
       pub heals-sets : (c : ℕ) → Sets k c h (effectOn net s k h (Heals c))
-      unfolding effectOn
+      unfolding doneBy
       heals-sets c = sets-purged c _ _ refl
 
   module _ (h : Holding) (k : ℕ) where
     pub timeout-odd : T (odd (counter h k)) → timeout net s k h .holding .table ≡ h .table
-    unfolding timeout
+    unfolding doneBy
     timeout-odd e = rw (T-not-is (even (counter h k)) e) refl
 
     -- no purge, and no other counter changes
     pub levels-table : (c : ℕ) → effectOn net s k h (Levels c) .holding .table ≡ set (h .table) k c
-    unfolding effectOn
+    unfolding doneBy
     levels-table c = refl
 
   -- ---- a notice of link j with c, come on link k: taken, it sets one counter, strictly higher, and changes nothing else
@@ -160,7 +161,7 @@ module _ (net : Network) (s : ℕ) where
 
   module _ (h : Holding) (ok : T (holdingHolds net s h)) where
     pub takes-took : (k j c : ℕ) → j < length (net .links) → counter h j < c → Took j c h (effectOn net s k h (Takes j c) .holding)
-    unfolding effectOn
+    unfolding doneBy
     takes-took k j c l n =
         record {
           newer = n;
@@ -173,11 +174,11 @@ module _ (net : Network) (s : ℕ) where
   -- ---- a letter does what its answer says
   module _ (h : Holding) (x : Letter) where
     pub received-is : (a : Heard) → answer s x h ≡ a → received net s x h ≡ heardOn net s (x .link) h a
-    unfolding received
     received-is a e = ap (heardOn net s (x .link) h) e
 
     -- one that is not heard is gone
     pub received-gone : T (not (heard x h)) → received net s x h ≡ unchanged h
+    unfolding doneBy
     received-gone t = received-is Gone (answer-gone s x h t)
 
     -- a notice that is heard: newer, it is taken and changes one counter alone; else nothing happens, equal ones among them
@@ -189,11 +190,12 @@ module _ (net : Network) (s : ℕ) where
         (takes-took h ok (x .link) j c l (ltb→lt (counter h j) c n))
 
     pub notice-drops : (j c : ℕ) → x .body ≡ Notice j c → T (heard x h) → T (not (newer (counter h j) c)) → received net s x h ≡ unchanged h
+    unfolding doneBy
     notice-drops j c e t n = received-is Nothing (notice-old s x h j c e t n)
 
     -- a request changes no counter
     pub request-table : x .body ≡ Request → received net s x h .holding .table ≡ h .table
-    unfolding received
+    unfolding doneBy
     request-table e =
         request-cases s x h (λ (a : Heard). heardOn net s (x .link) h a .holding .table ≡ h .table) e
         (λ t. refl) (λ t u. defers-table h (x .link)) (λ t u. answers-table h (x .link))
@@ -201,9 +203,11 @@ module _ (net : Network) (s : ℕ) where
     -- ---- a reply with c that is heard: without a test nothing happens, nor where the counter would be 65,536
     module _ (c : ℕ) (e : x .body ≡ Reply c) (t : T (heard x h)) where
       pub reply-idle : T (not (mark h (x .link) .testing)) → received net s x h ≡ unchanged h
+      unfolding doneBy
       reply-idle u = received-is Nothing (A.reply-idle s x h c e t u)
 
       pub reply-over : T (mark h (x .link) .testing) → T (ltb 65535 (healed (counter h (x .link)) c)) → received net s x h ≡ unchanged h
+      unfolding doneBy
       reply-over u v = received-is Overflows (A.reply-over s x h c e t u v)
 
       module _ (u : T (mark h (x .link) .testing)) (v : T (not (ltb 65535 (healed (counter h (x .link)) c)))) where

@@ -20,6 +20,7 @@ use Rattle.net.specs.Network.{Network, isEnd, linkNumbers}
 use Rattle.net.specs.Letters.{letterHolds}
 use Rattle.counters.specs.Counters.{even}
 use Rattle.reach.specs.Reach.{counterIn}
+use Rattle.station.specs.declared.Condition.{Condition}
 use Rattle.station.specs.declared.Effect.{Effect}
 use Rattle.station.specs.declared.Effect.the-variants.{Defers, Answers, Heals, Levels, Equal, Takes}
 use Rattle.station.specs.declared.Heard.{Heard}
@@ -27,9 +28,13 @@ use Rattle.station.specs.declared.Heard.the-variants.{Gone, Nothing, Ove
 use Rattle.station.specs.declared.Kind.{Kind}
 use Rattle.station.specs.declared.Kind.the-variants.{NoSuch, Start, Stop, Recovery, IntervalEnd, TimeoutEnd, QuietEnd, Delivery, Loss}
 use Rattle.station.specs.Holding.{Holding, counter, mark, holdingHolds}
-use Rattle.station.specs.Acts.{Done, unchanged, started, stopped, recovered, interval, timeout, spoken, answer, effectOn, heardOn}
-use Rattle.station.specs.Acts.{received}
-use Rattle.station.specs.Events.{raisedEffect, heardCounts, isNotice, Rule, ruleOf, Comes, refusing, comesTo}
+use Rattle.station.specs.Done.{Done, stopped}
+use Rattle.station.proofs.Doing.{unchanged, started, recovered, interval, timeout, spoken, answer, effectOn, heardOn, received}
+use Rattle.station.specs.Events.{raisedEffect, raisedBy, counting, Rule, ruleAt}
+use Rattle.station.specs.Events.{Due, refusing, dueOf, Comes, comesOf, comesTo}
+use Rattle.station.specs.Acts.{Act, idle}
+use Rattle.station.specs.Done.{doneBy}
+use Rattle.station.proofs.Doing.{refusedWith}
 use Rattle.station.proofs.Slots.{slot-counter}
 use Rattle.station.proofs.Purges.{lowered-le}
 use Rattle.station.proofs.Answers.{EffectFits, HeardFits, letter-link, answer-fits}
@@ -54,8 +59,9 @@ Names net s Loss b x = T true
 
 -- ---- well formed before it, and allowed: well formed after it, and what is sent may travel
 pub rule-keeps : (net : Network) (s : ℕ) (h : Holding) → T (holdingHolds net s h) → (k : Kind) (b : ℕ) (x : Letter) → Names net s k b x
-    → T (ruleOf net s k b x h .allowed)
-    → Kept net s (ruleOf net s k b x h .done)
+    → T (ruleAt s k b x h .allowed)
+    → Kept net s (doneBy net s h (ruleAt s k b x h .act))
+unfolding doneBy stopped answer
 rule-keeps net s h ok NoSuch b x n a = unchanged-keeps net s h ok
 rule-keeps net s h ok Start b x n a = started-keeps net s h ok a
 rule-keeps net s h ok Stop b x n a = stopped-keeps net s
@@ -117,23 +123,24 @@ module _ (net : Network) (s : ℕ) (real : s < net .stations) (h : Holding) (ok 
         risen-one net h (d .holding) j (p .there) (λ i n. le-of-eq (t .others i n))
         ∙ ap bit (lt-ltb (counter h j) (counter (d .holding) j) (subst⁻¹ (λ (n : ℕ). counter h j < n) (t .takes) (t .newer)))
 
-    heard-raises : (n : ℕ) (a : Heard) → HeardFits net k h a → Raises (heardCounts n (counter h k) a .raised) (heardOn net s k h a)
-    heard-raises n Gone p = same
-    heard-raises n Nothing p = same
-    heard-raises n Overflows p = same
-    heard-raises n (Does e) p = effect-raises e (p .1)
+    heard-raises : (a : Heard) → HeardFits net k h a → Raises (raisedBy (counter h k) a) (heardOn net s k h a)
+    unfolding doneBy
+    heard-raises Gone p = same
+    heard-raises Nothing p = same
+    heard-raises Overflows p = same
+    heard-raises (Does e) p = effect-raises e (p .1)
 
   received-raises : (x : Letter) → T (letterHolds net x) → T (isEnd net (x .link) s)
-      → Raises (heardCounts (bit (isNotice (x .body))) (counter h (x .link)) (answer s x h) .raised) (received net s x h)
-  unfolding received
+      → Raises (raisedBy (counter h (x .link)) (answer s x h)) (received net s x h)
   received-raises x t o =
       let k = x .link in
       let l = letter-link net x t in
-      heard-raises k l o (bit (isNotice (x .body))) (answer s x h) (answer-fits net s x h (slot-counter (h .condition) (isEnd net k s) (counter h k) (mark h k) (formed net s h ok .slots k l)) t)
+      heard-raises k l o (answer s x h) (answer-fits net s x h (slot-counter (h .condition) (isEnd net k s) (counter h k) (mark h k) (formed net s h ok .slots k l)) t)
 
   -- what the rule counts as raised is what is higher
   pub rule-raises : (k : Kind) (b : ℕ) (x : Letter) → Names net s k b x
-      → risen net h (ruleOf net s k b x h .done .holding) ≡ ruleOf net s k b x h .counts .raised
+      → risen net h (doneBy net s h (ruleAt s k b x h .act) .holding) ≡ ruleAt s k b x h .counts .raised
+  unfolding doneBy stopped answer
   rule-raises NoSuch b x n = same
   rule-raises Start b x n = risen-same net h (started net s h .holding) (started-table net s h)
   rule-raises Stop b x n = risen-none net h (stopped net s .holding) (stopped-lowers net s h ok)
@@ -157,22 +164,23 @@ effect-one own (Levels c) = bit-le (ltb own c)
 effect-one own Equal = zero-le
 effect-one own (Takes j c) = le-refl 1
 
-heard-one : (n own : ℕ) (a : Heard) → heardCounts n own a .raised ≤ 1
-heard-one n own Gone = zero-le
-heard-one n own Nothing = zero-le
-heard-one n own Overflows = zero-le
-heard-one n own (Does e) = effect-one own e
+heard-one : (own : ℕ) (a : Heard) → raisedBy own a ≤ 1
+heard-one own Gone = zero-le
+heard-one own Nothing = zero-le
+heard-one own Overflows = zero-le
+heard-one own (Does e) = effect-one own e
 
-pub rule-one : (net : Network) (s : ℕ) (k : Kind) (b : ℕ) (x : Letter) (h : Holding) → ruleOf net s k b x h .counts .raised ≤ 1
-rule-one net s NoSuch b x h = zero-le
-rule-one net s Start b x h = zero-le
-rule-one net s Stop b x h = zero-le
-rule-one net s Recovery b x h = zero-le
-rule-one net s IntervalEnd b x h = zero-le
-rule-one net s TimeoutEnd b x h = bit-le (even (counter h b))
-rule-one net s QuietEnd b x h = zero-le
-rule-one net s Delivery b x h = heard-one (bit (isNotice (x .body))) (counter h (x .link)) (answer s x h)
-rule-one net s Loss b x h = zero-le
+pub rule-one : (s : ℕ) (k : Kind) (b : ℕ) (x : Letter) (h : Holding) → ruleAt s k b x h .counts .raised ≤ 1
+unfolding answer
+rule-one s NoSuch b x h = zero-le
+rule-one s Start b x h = zero-le
+rule-one s Stop b x h = zero-le
+rule-one s Recovery b x h = zero-le
+rule-one s IntervalEnd b x h = zero-le
+rule-one s TimeoutEnd b x h = bit-le (even (counter h b))
+rule-one s QuietEnd b x h = zero-le
+rule-one s Delivery b x h = heard-one (counter h (x .link)) (answer s x h)
+rule-one s Loss b x h = zero-le
 
 -- ---- what an event comes to: each number for its reason, and where the reason holds
 not-not : (b : Bool) → T (not (not b)) → T b
@@ -186,57 +194,75 @@ module _ (there : Bool) (r : Rule) where
     seven : T there → T (not (r .allowed)) → Why 7
     eight : T there → T (r .allowed) → T (r .over) → Why 8
 
-  module _ (h : Holding) where
-    pub comes-why : Why (comesTo there r h .number)
-    unfolding comesTo
+  -- what holds of a refusal and of the rule where nothing refuses it holds of what it comes to
+  pub due-elim : (x : Condition) (P : Due → Type 0) → ((n : ℕ) → (n ≡ 0 → ⊥) → P (refusing n x))
+      → (T there → T (r .allowed) → T (not (r .over)) → P (record { number = 0; act = r .act; counts = r .counts }))
+      → P (dueOf there r x)
+  unfolding dueOf
+  due-elim x P refused taken =
+      if-elim P (not there) (λ p. refused 6 (λ z. omega arith))
+      (λ p. if-elim P (not (r .allowed)) (λ q. refused 7 (λ z. omega arith))
+      (λ q. if-elim P (r .over) (λ o. refused 8 (λ z. omega arith)) (taken (not-not there p) (not-not (r .allowed) q))))
+
+  module _ (net : Network) (s : ℕ) (h : Holding) where
+    -- by what it is due
+    abbrev carried : Due → Comes
+    carried d = comesOf net s h d
+
+    pub comes-why : Why (comesTo net s there r h .number)
+    unfolding comesTo dueOf
     comes-why =
-        let For : Comes → Type 0 = λ c. Why (c .number) in
+        let For : Due → Type 0 = λ d. Why (d .number) in
         if-elim For (not there) six
         (λ p. let t = not-not there p in if-elim For (not (r .allowed)) (seven t)
         (λ q. let a = not-not (r .allowed) q in if-elim For (r .over) (eight t a) (none t a)))
 
     -- nothing refuses it: the rule's
     pub comes-done : T there → T (r .allowed) → T (not (r .over))
-        → comesTo there r h ≡ record { number = 0; done = r .done; counts = r .counts }
-    unfolding comesTo
+        → comesTo net s there r h ≡ record { number = 0; done = doneBy net s h (r .act); counts = r .counts }
+    unfolding comesTo dueOf
     comes-done t a o = simp (T-is there t, T-is (r .allowed) a, T-not-is (r .over) o)
 
     -- refused: the number, and nothing is done
-    pub comes-six : T (not there) → comesTo there r h ≡ refusing 6 h
-    unfolding comesTo
-    comes-six t = simp (T-not-is there t)
+    pub idle-done : doneBy net s h (idle (h .condition)) ≡ unchanged h
+    unfolding doneBy
+    idle-done = refl
 
-    pub comes-seven : T there → T (not (r .allowed)) → comesTo there r h ≡ refusing 7 h
-    unfolding comesTo
-    comes-seven t a = simp (T-is there t, T-not-is (r .allowed) a)
+    refused-is : (n : ℕ) → carried (refusing n (h .condition)) ≡ refusedWith n h
+    refused-is n = ap (λ (d : Done). record { number = n; done = d; counts = counting 0 0 0 }) idle-done
 
-    pub comes-eight : T there → T (r .allowed) → T (r .over) → comesTo there r h ≡ refusing 8 h
-    unfolding comesTo
-    comes-eight t a o = simp (T-is there t, T-is (r .allowed) a, T-is (r .over) o)
+    pub comes-six : T (not there) → comesTo net s there r h ≡ refusedWith 6 h
+    unfolding comesTo dueOf
+    comes-six t = rw (T-not-is there t) (refused-is 6)
 
-    pub why-comes : {n : ℕ} → Why n → comesTo there r h .number ≡ n
+    pub comes-seven : T there → T (not (r .allowed)) → comesTo net s there r h ≡ refusedWith 7 h
+    unfolding comesTo dueOf
+    comes-seven t a = rw (T-is there t, T-not-is (r .allowed) a) (refused-is 7)
+
+    pub comes-eight : T there → T (r .allowed) → T (r .over) → comesTo net s there r h ≡ refusedWith 8 h
+    unfolding comesTo dueOf
+    comes-eight t a o = rw (T-is there t, T-is (r .allowed) a, T-is (r .over) o) (refused-is 8)
+
+    pub why-comes : {n : ℕ} → Why n → comesTo net s there r h .number ≡ n
     why-comes (none t a o) = ap (λ (c : Comes). c .number) (comes-done t a o)
     why-comes (six t) = ap (λ (c : Comes). c .number) (comes-six t)
     why-comes (seven t a) = ap (λ (c : Comes). c .number) (comes-seven t a)
     why-comes (eight t a o) = ap (λ (c : Comes). c .number) (comes-eight t a o)
 
-    -- what holds of a refusal and of the rule where nothing refuses it holds of what it comes to
-    pub comes-elim : (P : Comes → Type 0) → ((n : ℕ) → P (refusing n h))
-        → (T there → T (r .allowed) → T (not (r .over)) → P (record { number = 0; done = r .done; counts = r .counts }))
-        → P (comesTo there r h)
+    pub comes-elim : (P : Comes → Type 0) → ((n : ℕ) → P (refusedWith n h))
+        → (T there → T (r .allowed) → T (not (r .over)) → P (record { number = 0; done = doneBy net s h (r .act); counts = r .counts }))
+        → P (comesTo net s there r h)
     unfolding comesTo
-    comes-elim P refused taken =
-        if-elim P (not there) (λ p. refused 6)
-        (λ p. if-elim P (not (r .allowed)) (λ q. refused 7) (λ q. if-elim P (r .over) (λ o. refused 8) (taken (not-not there p) (not-not (r .allowed) q))))
+    comes-elim P refused taken = due-elim (h .condition) (λ d. P (carried d)) (λ n z. subst⁻¹ P (refused-is n) (refused n)) taken
 
 -- refused or not, by the rule of an event: well formed after it, and what it counts as raised is what is higher
 module _ (net : Network) (s : ℕ) (h : Holding) (ok : T (holdingHolds net s h)) (there : Bool) (k : Kind) (b : ℕ) (x : Letter) (n : T there → Names net s k b x) where
-  pub comes-keeps : Kept net s (comesTo there (ruleOf net s k b x h) h .done)
+  pub comes-keeps : Kept net s (comesTo net s there (ruleAt s k b x h) h .done)
   comes-keeps =
-      comes-elim there (ruleOf net s k b x h) h (λ (c : Comes). Kept net s (c .done)) (λ i. unchanged-keeps net s h ok) (λ t a o. rule-keeps net s h ok k b x (n t) a)
+      comes-elim there (ruleAt s k b x h) net s h (λ (c : Comes). Kept net s (c .done)) (λ i. unchanged-keeps net s h ok) (λ t a o. rule-keeps net s h ok k b x (n t) a)
 
   pub comes-raises : s < net .stations
-      → let c = comesTo there (ruleOf net s k b x h) h in risen net h (c .done .holding) ≡ c .counts .raised
+      → let c = comesTo net s there (ruleAt s k b x h) h in risen net h (c .done .holding) ≡ c .counts .raised
   comes-raises real =
-      comes-elim there (ruleOf net s k b x h) h (λ (c : Comes). risen net h (c .done .holding) ≡ c .counts .raised) (λ i. risen-same net h h refl)
+      comes-elim there (ruleAt s k b x h) net s h (λ (c : Comes). risen net h (c .done .holding) ≡ c .counts .raised) (λ i. risen-same net h h refl)
       (λ t a o. rule-raises net s real h ok k b x (n t))

@@ -18,9 +18,13 @@ use Rattle.station.specs.declared.Heard.the-variants.{Gone, Nothing, Ove
 use Rattle.station.specs.declared.Kind.{Kind}
 use Rattle.station.specs.declared.Kind.the-variants.{NoSuch, Start, Stop, Recovery, IntervalEnd, TimeoutEnd, QuietEnd, Delivery, Loss}
 use Rattle.station.specs.Holding.{Holding, counter, mark}
-use Rattle.station.specs.Acts.{Done, intervalTests, letter, onEach, tell, less, openLinks, known, started, stopped, recovered}
-use Rattle.station.specs.Acts.{interval, timeout, spoken, answer, replied, effectOn, heardOn, received}
-use Rattle.station.specs.Events.{ruleOf}
+use Rattle.station.specs.Acts.{intervalTests}
+use Rattle.station.specs.Done.{Done, letter, onEach, tell, less, known, stopped, doneBy}
+use Rattle.station.proofs.Doing.{openLinks, started, recovered, interval, timeout, spoken, answer, replied, effectOn, heardOn}
+use Rattle.station.proofs.Doing.{received}
+use Rattle.station.specs.Events.{ruleAt}
+use Rattle.station.specs.Acts.{Sends, Act}
+use Rattle.station.specs.Done.{ownLinks, sentOf}
 
 -- all of them are sent by s
 abbrev pub sentBy : ℕ → List Letter → Bool
@@ -40,53 +44,54 @@ module _ (net : Network) (s : ℕ) (h : Holding) where
 
   -- nothing is sent
   pub started-by : By (started net s h)
-  unfolding started
+  unfolding doneBy
   started-by = tt
 
   pub stopped-by : By (stopped net s)
-  unfolding stopped
+  unfolding stopped doneBy
   stopped-by = tt
 
   pub spoken-by : (k : ℕ) → By (spoken net s k h)
-  unfolding spoken
+  unfolding doneBy
   spoken-by k = tt
 
   pub recovered-by : By (recovered net s h)
-  unfolding recovered
-  recovered-by = on-each-by s Request (keep (λ k. isEnd net k s && intervalTests (mark h k)) (linkNumbers net))
+  unfolding doneBy
+  recovered-by = on-each-by s Request (ownLinks net s intervalTests h)
 
   pub interval-by : (k : ℕ) → By (interval net s k h)
-  unfolding interval
-  interval-by k = if-elim (λ (xs : List Letter). T (sentBy s xs)) (intervalTests (mark h k)) (λ t. on-each-by s Request (k ∷ [])) (λ t. tt)
+  unfolding doneBy
+  interval-by k = if-elim (λ (l : Sends). T (sentBy s (sentOf net s h (h .table) l))) (intervalTests (mark h k)) (λ t. on-each-by s Request (k ∷ [])) (λ t. tt)
 
   pub timeout-by : (k : ℕ) → By (timeout net s k h)
-  unfolding timeout
-  timeout-by k = if-elim By (even (counter h k)) (λ t. on-each-by s (Notice k (timedOut (counter h k))) (less k (openLinks net s h))) (λ t. tt)
+  unfolding doneBy
+  timeout-by k = if-elim (λ (a : Act). By (doneBy net s h a)) (even (counter h k)) (λ t. on-each-by s (Notice k (timedOut (counter h k))) (less k (openLinks net s h))) (λ t. tt)
 
   pub effect-by : (k : ℕ) (e : Effect) → By (effectOn net s k h e)
-  unfolding effectOn
+  unfolding doneBy
   effect-by k Defers = tt
   effect-by k Answers =
-      every-joined (λ x. eqb (x .sender) s) (if odd (counter h k) then tell s (counter h) (less k (known net s h)) (k ∷ []) else []) (letter s k (Reply (counter h k)) ∷ [])
-      (if-elim (λ (xs : List Letter). T (sentBy s xs)) (odd (counter h k)) (λ u. tell-by s (counter h) (less k (known net s h)) (k ∷ [])) (λ u. tt))
+      every-joined (λ x. eqb (x .sender) s) (if odd (counter h k) then tell s (counter h) (less k (known net (h .table))) (k ∷ []) else []) (letter s k (Reply (counter h k)) ∷ [])
+      (if-elim (λ (xs : List Letter). T (sentBy s xs)) (odd (counter h k)) (λ u. tell-by s (counter h) (less k (known net (h .table))) (k ∷ [])) (λ u. tt))
       (on-each-by s (Reply (counter h k)) (k ∷ []))
-  effect-by k (Heals c) = let next = replied net s k c h in tell-by s (counter next) (known net s next) (openLinks net s next)
-  effect-by k (Levels c) = on-each-by s (Notice k c) (openLinks net s (replied net s k c h))
+  effect-by k (Heals c) = let next = replied net s k c h in tell-by s (counter next) (known net (next .table)) (openLinks net s h)
+  effect-by k (Levels c) = on-each-by s (Notice k c) (openLinks net s h)
   effect-by k Equal = tt
   effect-by k (Takes j c) = on-each-by s (Notice j c) (less k (openLinks net s h))
 
   heard-by : (k : ℕ) (a : Heard) → By (heardOn net s k h a)
+  unfolding doneBy
   heard-by k Gone = tt
   heard-by k Nothing = tt
   heard-by k Overflows = tt
   heard-by k (Does e) = effect-by k e
 
   pub received-by : (x : Letter) → By (received net s x h)
-  unfolding received
   received-by x = heard-by (x .link) (answer s x h)
 
   -- whatever the event
-  pub rule-by : (k : Kind) (b : ℕ) (x : Letter) → By (ruleOf net s k b x h .done)
+  pub rule-by : (k : Kind) (b : ℕ) (x : Letter) → By (doneBy net s h (ruleAt s k b x h .act))
+  unfolding doneBy stopped answer
   rule-by NoSuch b x = tt
   rule-by Start b x = started-by
   rule-by Stop b x = stopped-by

@@ -16,7 +16,7 @@ use Rattle.lists.proofs.Words.{zero-is-out, none-in}
 use Rattle.words.specs.Sets.{wordBy, upTo}
 use Rattle.words.proofs.WordLaws.{in-by, by-same}
 use Rattle.sending.specs.declared.Sending.{Sending}
-use Rattle.station.specs.Acts.{letter, onEach, tell}
+use Rattle.station.specs.Done.{letter, onEach, tell}
 use Rattle.station.specs.Values.{membersOf, parts, lettersOf}
 
 -- ---- lists of links

@@ -17,21 +17,15 @@ use Rattle.station.specs.declared.Heard.the-variants.{Gone, Nothing, Ove
 use Rattle.station.specs.declared.Kind.{Kind}
 use Rattle.station.specs.declared.Kind.the-variants.{NoSuch, Start, Stop, Recovery, IntervalEnd, TimeoutEnd, QuietEnd, Delivery, Loss}
 use Rattle.station.specs.Holding.{Holding, counter}
-use Rattle.station.specs.Acts.{answer, heardOn, received}
-use Rattle.station.specs.Events.{delivers, loses, takesLetter, heardCounts, isOver, isNotice, ruleOf}
+use Rattle.station.proofs.Doing.{answer, heardOn, received}
+use Rattle.station.specs.Events.{delivers, loses, takesLetter, raisedBy, isOver, isGone, isNotice, counting, ruleAt}
+use Rattle.station.specs.Acts.{heardAct}
 use Rattle.station.proofs.Answers.{heard, answer-gone, request-cases, reply-cases, notice-cases}
 
--- whatever the answer, a notice is settled
-settles : (n own : ℕ) (a : Heard) → heardCounts n own a .settled ≡ n
-settles n own Gone = refl
-settles n own Nothing = refl
-settles n own Overflows = refl
-settles n own (Does e) = refl
-
 -- a letter is dropped exactly if it is not heard
-module _ (n s : ℕ) (x : Letter) (h : Holding) where
+module _ (s : ℕ) (x : Letter) (h : Holding) where
   abbrev Says : Heard → Type 0
-  Says a = heardCounts n (counter h (x .link)) a .dropped ≡ bit (not (heard x h))
+  Says a = bit (isGone a) ≡ bit (not (heard x h))
 
   deaf : T (not (heard x h)) → 1 ≡ bit (not (heard x h))
   deaf t = sym (ap bit (T-is (not (heard x h)) t))
@@ -47,11 +41,12 @@ module _ (n s : ℕ) (x : Letter) (h : Holding) where
       (λ y. if-elim Says (eqb (counter h (x .link)) c) (λ z. hearing t) (λ z. hearing t)))
   gone-body (Notice j c) e = notice-cases s x h Says j c e deaf (λ t u. hearing t) (λ t u. hearing t)
 
-  pub dropped-unheard : heardCounts n (counter h (x .link)) (answer s x h) .dropped ≡ bit (not (heard x h))
+  pub dropped-unheard : bit (isGone (answer s x h)) ≡ bit (not (heard x h))
   dropped-unheard = gone-body (x .body) refl
 
-module _ (net : Network) (s b : ℕ) (x : Letter) (h : Holding) where
-  pub rule-settles : (k : Kind) → ruleOf net s k b x h .counts .settled ≡ (if takesLetter k then bit (isNotice (x .body)) else 0)
+module _ (s b : ℕ) (x : Letter) (h : Holding) where
+  pub rule-settles : (k : Kind) → ruleAt s k b x h .counts .settled ≡ (if takesLetter k then bit (isNotice (x .body)) else 0)
+  unfolding answer
   rule-settles NoSuch = refl
   rule-settles Start = refl
   rule-settles Stop = refl
@@ -59,10 +54,11 @@ module _ (net : Network) (s b : ℕ) (x : Letter) (h : Holding) where
   rule-settles IntervalEnd = refl
   rule-settles TimeoutEnd = refl
   rule-settles QuietEnd = refl
-  rule-settles Delivery = settles (bit (isNotice (x .body))) (counter h (x .link)) (answer s x h)
+  rule-settles Delivery = refl
   rule-settles Loss = refl
 
-  pub rule-drops : (k : Kind) → ruleOf net s k b x h .counts .dropped ≡ bit (loses k || (delivers k && not (heard x h)))
+  pub rule-drops : (k : Kind) → ruleAt s k b x h .counts .dropped ≡ bit (loses k || (delivers k && not (heard x h)))
+  unfolding answer
   rule-drops NoSuch = refl
   rule-drops Start = refl
   rule-drops Stop = refl
@@ -70,16 +66,16 @@ module _ (net : Network) (s b : ℕ) (x : Letter) (h : Holding) where
   rule-drops IntervalEnd = refl
   rule-drops TimeoutEnd = refl
   rule-drops QuietEnd = refl
-  rule-drops Delivery = dropped-unheard (bit (isNotice (x .body))) s x h
+  rule-drops Delivery = dropped-unheard s x h
   rule-drops Loss = refl
 
   -- event 7 where the letter is not heard is as event 8: the letter is gone, and nothing else happens
-  pub unheard-is-lost : T (not (heard x h)) → ruleOf net s Delivery b x h ≡ ruleOf net s Loss b x h
-  unfolding received
+  pub unheard-is-lost : T (not (heard x h)) → ruleAt s Delivery b x h ≡ ruleAt s Loss b x h
+  unfolding answer
   unheard-is-lost t =
       ap (λ (said : Heard). record {
         allowed = true;
         over = isOver said;
-        done = heardOn net s (x .link) h said;
-        counts = heardCounts (bit (isNotice (x .body))) (counter h (x .link)) said;
+        act = heardAct (h .condition) (x .link) (counter h (x .link)) said;
+        counts = counting (bit (isNotice (x .body))) (raisedBy (counter h (x .link)) said) (bit (isGone said));
       }) (answer-gone s x h t)

@@ -17,8 +17,9 @@ use Rattle.marks.specs.declared.Marks.{Marks}
 use Rattle.station.specs.declared.Condition.the-variants.{Live}
 use Rattle.station.specs.declared.Kind.the-variants.{TimeoutEnd}
 use Rattle.station.specs.Holding.{Holding, noMarks, setTurn, setTesting, setQuiet}
-use Rattle.station.specs.Acts.{Done, letter, openLinks, known, timeout, answer, effectOn, received}
-use Rattle.station.specs.Events.{ruleOf}
+use Rattle.station.specs.Done.{Done, letter, known, doneBy, ownLinks}
+use Rattle.station.proofs.Doing.{openLinks, timeout, answer, effectOn, received}
+use Rattle.station.specs.Events.{ruleAt}
 use Rattle.station.proofs.Cases.{bodyNumbers, letterNumbers, stands}
 
 pub record Trap : Type 0 where
@@ -43,13 +44,13 @@ seen d = d .holding .table ∷ map marksNumber (d .holding .marks) ∷ letterNum
 
 -- first: what stands before it is well formed and allows it
 timesOut : ℕ → Holding → List (List ℕ)
-unfolding line seen stands timeout openLinks purge
+unfolding line seen stands doneBy ownLinks purge
 timesOut k h =
-    let r = ruleOf line 1 TimeoutEnd k (letter 0 0 Request) h in
-    (bit (stands line 1 h && r .allowed) ∷ []) ∷ seen (r .done)
+    let r = ruleAt 1 TimeoutEnd k (letter 0 0 Request) h in
+    (bit (stands line 1 h && r .allowed) ∷ []) ∷ seen (doneBy line 1 h (r .act))
 
 hears : Holding → Letter → List (List ℕ)
-unfolding line seen stands letterHolds answer healed healing received effectOn openLinks known purge
+unfolding line seen stands letterHolds answer healed healing doneBy ownLinks known purge
 hears h x = (bit (stands line 1 h && letterHolds line x) ∷ []) ∷ seen (received line 1 x h)
 
 testing : Marks

@@ -1,18 +1,16 @@
--- What one station does: what it holds after an event or a letter, and the letters that it sends, in order.
--- The sentences are those of document 01, "The eight events" and the three kinds of letter. Which event does which of it: Events.antt.
+-- The rules of document 01, "The eight events" and the three kinds of letter, each said once: what an event does at the one station that
+-- it concerns, as an act. An act is carried out on what a station holds (Done.antt), and the code's plan is the same act in words
+-- (station_plan). Which event does which act, and when it may: Events.antt.
 use Prim.Native.Nat.{ℕ}
 use mathlib.Core.Bool.{Bool, true, false, not, _&&_, _||_}
-use mathlib.Core.List.{List, [], _∷_, _++_, map}
 use lib.Dec.{eqb, ltb}
-use Rattle.lists.specs.Lists.{if_then_else_, keep}
+use Rattle.lists.specs.Lists.{if_then_else_}
 use Rattle.net.specs.declared.Body.{Body}
 use Rattle.net.specs.declared.Body.the-variants.{Request, Reply, Notice}
 use Rattle.net.specs.declared.Letter.{Letter}
-use Rattle.net.specs.Network.{Network, isEnd, linkNumbers}
 use Rattle.counters.specs.declared.Healed.{Healed}
 use Rattle.counters.specs.declared.Healed.the-variants.{To, TooHigh}
 use Rattle.counters.specs.Counters.{even, odd, timedOut, healing, newer}
-use Rattle.reach.specs.Reach.{worksIn, purge}
 use Rattle.marks.specs.declared.Marks.{Marks}
 use Rattle.station.specs.declared.Condition.{Condition}
 use Rattle.station.specs.declared.Condition.the-variants.{Down, Waiting, Live}
@@ -20,19 +18,55 @@ use Rattle.station.specs.declared.Effect.{Effect}
 use Rattle.station.specs.declared.Effect.the-variants.{Defers, Answers, Heals, Levels, Equal, Takes}
 use Rattle.station.specs.declared.Heard.{Heard}
 use Rattle.station.specs.declared.Heard.the-variants.{Gone, Nothing, Overflows, Does}
-use Rattle.station.specs.Holding.{Holding, noMarks, counter, mark, isLive, setToken, setTurn, setTesting, setAsked, setQuiet, marked, tabled, counted}
+use Rattle.station.specs.Holding.{noMarks, isLive, setToken, setTurn, setTesting, setAsked, setQuiet}
 
--- what an act gives
-pub record Done : Type 0 where
-  pub holding : Holding
-  pub sent : List Letter
+-- ---- what an act says
+-- some of a station's links: one; its own links with such marks; those but one
+pub data Links : Type 0 where
+  theLink : ℕ → Links
+  allOwn : (Marks → Bool) → Links
+  otherOwn : ℕ → (Marks → Bool) → Links
 
-abbrev pub unchanged : Holding → Done
-unchanged h = record { holding = h; sent = [] }
+-- the marks: as they were; anew on one link; anew on every link, by whether it is an own one
+pub data Marking : Type 0 where
+  asBefore : Marking
+  onLink : ℕ → (Marks → Marks) → Marking
+  onEvery : (Bool → Marks → Marks) → Marking
+
+-- the counters: kept; all 1; one set, and then a purge or none
+pub data Tabling : Type 0 where
+  kept : Tabling
+  ones : Tabling
+  sets : ℕ → ℕ → Bool → Tabling
+
+-- the letters: none; a request on each of some links; a notice of one link with its counter on each; a notice of everything that is
+-- known on each; on one link the reply with a counter, and before it, if so, everything else that is known
+pub data Sends : Type 0 where
+  nothing : Sends
+  requests : Links → Sends
+  notices : ℕ → ℕ → Links → Sends
+  allKnown : Links → Sends
+  reply : Bool → ℕ → ℕ → Sends
+
+pub record Act : Type 0 where
+  pub condition : Condition
+  pub marks : Marking
+  pub table : Tabling
+  pub sends : Sends
+
+abbrev pub act : Condition → Marking → Tabling → Sends → Act
+act x m t l = record { condition = x; marks = m; table = t; sends = l }
+
+-- nothing is done
+abbrev pub idle : Condition → Act
+idle x = act x asBefore kept nothing
 
 -- ---- one link's marks
+-- an interval ends where the station is live and the link neither tests nor is quiet
+abbrev pub mayEnd : Condition → Marks → Bool
+mayEnd x m = isLive x && (not (m .testing) && not (m .quiet))
 
--- an interval's end: with token or turn a test begins, with neither turn comes on
+-- with token or turn a test begins, with neither turn comes on
 abbrev pub intervalTests : Marks → Bool
 intervalTests m = m .token || m .turn
 
@@ -46,6 +80,10 @@ intervalMarks m =
 abbrev pub testEnded : Marks → Marks
 testEnded m = if m .asked then setToken true (setAsked false (setTesting false m)) else setTesting false m
 
+-- and the link is kept quiet
+abbrev pub failed : Marks → Marks
+failed m = setQuiet true (testEnded m)
+
 -- a request that is answered: testing and asked off, token on, turn off
 abbrev pub requestedMarks : Marks → Marks
 requestedMarks m = setTurn false (setToken true (setAsked false (setTesting false m)))
@@ -54,18 +92,58 @@ requestedMarks m = setTurn false (setToken true (setAsked false (setTesting fals
 abbrev pub repliedMarks : Marks → Marks
 repliedMarks m = setAsked false (setTesting false m)
 
--- ---- letters
-abbrev pub letter : ℕ → ℕ → Body → Letter
-letter s k b = record { link = k; sender = s; body = b }
+-- a link that isn't quiet
+abbrev pub isOpen : Marks → Bool
+isOpen m = not (m .quiet)
 
--- the same on each of some links
-abbrev pub onEach : ℕ → Body → List ℕ → List Letter
-onEach s b ks = map (λ k. letter s k b) ks
+-- ---- 1. Start: it becomes waiting, token on for each own link
+abbrev pub startAct : Act
+startAct = act Waiting (onEvery (λ mine m. if mine then setToken true noMarks else noMarks)) kept nothing
 
--- a notice of each subject, with its counter, on each way
-abbrev pub tell : ℕ → (ℕ → ℕ) → List ℕ → List ℕ → List Letter
-tell s c [] ways = []
-tell s c (j ∷ subjects) ways = onEach s (Notice j (c j)) ways ++ tell s c subjects ways
+-- ---- 2. Stop: down, marks off, counters 1
+abbrev pub stopAct : Act
+stopAct = act Down (onEvery (λ mine m. noMarks)) ones nothing
+
+-- ---- 3. Recovery wait ends: live, and event 4's work on each own link, by number
+abbrev pub recoveryAct : Act
+recoveryAct = act Live (onEvery (λ mine m. if mine then intervalMarks m else m)) kept (requests (allOwn intervalTests))
+
+-- ---- in the condition x, on link k
+module _ (x : Condition) (k : ℕ) where
+  -- ---- 4. Interval ends, by the link's marks
+  abbrev pub intervalAct : Marks → Act
+  intervalAct m = act x (onLink k intervalMarks) kept (if intervalTests m then requests (theLink k) else nothing)
+
+  -- ---- 6. Quiet ends
+  abbrev pub quietAct : Act
+  quietAct = act x (onLink k (setQuiet false)) kept nothing
+
+  -- by the link's counter c
+  module _ (c : ℕ) where
+    -- ---- 5. Timeout ends. A link that worked is raised, told of on every other open link, and kept quiet; what is then out of reach is
+    -- purged
+    abbrev pub timeoutAct : Act
+    timeoutAct =
+        if even c then act x (onLink k failed) (sets k (timedOut c) true) (notices k (timedOut c) (otherOwn k isOpen))
+        else act x (onLink k testEnded) kept nothing
+
+    -- ---- 7. A letter that is heard, by what it does. A request: the higher-numbered of two testers only marks it; else all that is known
+    -- is told over a link that was down, and last comes the reply. A reply: one that heals tells all that is known, by the counters
+    -- after the raise and before the purge; one that levels tells this link. A notice goes on, not back
+    abbrev pub effectAct : Effect → Act
+    effectAct Defers = act x (onLink k (setAsked true)) kept nothing
+    effectAct Answers = act x (onLink k requestedMarks) kept (reply (odd c) k c)
+    effectAct (Heals new) = act x (onLink k repliedMarks) (sets k new true) (allKnown (allOwn isOpen))
+    effectAct (Levels new) = act x (onLink k repliedMarks) (sets k new false) (notices k new (allOwn isOpen))
+    effectAct Equal = act x (onLink k repliedMarks) kept nothing
+    effectAct (Takes j new) = act x asBefore (sets j new false) (notices j new (otherOwn k isOpen))
+
+    -- what is gone, has no effect or would overflow changes nothing
+    abbrev pub heardAct : Heard → Act
+    heardAct Gone = idle x
+    heardAct Nothing = idle x
+    heardAct Overflows = idle x
+    heardAct (Does e) = effectAct e
 
 -- ---- the receiver's answer to a letter
 -- a reply with c to a test at this own counter, by the new counter: if either of the two was odd it heals
@@ -85,7 +163,7 @@ bodyAnswer s p m own told (Notice j c) = if newer told c then Does (Takes j c) e
 
 -- a letter is gone where the receiver isn't live or is quiet there
 abbrev pub hears : Condition → Marks → Bool
-hears x m = isLive x && not (m .quiet)
+hears x m = isLive x && isOpen m
 
 abbrev pub answerBy : ℕ → Condition → Marks → ℕ → ℕ → Letter → Heard
 answerBy s x m own told l = if hears x m then bodyAnswer s (l .sender) m own told (l .body) else Gone
@@ -95,87 +173,3 @@ abbrev pub subjectOf : Body → ℕ
 subjectOf Request = 0
 subjectOf (Reply c) = 0
 subjectOf (Notice j c) = j
-
--- the answer of the station s, by what it holds
-unfoldable pub answer : ℕ → Letter → Holding → Heard
-answer s x h = answerBy s (h .condition) (mark h (x .link)) (counter h (x .link)) (counter h (subjectOf (x .body))) x
-
--- a list without k
-abbrev pub less : ℕ → List ℕ → List ℕ
-less k ks = keep (λ j. not (eqb j k)) ks
-
--- the station s of the network
-module _ (net : Network) (s : ℕ) where
-  -- its own links that aren't quiet, by number
-  unfoldable pub openLinks : Holding → List ℕ
-  openLinks h = keep (λ k. isEnd net k s && not (mark h k .quiet)) (linkNumbers net)
-
-  -- the links whose counter is above 1
-  unfoldable pub known : Holding → List ℕ
-  known h = keep (λ k. ltb 1 (counter h k)) (linkNumbers net)
-
-  abbrev pub purged : Holding → Holding
-  purged h = tabled (purge net (worksIn (h .table)) s (h .table)) h
-
-  -- ---- 1. Start: it becomes waiting, token on for each own link
-  unfoldable pub started : Holding → Done
-  started h =
-      unchanged (record { condition = Waiting; table = h .table; marks = map (λ k. if isEnd net k s then setToken true noMarks else noMarks) (linkNumbers net) })
-
-  -- ---- 2. Stop: down, marks off, counters 1
-  unfoldable pub stopped : Done
-  stopped = unchanged (record { condition = Down; table = map (λ k. 1) (linkNumbers net); marks = map (λ k. noMarks) (linkNumbers net) })
-
-  -- ---- 3. Recovery wait ends: live, and event 4's work on each own link, by number
-  unfoldable pub recovered : Holding → Done
-  recovered h =
-      record {
-        holding = record { condition = Live; table = h .table; marks = map (λ k. if isEnd net k s then intervalMarks (mark h k) else mark h k) (linkNumbers net) };
-        sent = onEach s Request (keep (λ k. isEnd net k s && intervalTests (mark h k)) (linkNumbers net));
-      }
-
-  -- ---- 4. Interval ends on link k
-  unfoldable pub interval : ℕ → Holding → Done
-  interval k h =
-      record { holding = marked k (intervalMarks (mark h k)) h; sent = if intervalTests (mark h k) then (letter s k Request ∷ []) else [] }
-
-  -- ---- 5. Timeout ends on link k. The notices carry the counter before the purge
-  unfoldable pub timeout : ℕ → Holding → Done
-  timeout k h =
-      let raised = counted k (timedOut (counter h k)) (marked k (setQuiet true (testEnded (mark h k))) h) in
-      if even (counter h k) then (record { holding = purged raised; sent = onEach s (Notice k (timedOut (counter h k))) (less k (openLinks h)) })
-      else unchanged (marked k (testEnded (mark h k)) h)
-
-  -- ---- 6. Quiet ends on link k
-  unfoldable pub spoken : ℕ → Holding → Done
-  spoken k h = unchanged (marked k (setQuiet false (mark h k)) h)
-
-  -- ---- 7. A letter that is heard on link k, by the receiver's answer
-  -- a reply to a test: testing and asked off, and the new counter
-  abbrev pub replied : ℕ → ℕ → Holding → Holding
-  replied k c h = counted k c (marked k (repliedMarks (mark h k)) h)
-
-  -- a request: the higher-numbered of two testers only marks it; else all that is known is told over a link that was down, and last
-  -- comes the reply. A reply: the notices carry the counters after the raise and before the purge. A notice goes on, not back
-  unfoldable pub effectOn : ℕ → Holding → Effect → Done
-  effectOn k h Defers = unchanged (marked k (setAsked true (mark h k)) h)
-  effectOn k h Answers =
-      record {
-        holding = marked k (requestedMarks (mark h k)) h;
-        sent = (if odd (counter h k) then tell s (counter h) (less k (known h)) (k ∷ []) else []) ++ (letter s k (Reply (counter h k)) ∷ []);
-      }
-  effectOn k h (Heals c) =
-      record { holding = purged (replied k c h); sent = tell s (counter (replied k c h)) (known (replied k c h)) (openLinks (replied k c h)) }
-  effectOn k h (Levels c) = record { holding = replied k c h; sent = onEach s (Notice k c) (openLinks (replied k c h)) }
-  effectOn k h Equal = unchanged (marked k (repliedMarks (mark h k)) h)
-  effectOn k h (Takes j c) = record { holding = counted j c h; sent = onEach s (Notice j c) (less k (openLinks h)) }
-
-  -- what is gone, has no effect or would overflow changes nothing
-  abbrev pub heardOn : ℕ → Holding → Heard → Done
-  heardOn k h Gone = unchanged h
-  heardOn k h Nothing = unchanged h
-  heardOn k h Overflows = unchanged h
-  heardOn k h (Does e) = effectOn k h e
-
-  unfoldable pub received : Letter → Holding → Done
-  received x h = heardOn (x .link) h (answer s x h)

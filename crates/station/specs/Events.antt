@@ -11,14 +11,18 @@ use Rattle.net.specs.declared.Body.the-variants.{Request, Reply, Notice}
 use Rattle.net.specs.declared.Letter.{Letter}
 use Rattle.net.specs.Network.{Network}
 use Rattle.counters.specs.Counters.{even}
+use Rattle.marks.specs.declared.Marks.{Marks}
+use Rattle.station.specs.declared.Condition.{Condition}
 use Rattle.station.specs.declared.Effect.{Effect}
 use Rattle.station.specs.declared.Effect.the-variants.{Defers, Answers, Heals, Levels, Equal, Takes}
 use Rattle.station.specs.declared.Heard.{Heard}
 use Rattle.station.specs.declared.Heard.the-variants.{Gone, Nothing, Overflows, Does}
 use Rattle.station.specs.declared.Kind.{Kind}
 use Rattle.station.specs.declared.Kind.the-variants.{NoSuch, Start, Stop, Recovery, IntervalEnd, TimeoutEnd, QuietEnd, Delivery, Loss}
-use Rattle.station.specs.Holding.{Holding, counter, mark, isLive, isWaiting, isDown}
-use Rattle.station.specs.Acts.{Done, unchanged, answer, started, stopped, recovered, interval, timeout, spoken, received}
+use Rattle.station.specs.Holding.{Holding, counter, mark, isWaiting, isDown}
+use Rattle.station.specs.Acts.{Act, idle, mayEnd, startAct, stopAct, recoveryAct, intervalAct, timeoutAct, quietAct, heardAct}
+use Rattle.station.specs.Acts.{answerBy, subjectOf}
+use Rattle.station.specs.Done.{Done, doneBy}
 
 -- ---- the kinds of event, by their numbers
 abbrev pub kindOf : ℕ → Kind
@@ -66,12 +70,25 @@ raisedEffect own (Levels c) = bit (ltb own c)
 raisedEffect own Equal = 0
 raisedEffect own (Takes j c) = 1
 
+abbrev pub raisedBy : ℕ → Heard → ℕ
+raisedBy own Gone = 0
+raisedBy own Nothing = 0
+raisedBy own Overflows = 0
+raisedBy own (Does e) = raisedEffect own e
+
 -- a reply that would make a counter 65,536
 abbrev pub isOver : Heard → Bool
 isOver Gone = false
 isOver Nothing = false
 isOver Overflows = true
 isOver (Does e) = false
+
+-- a letter that is dropped: the receiver isn't live or is quiet there
+abbrev pub isGone : Heard → Bool
+isGone Gone = true
+isGone Nothing = false
+isGone Overflows = false
+isGone (Does e) = false
 
 -- a letter taken off that is a notice is settled
 abbrev pub isNotice : Body → Bool
@@ -82,59 +99,69 @@ isNotice (Notice j c) = true
 abbrev pub counting : ℕ → ℕ → ℕ → Tally
 counting settled raised dropped = record { settled = settled; raised = raised; dropped = dropped }
 
--- a letter, by the receiver's answer: it is dropped where the receiver isn't live or is quiet there
-abbrev pub heardCounts : ℕ → ℕ → Heard → Tally
-heardCounts settled own Gone = counting settled 0 1
-heardCounts settled own Nothing = counting settled 0 0
-heardCounts settled own Overflows = counting settled 0 0
-heardCounts settled own (Does e) = counting settled (raisedEffect own e) 0
-
 -- ---- the eight events: what the station's condition and marks must allow (7), whether a counter would be 65,536 (8), what is done, and
 -- what is counted
 pub record Rule : Type 0 where
   pub allowed : Bool
   pub over : Bool
-  pub done : Done
+  pub act : Act
   pub counts : Tally
 
 -- one that only the station's condition or marks refuse
-abbrev pub acts : Bool → Done → ℕ → Rule
-acts allowed d raised = record { allowed = allowed; over = false; done = d; counts = counting 0 raised 0 }
+abbrev pub acts : Bool → Act → ℕ → Rule
+acts allowed a raised = record { allowed = allowed; over = false; act = a; counts = counting 0 raised 0 }
+
+-- at the station s in the condition x, on link k, which has the marks m and the counter c; l is the letter, and told the counter of the
+-- link that it tells of
+module _ (s k : ℕ) (l : Letter) (x : Condition) (m : Marks) (c told : ℕ) where
+  abbrev pub ruleOf : Kind → Rule
+  ruleOf NoSuch = acts true (idle x) 0
+  ruleOf Start = acts (isDown x) startAct 0
+  ruleOf Stop = acts (not (isDown x)) stopAct 0
+  ruleOf Recovery = acts (isWaiting x) recoveryAct 0
+  ruleOf IntervalEnd = acts (mayEnd x m) (intervalAct x k m) 0
+  ruleOf TimeoutEnd = acts (m .testing) (timeoutAct x k c) (bit (even c))
+  ruleOf QuietEnd = acts (m .quiet) (quietAct x k) 0
+  ruleOf Delivery =
+      let said = answerBy s x m c told l in
+      record { allowed = true; over = isOver said; act = heardAct x k c said; counts = counting (bit (isNotice (l .body))) (raisedBy c said) (bit (isGone said)) }
+  ruleOf Loss = record { allowed = true; over = false; act = idle x; counts = counting (bit (isNotice (l .body))) 0 1 }
 
 -- ---- what an event comes to: the number that says no, or 0 and what is done and counted
+pub record Due : Type 0 where
+  pub number : ℕ
+  pub act : Act
+  pub counts : Tally
+
+-- refused: nothing is done
+abbrev pub refusing : ℕ → Condition → Due
+refusing n x = record { number = n; act = idle x; counts = counting 0 0 0 }
+
+-- by whether there is what the event names (6), and the rule
+unfoldable pub dueOf : Bool → Rule → Condition → Due
+dueOf there r x =
+    if not there then refusing 6 x
+    else (if not (r .allowed) then refusing 7 x
+    else (if r .over then refusing 8 x
+    else record { number = 0; act = r .act; counts = r .counts }))
+
+-- ---- the same where the station s of a network holds h: the event names the link b, or the letter l came on its link
+abbrev pub linkOf : Kind → ℕ → Letter → ℕ
+linkOf e b l = if takesLetter e then l .link else b
+
+abbrev pub ruleAt : ℕ → Kind → ℕ → Letter → Holding → Rule
+ruleAt s e b l h =
+    let k = linkOf e b l in
+    ruleOf s k l (h .condition) (mark h k) (counter h k) (counter h (subjectOf (l .body))) e
+
+-- carried out
 pub record Comes : Type 0 where
   pub number : ℕ
   pub done : Done
   pub counts : Tally
 
--- refused: nothing is done
-abbrev pub refusing : ℕ → Holding → Comes
-refusing n h = record { number = n; done = unchanged h; counts = counting 0 0 0 }
+abbrev pub comesOf : Network → ℕ → Holding → Due → Comes
+comesOf net s h d = record { number = d .number; done = doneBy net s h (d .act); counts = d .counts }
 
--- by whether there is what the event names (6), and the rule
-unfoldable pub comesTo : Bool → Rule → Holding → Comes
-comesTo there r h =
-    if not there then refusing 6 h
-    else (if not (r .allowed) then refusing 7 h
-    else (if r .over then refusing 8 h
-    else record { number = 0; done = r .done; counts = r .counts }))
-
--- at the station s, on link b or with the letter x
-module _ (net : Network) (s : ℕ) where
-  abbrev pub ruleOf : Kind → ℕ → Letter → Holding → Rule
-  ruleOf NoSuch b x h = acts true (unchanged h) 0
-  ruleOf Start b x h = acts (isDown (h .condition)) (started net s h) 0
-  ruleOf Stop b x h = acts (not (isDown (h .condition))) (stopped net s) 0
-  ruleOf Recovery b x h = acts (isWaiting (h .condition)) (recovered net s h) 0
-  ruleOf IntervalEnd b x h = acts (isLive (h .condition) && (not (mark h b .testing) && not (mark h b .quiet))) (interval net s b h) 0
-  ruleOf TimeoutEnd b x h = acts (mark h b .testing) (timeout net s b h) (bit (even (counter h b)))
-  ruleOf QuietEnd b x h = acts (mark h b .quiet) (spoken net s b h) 0
-  ruleOf Delivery b x h =
-      let said = answer s x h in
-      record {
-        allowed = true;
-        over = isOver said;
-        done = received net s x h;
-        counts = heardCounts (bit (isNotice (x .body))) (counter h (x .link)) said;
-      }
-  ruleOf Loss b x h = record { allowed = true; over = false; done = unchanged h; counts = counting (bit (isNotice (x .body))) 0 1 }
+unfoldable pub comesTo : Network → ℕ → Bool → Rule → Holding → Comes
+comesTo net s there r h = comesOf net s h (dueOf there r (h .condition))

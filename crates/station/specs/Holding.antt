@@ -2,7 +2,7 @@
 -- Assumes nothing.
 use Prim.Native.Nat.{ℕ}
 use mathlib.Core.Bool.{Bool, true, false, not, _&&_, _||_}
-use mathlib.Core.List.{List}
+use mathlib.Core.List.{List, []}
 use lib.Dec.{eqb}
 use lib.ListN.{length, getD, set}
 use Rattle.lists.specs.Lists.{every}
@@ -20,6 +20,10 @@ pub record Holding : Type 0 where
 
 abbrev pub noMarks : Marks
 noMarks = record { token = false; turn = false; testing = false; asked = false; quiet = false }
+
+-- a station that is not there
+abbrev pub nobody : Holding
+nobody = record { condition = Down; table = []; marks = [] }
 
 abbrev pub counter : Holding → ℕ → ℕ
 counter h k = counterIn (h .table) k

@@ -17,7 +17,7 @@ use Rattle.station.specs.declared.Station.{Station}
 use Rattle.sending.specs.declared.Sending.{Sending}
 use Rattle.station.specs.declared.Condition.the-variants.{Down}
 use Rattle.station.specs.Holding.{Holding}
-use Rattle.station.specs.Acts.{letter, onEach, tell}
+use Rattle.station.specs.Done.{letter, onEach, tell}
 
 -- what a station value holds
 unfoldable pub holdingOf : Net → Station → Holding

@@ -1,3 +1,3 @@
-pub mod Ways
-pub mod Like
-pub mod Acting
+mod Sets
+mod Carried
+pub mod Laws

@@ -1,2 +1,4 @@
+pub mod Carrying
 pub mod Plans
 pub mod Planned
+pub mod Comes

@@ -1,5 +1,5 @@
 -- What a plan must say of what an event comes to: that what it makes of the station and what it sends is what is done, by the
--- definitions of station. The plan of each event, and that it says so: plan_rules.
+-- definitions of station. That the plan of each event says so: proofs/Laws.antt.
 use Prim.Native.Nat.{ℕ}
 use mathlib.Core.Path.{_≡_}
 use lib.ListN.{length}
@@ -8,7 +8,7 @@ use Rattle.net.specs.declared.Net.{Net}
 use Rattle.marks.specs.declared.Words.{Words}
 use Rattle.station.specs.declared.Condition.{Condition}
 use Rattle.station.specs.declared.Station.{Station}
-use Rattle.station.specs.Acts.{Done}
+use Rattle.station.specs.Done.{Done}
 use Rattle.station.specs.Events.{Comes}
 use Rattle.station.specs.Values.{laid}
 use Rattle.station_plan.specs.declared.Plan.{Plan}

@@ -19,7 +19,7 @@ use Rattle.net.specs.Letters.{letterHolds, bodyHolds}
 use Rattle.station.specs.declared.Kind.{Kind}
 use Rattle.station.specs.declared.Kind.the-variants.{NoSuch, Start, Stop, Recovery, IntervalEnd, TimeoutEnd, QuietEnd, Delivery, Loss}
 use Rattle.station.specs.Holding.{Holding, holdingHolds}
-use Rattle.station.specs.Acts.{stopped}
+use Rattle.station.specs.Done.{stopped}
 use Rattle.station.specs.Events.{kindOf, takesLetter}
 use Rattle.station.proofs.Keeps.{Kept, stopped-keeps}
 use Rattle.station.proofs.Rules as R

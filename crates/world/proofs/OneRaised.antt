@@ -51,4 +51,4 @@ pub one-raised : (w : World) (e : Event) (v : World) → Formed w → step w e �
 unfolding rule
 one-raised w e v f q =
     subst⁻¹ (λ (n : ℕ). n ≤ 1) (raised-is w e v f q)
-    (rule-one (w .net) (concerned w e) (kindOf (e .kind)) (e .b) (letterAt w (e .a)) (holdingAt w (concerned w e)))
+    (rule-one (concerned w e) (kindOf (e .kind)) (e .b) (letterAt w (e .a)) (holdingAt w (concerned w e)))

@@ -12,7 +12,9 @@ use Rattle.lists.specs.Lists.{if_then_else_}
 use Rattle.lists.proofs.Tests.{T-is, T-not-is, if-elim}
 use Rattle.station.specs.Holding.{Holding, isLive}
 use Rattle.station.specs.declared.Kind.the-variants.{Delivery}
-use Rattle.station.specs.Events.{Rule, Comes, refusing, comesTo}
+use Rattle.station.specs.Events.{Rule, Comes, comesTo}
+use Rattle.station.specs.Done.{doneBy}
+use Rattle.station.proofs.Doing.{refusedWith}
 use Rattle.station.proofs.Answers.{heard}
 use Rattle.station.proofs.Tallies as Tallies
 use Rattle.station.proofs.Rules as R
@@ -45,12 +47,12 @@ module _ (w : World) (e : Event) where
 
   refusal-by : {n : ℕ} → R.Why (exists w e) (rule w e) n → refusal w e ≡ numbered n
   unfolding refusal comes
-  refusal-by y = ap numbered (why-comes (exists w e) (rule w e) there y)
+  refusal-by y = ap numbered (why-comes (exists w e) (rule w e) (w .net) (concerned w e) there y)
 
   -- only then: the number is given for its reason
   pub refusal-why : Why (refusal w e)
   unfolding refusal comes
-  refusal-why = why-by (comes-why (exists w e) (rule w e) there)
+  refusal-why = why-by (comes-why (exists w e) (rule w e) (w .net) (concerned w e) there)
 
   -- when: where the reason holds, the number is given
   pub why-refusal : {n : ℕ} → Why n → refusal w e ≡ n
@@ -80,13 +82,13 @@ module _ (w : World) (e : Event) where
     pub exists : T (exists w e)
     pub allowed : T (allowed w e)
     pub holds : T (not (over w e))
-    pub done : comes w e .done ≡ rule w e .done
+    pub done : comes w e .done ≡ doneBy (w .net) (concerned w e) (holdingAt w (concerned w e)) (rule w e .act)
     pub counts : comes w e .counts ≡ rule w e .counts
 
   passes-by : {n : ℕ} → R.Why (exists w e) (rule w e) n → n ≡ 0 → Passes
   unfolding comes
   passes-by (R.none p q o) z =
-      let c = comes-done (exists w e) (rule w e) there p q o in
+      let c = comes-done (exists w e) (rule w e) (w .net) (concerned w e) there p q o in
       record { exists = p; allowed = q; holds = o; done = ap (λ (x : Comes). x .done) c; counts = ap (λ (x : Comes). x .counts) c }
   passes-by (R.six p) z = absurd (omega arith)
   passes-by (R.seven p q) z = absurd (omega arith)
@@ -94,7 +96,7 @@ module _ (w : World) (e : Event) where
 
   pub passes : comes w e .number ≡ 0 → Passes
   unfolding comes
-  passes z = passes-by (comes-why (exists w e) (rule w e) there) z
+  passes z = passes-by (comes-why (exists w e) (rule w e) (w .net) (concerned w e) there) z
 
   number-by : {n : ℕ} → R.Why (exists w e) (rule w e) n → numbered n ≡ 0 → n ≡ 0
   number-by (R.none p q o) z = refl
@@ -105,12 +107,12 @@ module _ (w : World) (e : Event) where
   -- every accepted event is such a one
   pub accepted-passes : refusal w e ≡ 0 → comes w e .number ≡ 0
   unfolding refusal comes
-  accepted-passes z = number-by (comes-why (exists w e) (rule w e) there) z
+  accepted-passes z = number-by (comes-why (exists w e) (rule w e) (w .net) (concerned w e) there) z
 
   -- there is no such thing: 6, whatever station was looked at, and nothing is done
-  pub absent-six : T (not (exists w e)) → comes w e ≡ refusing 6 (holdingAt w (concerned w e))
+  pub absent-six : T (not (exists w e)) → comes w e ≡ refusedWith 6 (holdingAt w (concerned w e))
   unfolding comes
-  absent-six n = R.comes-six (exists w e) (rule w e) there n
+  absent-six n = R.comes-six (exists w e) (rule w e) (w .net) (concerned w e) there n
 
   -- ---- the step by its number
   pub step-accepts : refusal w e ≡ 0 → step w e ≡ accepted (after w e)
@@ -139,7 +141,7 @@ module _ (w : World) (e : Event) where
     pub exists : T (exists w e)
     pub allowed : T (allowed w e)
     pub holds : T (not (over w e))
-    pub done : comes w e .done ≡ rule w e .done
+    pub done : comes w e .done ≡ doneBy (w .net) (concerned w e) (holdingAt w (concerned w e)) (rule w e .act)
     pub counts : comes w e .counts ≡ rule w e .counts
     pub room : length (after w e .letters) ≤ 4096
 
@@ -190,8 +192,8 @@ module _ (w : World) (a b : ℕ) where
 
   pub unheard-is-lost : T deaf → comes w (record { kind = 7; a = a; b = b }) ≡ comes w (record { kind = 8; a = a; b = b })
   unfolding comes exists rule concerned
-  unheard-is-lost t = ap (λ (r : Rule). comesTo (existsAs Delivery (w .net) (length (w .letters)) a b) r (holdingAt w to))
-      (Tallies.unheard-is-lost (w .net) to b (letterAt w a) (holdingAt w to) t)
+  unheard-is-lost t = ap (λ (r : Rule). comesTo (w .net) to (existsAs Delivery (w .net) (length (w .letters)) a b) r (holdingAt w to))
+      (Tallies.unheard-is-lost to b (letterAt w a) (holdingAt w to) t)
 
   pub unheard-leaves : T deaf → after w (record { kind = 7; a = a; b = b }) ≡ after w (record { kind = 8; a = a; b = b })
   unfolding after left concerned

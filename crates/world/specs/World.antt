@@ -16,12 +16,12 @@ use Rattle.sheet_rules.specs.Rules.{sheetHolds}
 use Rattle.net.specs.Letters.{letterHolds}
 use Rattle.reach.specs.Reach.{worksIn, reach, countOf, lowestOf, report}
 use Rattle.showing.specs.declared.Reached.{Reached}
-use Rattle.station.specs.declared.Condition.the-variants.{Down}
 use Rattle.station.specs.declared.Kind.{Kind}
 use Rattle.station.specs.declared.Kind.the-variants.{NoSuch, Start, Stop, Recovery, IntervalEnd, TimeoutEnd, QuietEnd, Delivery, Loss}
 use Rattle.station.specs.Holding.{Holding, counter, isLive, holdingHolds}
-use Rattle.station.specs.Acts.{stopped}
-use Rattle.station.specs.Events.{kindOf, takesLetter, isNotice, Rule, ruleOf, Comes, comesTo}
+pub use Rattle.station.specs.Holding.{nobody}
+use Rattle.station.specs.Done.{stopped}
+use Rattle.station.specs.Events.{kindOf, takesLetter, isNotice, Rule, ruleAt, Comes, comesTo}
 
 -- what there is at one moment: what each station holds, and the letters in flight in their order
 pub record World : Type 0 where
@@ -34,10 +34,7 @@ pub record Event : Type 0 where
   pub a : ℕ
   pub b : ℕ
 
--- a station or a letter that is not there
-abbrev pub nobody : Holding
-nobody = record { condition = Down; table = []; marks = [] }
-
+-- a letter that is not there
 abbrev pub noLetter : Letter
 noLetter = record { link = 0; sender = 0; body = Request }
 
@@ -78,7 +75,7 @@ concerned w e = concernedBy (kindOf (e .kind)) (w .net) (e .a) (letterAt w (e .a
 
 -- ---- what it comes to there: 7, 8, or what is done
 unfoldable pub rule : World → Event → Rule
-rule w e = ruleOf (w .net) (concerned w e) (kindOf (e .kind)) (e .b) (letterAt w (e .a)) (holdingAt w (concerned w e))
+rule w e = ruleAt (concerned w e) (kindOf (e .kind)) (e .b) (letterAt w (e .a)) (holdingAt w (concerned w e))
 
 abbrev pub allowed : World → Event → Bool
 allowed w e = rule w e .allowed
@@ -87,7 +84,7 @@ abbrev pub over : World → Event → Bool
 over w e = rule w e .over
 
 unfoldable pub comes : World → Event → Comes
-comes w e = comesTo (exists w e) (rule w e) (holdingAt w (concerned w e))
+comes w e = comesTo (w .net) (concerned w e) (exists w e) (rule w e) (holdingAt w (concerned w e))
 
 -- ---- the world after it: the station stored; a letter that is delivered or lost leaves the list, the later ones close up, and new
 -- letters go to the end

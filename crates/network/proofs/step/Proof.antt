@@ -14,10 +14,10 @@ use Rattle.lists.proofs.Rooms.{closing-none, closing-more}
 use Rattle.net.specs.declared.Letter.{Letter}
 use Rattle.net.specs.Values.{networkOf}
 use Rattle.station.specs.declared.Kind.{Kind}
-use Rattle.station.specs.Events.{takesLetter}
-use Rattle.plan_rules.specs.Comes.{EventPlans}
+use Rattle.station.specs.Events.{takesLetter, linkOf}
+use Rattle.station_plan.specs.Comes.{EventPlans}
 use Rattle.world.specs.World.{noLetter, existsAs, concernedBy}
-use Rattle.network.specs.Concerned.{inRoom, linkBy}
+use Rattle.network.specs.Concerned.{inRoom}
 use Rattle.state.specs.declared.State.{State}
 use Rattle.state.specs.State.{letterIn, stationIn}
 use Rattle.posting.specs.Post.{posted, Going}
@@ -72,7 +72,7 @@ facts c =
         at = c .before .before .before .before .before .before .before .before .before .before .before .before .before .before .before .before .before .place-of .ensures;
         who = c .before .before .before .before .before .before .before .before .before .before .before .before .before .before .before .concerned .ensures ∙ ap (λ (e : Kind). inRoom (concernedBy e (networkOf (a .t1 .net)) (a .a) x)) k;
         names = c .before .before .before .before .before .before .before .before .before .before .before .before .before .before .there .ensures ∙ ap (λ (e : Kind). existsAs e (networkOf (a .t1 .net)) (a .t1 .flying) (a .a) (a .b)) k;
-        link = c .before .before .before .before .before .before .before .before .before .before .before .before .before .link-of .ensures ∙ ap (λ (e : Kind). linkBy e (a .b) x % 64) k;
+        link = c .before .before .before .before .before .before .before .before .before .before .before .before .before .link-of .ensures ∙ ap (λ (e : Kind). linkOf e (a .b) x % 64) k;
         subject = c .before .before .before .before .before .before .before .before .before .before .before .before .subject-of .ensures;
         mine = c .before .before .before .before .before .before .before .before .before .before .before .own-links .ensures;
         plans = subst (λ (e : Kind). EventPlans (c .before .before .before .before .before .before .before .before .before .before .before .before .before .before .there .result) e (c .before .before .before .before .before .before .before .before .before .before .before .own-links .result) (c .before .before .before .before .before .before .before .before .before .before .before .before .before .before .before .concerned .result) (c .before .before .before .before .before .before .before .before .before .before .before .before .before .link-of .result) x (getD (st .counters) (c .before .before .before .before .before .before .before .before .before .before .before .before .before .link-of .result) 0) (getD (st .counters) (c .before .before .before .before .before .before .before .before .before .before .before .before .subject-of .result) 0) (st .condition) (st .marks) (c .before .before .before .before .before .before .before .plan-event .result)) k (c .before .before .before .before .before .before .before .plan-event .ensures .1);

@@ -8,9 +8,6 @@ use Rattle.planning.proofs.plan_interval.Tie as tie
 marks-at-requires : tie.Need-marks-at-requires
 marks-at-requires c κs = search needs
 
-is-live-requires : tie.Need-is-live-requires
-is-live-requires c κs = search needs
-
 may-end-requires : tie.Need-may-end-requires
 may-end-requires c κs = search needs
 
@@ -19,8 +16,8 @@ staying-requires c κs = search needs
 
 returns : tie.Need-returns
 returns c =
-    let a = c .before .before .before .before .before .args in
-    interval-refused (a .k) (a .condition) (a .w) _ _ _ (c .before .before .before .is-live .ensures) (c .before .before .before .before .marks-at .ensures) (c .before .before .may-end .ensures) _ (not-true _ (c .before .if1 .taken)) (c .staying .ensures)
+    let a = c .before .before .before .before .args in
+    interval-refused (a .condition) (a .w) (a .k) _ _ (c .before .before .before .marks-at .ensures) (c .before .before .may-end .ensures) _ (not-true _ (c .before .if1 .taken)) (c .staying .ensures)
 
 tests-now-requires : tie.Need-tests-now-requires
 tests-now-requires c κs = search needs
@@ -39,16 +36,16 @@ turning-requires c κs = search needs
 
 returns-2 : tie.Need-returns-2
 returns-2 c =
-    let a = c .before .before .before .before .before .before .before .before .before .args in
-    interval-done (a .k) (a .condition) (a .w) _ _ _ (c .before .before .before .before .before .before .before .is-live .ensures) (c .before .before .before .before .before .before .before .before .marks-at .ensures) (c .before .before .before .before .before .before .may-end .ensures) _ _ _ _ _ (not-false _ (c .before .before .before .before .before .if1 .left))
-    (c .before .before .before .before .tests-now .ensures) (c .before .before .before .put .ensures) (c .before .before .interval-marks .ensures) (c .before .with-marks .ensures) (c .turning .ensures)
+    let a = c .before .before .before .before .before .before .before .before .args in
+    interval-done (a .condition) (a .w) (a .k) _ _ (c .before .before .before .before .before .before .before .marks-at .ensures) (c .before .before .before .before .before .before .may-end .ensures) _ _ _ _ _
+    (not-false _ (c .before .before .before .before .before .if1 .left)) (c .before .before .before .before .tests-now .ensures) (c .before .before .before .put .ensures) (c .before .before .interval-marks .ensures)
+    (c .before .with-marks .ensures) (c .turning .ensures)
 
 pub plan-interval-spec : {M : Type 1} → statement M
 plan-interval-spec =
     tie.close
     (tie.spec
     marks-at-requires
-    is-live-requires
     may-end-requires
     staying-requires
     returns

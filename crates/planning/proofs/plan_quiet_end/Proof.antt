@@ -1,6 +1,8 @@
-use mathlib.Core.Path.{sym, _∙_, ap}
+use mathlib.Core.Path.{sym, _∙_}
 use borrow.Author.Tests.{not-true, not-false}
 use borrow.Author.Needs.{needs}
+use Rattle.station.specs.declared.Kind.the-variants.{QuietEnd}
+use Rattle.planning.proofs.Small.{refused, quiet-done}
 use Rattle.planning.proofs.plan_quiet_end.Statement.{statement}
 use Rattle.planning.proofs.plan_quiet_end.Tie as tie
 
@@ -11,7 +13,9 @@ staying-requires : tie.Need-staying-requires
 staying-requires c κs = search needs
 
 returns : tie.Need-returns
-returns c = rw (sym (c .before .before .has .ensures) ∙ not-true _ (c .before .if1 .taken)) (c .staying .ensures)
+returns c =
+    let a = c .before .before .before .args in
+    refused QuietEnd 0 (a .k) 0 (a .condition) (a .w) _ (sym (c .before .before .has .ensures) ∙ not-true _ (c .before .if1 .taken)) (c .staying .ensures)
 
 loud-words-requires : tie.Need-loud-words-requires
 loud-words-requires c κs = search needs
@@ -20,7 +24,9 @@ turning-requires : tie.Need-turning-requires
 turning-requires c κs = search needs
 
 returns-2 : tie.Need-returns-2
-returns-2 c = rw (sym (c .before .before .before .has .ensures) ∙ not-false _ (c .before .before .if1 .left)) (rw (sym (c .before .loud-words .ensures)) (c .turning .ensures))
+returns-2 c =
+    let a = c .before .before .before .before .args in
+    quiet-done (a .condition) (a .w) (a .k) _ _ (sym (c .before .before .before .has .ensures) ∙ not-false _ (c .before .before .if1 .left)) (c .before .loud-words .ensures) (c .turning .ensures)
 
 pub plan-quiet-end-spec : {M : Type 1} → statement M
 plan-quiet-end-spec =

@@ -1,6 +1,8 @@
 use mathlib.Core.Path.{sym, _∙_}
 use borrow.Author.Tests.{not-true, not-false}
 use borrow.Author.Needs.{needs}
+use Rattle.station.specs.declared.Kind.the-variants.{Recovery}
+use Rattle.planning.proofs.Small.{refused, recovery-done}
 use Rattle.planning.proofs.plan_recovery.Statement.{statement}
 use Rattle.planning.proofs.plan_recovery.Tie as tie
 
@@ -11,7 +13,9 @@ staying-requires : tie.Need-staying-requires
 staying-requires c κs = search needs
 
 returns : tie.Need-returns
-returns c = rw (sym (c .before .before .is-waiting .ensures) ∙ not-true _ (c .before .if1 .taken)) (c .staying .ensures)
+returns c =
+    let a = c .before .before .before .args in
+    refused Recovery (a .own) 0 0 (a .condition) (a .w) _ (sym (c .before .before .is-waiting .ensures) ∙ not-true _ (c .before .if1 .taken)) (c .staying .ensures)
 
 tests-on-requires : tie.Need-tests-on-requires
 tests-on-requires c κs = search needs
@@ -23,7 +27,9 @@ turning-requires : tie.Need-turning-requires
 turning-requires c κs = search needs
 
 returns-2 : tie.Need-returns-2
-returns-2 c = rw (sym (c .before .before .before .before .is-waiting .ensures) ∙ not-false _ (c .before .before .before .if1 .left)) (rw (sym (c .before .recovered-words .ensures)) (rw (sym (c .before .before .tests-on .ensures)) (c .turning .ensures)))
+returns-2 c =
+    let a = c .before .before .before .before .before .args in
+    recovery-done (a .condition) (a .w) (a .own) _ _ _ (sym (c .before .before .before .before .is-waiting .ensures) ∙ not-false _ (c .before .before .before .if1 .left)) (c .before .recovered-words .ensures) (c .before .before .tests-on .ensures) (c .turning .ensures)
 
 pub plan-recovery-spec : {M : Type 1} → statement M
 plan-recovery-spec =

@@ -1,6 +1,8 @@
 use mathlib.Core.Path.{sym, _∙_}
 use borrow.Author.Tests.{not-true, not-false}
 use borrow.Author.Needs.{needs}
+use Rattle.station.specs.declared.Kind.the-variants.{Start}
+use Rattle.planning.proofs.Small.{refused, start-done}
 use Rattle.planning.proofs.plan_start.Statement.{statement}
 use Rattle.planning.proofs.plan_start.Tie as tie
 
@@ -11,13 +13,17 @@ staying-requires : tie.Need-staying-requires
 staying-requires c κs = search needs
 
 returns : tie.Need-returns
-returns c = rw (sym (c .before .before .is-down .ensures) ∙ not-true _ (c .before .if1 .taken)) (c .staying .ensures)
+returns c =
+    let a = c .before .before .before .args in
+    refused Start (a .own) 0 0 (a .condition) (a .w) _ (sym (c .before .before .is-down .ensures) ∙ not-true _ (c .before .if1 .taken)) (c .staying .ensures)
 
 turning-requires : tie.Need-turning-requires
 turning-requires c κs = search needs
 
 returns-2 : tie.Need-returns-2
-returns-2 c = rw (sym (c .before .before .is-down .ensures) ∙ not-false _ (c .before .if1 .left)) (c .turning .ensures)
+returns-2 c =
+    let a = c .before .before .before .args in
+    start-done (a .own) (search needs) (a .w) (a .condition) _ (sym (c .before .before .is-down .ensures) ∙ not-false _ (c .before .if1 .left)) (c .turning .ensures)
 
 pub plan-start-spec : {M : Type 1} → statement M
 plan-start-spec =

@@ -1,5 +1,8 @@
-use mathlib.Core.Path.{sym, _∙_}
+use mathlib.Core.Bool.{not}
+use mathlib.Core.Path.{sym, ap, _∙_}
 use borrow.Author.Needs.{needs}
+use Rattle.station.specs.declared.Kind.the-variants.{Stop}
+use Rattle.planning.proofs.Small.{refused, stop-done}
 use Rattle.planning.proofs.plan_stop.Statement.{statement}
 use Rattle.planning.proofs.plan_stop.Tie as tie
 
@@ -10,13 +13,17 @@ staying-requires : tie.Need-staying-requires
 staying-requires c κs = search needs
 
 returns : tie.Need-returns
-returns c = rw (sym (c .before .before .is-down .ensures) ∙ c .before .if1 .taken) (c .staying .ensures)
+returns c =
+    let a = c .before .before .before .args in
+    refused Stop 0 0 0 (a .condition) (a .w) _ (ap not (sym (c .before .before .is-down .ensures) ∙ c .before .if1 .taken)) (c .staying .ensures)
 
 turning-requires : tie.Need-turning-requires
 turning-requires c κs = search needs
 
 returns-2 : tie.Need-returns-2
-returns-2 c = rw (sym (c .before .before .is-down .ensures) ∙ c .before .if1 .left) (c .turning .ensures)
+returns-2 c =
+    let a = c .before .before .before .args in
+    stop-done (a .condition) (a .w) _ (sym (c .before .before .is-down .ensures) ∙ c .before .if1 .left) (c .turning .ensures)
 
 pub plan-stop-spec : {M : Type 1} → statement M
 plan-stop-spec =

@@ -1,4 +1,5 @@
-use Rattle.planning.proofs.Small.{timeout-odd, timeout-even}
+use Rattle.planning.proofs.Small.{refused, timeout-odd, timeout-even}
+use Rattle.station.specs.declared.Kind.the-variants.{TimeoutEnd}
 use mathlib.Core.Path.{sym, _∙_}
 use borrow.Author.Tests.{not-true, not-false}
 use borrow.Author.Needs.{needs}
@@ -12,7 +13,9 @@ staying-requires : tie.Need-staying-requires
 staying-requires c κs = search needs
 
 returns : tie.Need-returns
-returns c = rw (sym (c .before .before .has .ensures) ∙ not-true _ (c .before .if1 .taken)) (c .staying .ensures)
+returns c =
+    let a = c .before .before .before .args in
+    refused TimeoutEnd (a .own) (a .k) (a .c) (a .condition) (a .w) _ (sym (c .before .before .has .ensures) ∙ not-true _ (c .before .if1 .taken)) (c .staying .ensures)
 
 is-even-requires : tie.Need-is-even-requires
 is-even-requires c κs = search needs
@@ -26,7 +29,7 @@ turning-requires c κs = search needs
 returns-2 : tie.Need-returns-2
 returns-2 c =
     let a = c .before .before .before .before .before .before .args in
-    timeout-odd (a .k) (a .condition) (a .w) (a .own) (a .c) _ (sym (c .before .before .before .before .before .has .ensures) ∙ not-false _ (c .before .before .before .before .if1 .left))
+    timeout-odd (a .condition) (a .w) (a .k) (a .own) (a .c) _ (sym (c .before .before .before .before .before .has .ensures) ∙ not-false _ (c .before .before .before .before .if1 .left))
     (c .before .before .before .is-even .ensures) _ _ (not-true _ (c .before .before .if2 .taken)) (c .before .ended-words .ensures) (c .turning .ensures)
 
 failed-words-requires : tie.Need-failed-words-requires
@@ -50,7 +53,7 @@ telling-requires c κs = search needs
 returns-3 : tie.Need-returns-3
 returns-3 c =
     let a = c .before .before .before .before .before .before .before .before .before .before .args in
-    timeout-even (a .k) (a .condition) (a .w) (a .own) (a .c) _ (sym (c .before .before .before .before .before .before .before .before .before .has .ensures) ∙ not-false _ (c .before .before .before .before .before .before .before .before .if1 .left))
+    timeout-even (a .condition) (a .w) (a .k) (a .own) (a .c) _ (sym (c .before .before .before .before .before .before .before .before .before .has .ensures) ∙ not-false _ (c .before .before .before .before .before .before .before .before .if1 .left))
     (c .before .before .before .before .before .before .before .is-even .ensures) _ _ _ _ _ _ (not-false _ (c .before .before .before .before .before .before .if2 .left))
     (c .before .before .before .before .before .failed-words .ensures) (c .before .before .before .before .put .ensures) (c .before .before .before .without .ensures) (c .before .before .put2 .ensures) (c .before .timed-out .ensures) (c .telling .ensures)
 

@@ -1,4 +1,9 @@
-use mathlib.Core.Path.{sym}
+use mathlib.Core.Bool.{true}
+use mathlib.Core.Path.{refl}
+use Rattle.station.specs.declared.Effect.the-variants.{Defers, Answers, Heals, Levels, Equal, Takes}
+use Rattle.station.specs.Holding.{setAsked}
+use Rattle.station.specs.Acts.{repliedMarks}
+use Rattle.receiving.proofs.Parts.{by-effect, marks-alone}
 use borrow.Author.Needs.{needs}
 use Rattle.receiving.proofs.plan_effect.Statement.{statement}
 use Rattle.receiving.proofs.plan_effect.Tie as tie
@@ -53,27 +58,39 @@ plan-take-requires c κs = search needs
 
 returns : tie.Need-returns
 returns c =
-    rw (c .before .before .enum-told .given .1) (rw (sym (c .before .asked-words .ensures)) (c .staying .ensures))
+    let a = c .before .before .before .before .args in
+    by-effect (a .own) (a .k) (a .c) (a .settled) (a .condition) (a .w) (a .effect) Defers 0 _ (c .before .before .enum-told .given .1)
+    refl (marks-alone (a .own) (a .k) (a .c) (a .settled) (a .condition) (a .w) (setAsked true) _ _ (c .before .asked-words .ensures) (c .staying .ensures))
 
 returns-2 : tie.Need-returns-2
 returns-2 c =
-    rw (c .before .enum-told2 .given .1) (c .plan-answer .ensures)
+    let a = c .before .before .before .args in
+    by-effect (a .own) (a .k) (a .c) (a .settled) (a .condition) (a .w) (a .effect) Answers 0 _ (c .before .enum-told2 .given .1)
+    refl (c .plan-answer .ensures)
 
 returns-3 : tie.Need-returns-3
 returns-3 c =
-    rw (c .before .before .before .effect .given .1) (rw (sym (c .before .one-if .ensures)) (c .plan-reply .ensures))
+    let a = c .before .before .before .before .before .args in
+    by-effect (a .own) (a .k) (a .c) (a .settled) (a .condition) (a .w) (a .effect) (Heals _) _ _ (c .before .before .before .effect .given .1)
+    (c .before .one-if .ensures) (c .plan-reply .ensures)
 
 returns-4 : tie.Need-returns-4
 returns-4 c =
-    rw (c .before .before .before .effect2 .given .1) (rw (sym (c .before .one-if2 .ensures)) (c .plan-reply2 .ensures))
+    let a = c .before .before .before .before .before .args in
+    by-effect (a .own) (a .k) (a .c) (a .settled) (a .condition) (a .w) (a .effect) (Levels _) _ _ (c .before .before .before .effect2 .given .1)
+    (c .before .one-if2 .ensures) (c .plan-reply2 .ensures)
 
 returns-5 : tie.Need-returns-5
 returns-5 c =
-    rw (c .before .before .enum-told3 .given .1) (rw (sym (c .before .replied-words .ensures)) (c .staying2 .ensures))
+    let a = c .before .before .before .before .args in
+    by-effect (a .own) (a .k) (a .c) (a .settled) (a .condition) (a .w) (a .effect) Equal 0 _ (c .before .before .enum-told3 .given .1)
+    refl (marks-alone (a .own) (a .k) (a .c) (a .settled) (a .condition) (a .w) repliedMarks _ _ (c .before .replied-words .ensures) (c .staying2 .ensures))
 
 returns-6 : tie.Need-returns-6
 returns-6 c =
-    rw (c .before .before .effect3 .given .1) (c .plan-take .ensures)
+    let a = c .before .before .before .before .args in
+    by-effect (a .own) (a .k) (a .c) (a .settled) (a .condition) (a .w) (a .effect) (Takes _ _) 1 _ (c .before .before .effect3 .given .1)
+    refl (c .plan-take .ensures)
 
 pub plan-effect-spec : {M : Type 1} → statement M
 plan-effect-spec =
