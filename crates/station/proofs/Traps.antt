@@ -14,9 +14,11 @@ use Rattle.net.specs.Letters.{letterHolds}
 use Rattle.counters.specs.Counters.{healed, healing}
 use Rattle.reach.specs.Reach.{purge}
 use Rattle.marks.specs.declared.Marks.{Marks}
-use Rattle.station.specs.declared.Condition.the-variants.{Live}
-use Rattle.station.specs.declared.Kind.the-variants.{TimeoutEnd}
-use Rattle.station.specs.Holding.{Holding, noMarks, setTurn, setTesting, setQuiet}
+use Rattle.station.specs.declared.Condition.{Condition}
+use Rattle.station.specs.declared.Condition.the-variants.{Down, Waiting, Live}
+use Rattle.station.specs.declared.Kind.{Kind}
+use Rattle.station.specs.declared.Kind.the-variants.{Start, Stop, Recovery, IntervalEnd, TimeoutEnd, QuietEnd}
+use Rattle.station.specs.Holding.{Holding, noMarks, setToken, setTurn, setTesting, setQuiet}
 use Rattle.station.specs.Done.{Done, letter, known, doneBy, ownLinks}
 use Rattle.station.proofs.Doing.{openLinks, timeout, answer, effectOn, received}
 use Rattle.station.specs.Events.{ruleAt}
@@ -49,6 +51,22 @@ timesOut k h =
     let r = ruleAt 1 TimeoutEnd k (letter 0 0 Request) h in
     (bit (stands line 1 h && r .allowed) ∷ []) ∷ seen (doneBy line 1 h (r .act))
 
+-- an event that takes no letter, with the condition after it: 0 down, 1 waiting, 2 live
+conditionNumber : Condition → ℕ
+conditionNumber Down = 0
+conditionNumber Waiting = 1
+conditionNumber Live = 2
+
+does : Kind → ℕ → Holding → List (List ℕ)
+unfolding line seen stands conditionNumber doneBy ownLinks known purge
+does e k h =
+    let r = ruleAt 1 e k (letter 0 0 Request) h in
+    (bit (stands line 1 h && r .allowed) ∷ conditionNumber (doneBy line 1 h (r .act) .holding .condition) ∷ []) ∷ seen (doneBy line 1 h (r .act))
+
+-- every counter 1, with the marks of its own links
+quietly : Condition → Marks → Holding
+quietly x m = record { condition = x; table = 1 ∷ 1 ∷ 1 ∷ []; marks = m ∷ m ∷ noMarks ∷ [] }
+
 hears : Holding → Letter → List (List ℕ)
 unfolding line seen stands letterHolds answer healed healing doneBy ownLinks known purge
 hears h x = (bit (stands line 1 h && letterHolds line x) ∷ []) ∷ seen (received line 1 x h)
@@ -57,10 +75,23 @@ testing : Marks
 testing = setTesting true noMarks
 
 pub traps : List Trap
-unfolding live timesOut hears testing
+unfolding live timesOut hears testing does quietly
 traps =
+    -- a start: waiting, token on each own link and on no other; a stop: down, no mark, counters 1
+    record { got = does Start 0 (quietly Down noMarks); want = (1 ∷ 1 ∷ []) ∷ (1 ∷ 1 ∷ 1 ∷ []) ∷ (1 ∷ 1 ∷ 0 ∷ []) ∷ [] ∷ [] }
+    ∷ record { got = does Stop 0 (live 2 2 4 testing (setQuiet true noMarks)); want = (1 ∷ 0 ∷ []) ∷ (1 ∷ 1 ∷ 1 ∷ []) ∷ (0 ∷ 0 ∷ 0 ∷ []) ∷ [] ∷ [] }
+    -- the recovery wait ends: live, and a test begins on each own link
+    ∷ record { got = does Recovery 0 (quietly Waiting (setToken true noMarks)); want = (1 ∷ 2 ∷ []) ∷ (1 ∷ 1 ∷ 1 ∷ []) ∷ (4 ∷ 4 ∷ 0 ∷ []) ∷ (0 ∷ 1 ∷ 33 ∷ 1 ∷ 1 ∷ 33 ∷ []) ∷ [] }
+    -- an interval ends: with token or turn a test begins, with neither turn comes on, and only on that link
+    ∷ record { got = does IntervalEnd 1 (live 2 2 4 noMarks (setToken true noMarks)); want = (1 ∷ 2 ∷ []) ∷ (2 ∷ 2 ∷ 4 ∷ []) ∷ (0 ∷ 4 ∷ 0 ∷ []) ∷ (1 ∷ 1 ∷ 33 ∷ []) ∷ [] }
+    ∷ record { got = does IntervalEnd 1 (live 2 2 4 noMarks (setTurn true noMarks)); want = (1 ∷ 2 ∷ []) ∷ (2 ∷ 2 ∷ 4 ∷ []) ∷ (0 ∷ 4 ∷ 0 ∷ []) ∷ (1 ∷ 1 ∷ 33 ∷ []) ∷ [] }
+    ∷ record { got = does IntervalEnd 1 (live 2 2 4 noMarks noMarks); want = (1 ∷ 2 ∷ []) ∷ (2 ∷ 2 ∷ 4 ∷ []) ∷ (0 ∷ 2 ∷ 0 ∷ []) ∷ [] ∷ [] }
+    -- quiet ends: that mark alone
+    ∷ record { got = does QuietEnd 1 (live 2 2 4 testing (setQuiet true noMarks)); want = (1 ∷ 2 ∷ []) ∷ (2 ∷ 2 ∷ 4 ∷ []) ∷ (4 ∷ 0 ∷ 0 ∷ []) ∷ [] ∷ [] }
+    -- a timeout is told on no quiet link
+    ∷ record { got = timesOut 1 (live 2 2 4 (setQuiet true noMarks) testing); want = (1 ∷ []) ∷ (2 ∷ 3 ∷ 1 ∷ []) ∷ (16 ∷ 16 ∷ 0 ∷ []) ∷ [] ∷ [] }
     -- a timeout purges, with the raised counter: behind the link that is odd now, link 2 gets 1
-    record { got = timesOut 1 (live 2 2 4 noMarks testing); want = (1 ∷ []) ∷ (2 ∷ 3 ∷ 1 ∷ []) ∷ (0 ∷ 16 ∷ 0 ∷ []) ∷ (0 ∷ 1 ∷ 35 ∷ 1 ∷ 3 ∷ []) ∷ [] }
+    ∷ record { got = timesOut 1 (live 2 2 4 noMarks testing); want = (1 ∷ []) ∷ (2 ∷ 3 ∷ 1 ∷ []) ∷ (0 ∷ 16 ∷ 0 ∷ []) ∷ (0 ∷ 1 ∷ 35 ∷ 1 ∷ 3 ∷ []) ∷ [] }
     -- a reply purges with the healed counter: link 2 is behind a working link now and stays
     ∷ record {
       got = hears (live 1 3 4 (setQuiet true noMarks) testing) (letter 2 1 (Reply 1));
