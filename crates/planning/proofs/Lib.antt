@@ -1,3 +1,5 @@
 mod Small
 mod Recovered
 mod ByKind
+pub mod Answers
+pub mod Parts

@@ -1,5 +1,8 @@
 // What an event comes to at the one station that it concerns, by its kind: the plan that station_plan defines. Events 1 to 6 are here, a
 // letter's arrival is in receiving. An inner door: the call is the network's step.
+mod forms;
+mod hearing;
+mod receiving;
 ghost use mathlib.Core.Path.{_≡_};
 ghost use mathlib.Core.Bool.{false};
 ghost use Rattle.marks.specs.Marks.{marksAt, wordsWith};
@@ -180,7 +183,7 @@ fn plan_start(own: u64, condition: Condition, w: Words) -> Plan
     ensures { λ r. ⌜ r ≡ ownPlan Start own 0 0 condition w ⌝ }
 {
     if !is_down(condition) {
-        return plan_forms::staying(7, 0, 0, condition, w);
+        return forms::staying(7, 0, 0, condition, w);
     }
     let token = Words {
         token: own,
@@ -189,7 +192,7 @@ fn plan_start(own: u64, condition: Condition, w: Words) -> Plan
         asked: 0,
         quiet: 0,
     };
-    plan_forms::turning(Condition::Waiting, token, 0, false)
+    forms::turning(Condition::Waiting, token, 0, false)
 }
 
 // 2. Stop.
@@ -197,7 +200,7 @@ fn plan_stop(condition: Condition, w: Words) -> Plan
     ensures { λ r. ⌜ r ≡ ownPlan Stop 0 0 0 condition w ⌝ }
 {
     if is_down(condition) {
-        return plan_forms::staying(7, 0, 0, condition, w);
+        return forms::staying(7, 0, 0, condition, w);
     }
     let none = Words {
         token: 0,
@@ -206,7 +209,7 @@ fn plan_stop(condition: Condition, w: Words) -> Plan
         asked: 0,
         quiet: 0,
     };
-    plan_forms::turning(Condition::Down, none, 0, true)
+    forms::turning(Condition::Down, none, 0, true)
 }
 
 // 3. The recovery wait ends.
@@ -214,11 +217,11 @@ fn plan_recovery(own: u64, condition: Condition, w: Words) -> Plan
     ensures { λ r. ⌜ r ≡ ownPlan Recovery own 0 0 condition w ⌝ }
 {
     if !is_waiting(condition) {
-        return plan_forms::staying(7, 0, 0, condition, w);
+        return forms::staying(7, 0, 0, condition, w);
     }
     let requests = tests_on(own, w);
     let after = recovered_words(own, w);
-    plan_forms::turning(Condition::Live, after, requests, false)
+    forms::turning(Condition::Live, after, requests, false)
 }
 
 // 4. An interval ends on link k.
@@ -227,11 +230,11 @@ fn plan_interval(k: u8, condition: Condition, w: Words) -> Plan
 {
     let m = marks::marks_at(w, k);
     if !may_end(condition, m) {
-        return plan_forms::staying(7, 0, 0, condition, w);
+        return forms::staying(7, 0, 0, condition, w);
     }
     let requests = words::put(0, k, tests_now(m));
     let after = marks::with_marks(w, k, interval_marks(m));
-    plan_forms::turning(condition, after, requests, false)
+    forms::turning(condition, after, requests, false)
 }
 
 // 5. A timeout ends on link k, whose counter is c. A link that worked is raised, told of and kept quiet; what is out of reach then is
@@ -240,10 +243,10 @@ fn plan_timeout(own: u64, k: u8, c: u16, condition: Condition, w: Words) -> Plan
     ensures { λ r. ⌜ r ≡ ownPlan TimeoutEnd own k c condition w ⌝ }
 {
     if !words::has(w.testing, k) {
-        return plan_forms::staying(7, 0, 0, condition, w);
+        return forms::staying(7, 0, 0, condition, w);
     }
     if !counters::is_even(c) {
-        return plan_forms::turning(condition, ended_words(w, k), 0, false);
+        return forms::turning(condition, ended_words(w, k), 0, false);
     }
     let after = failed_words(w, k);
     let subjects = words::put(0, k, true);
@@ -255,7 +258,7 @@ fn plan_timeout(own: u64, k: u8, c: u16, condition: Condition, w: Words) -> Plan
     };
     // a link that failed may have cut others off: purge
     let up = counters::timed_out(c);
-    plan_forms::telling(condition, after, k, up, true, false, subjects, ways, raised)
+    forms::telling(condition, after, k, up, true, false, subjects, ways, raised)
 }
 
 // 6. Quiet ends on link k.
@@ -263,9 +266,9 @@ fn plan_quiet_end(k: u8, condition: Condition, w: Words) -> Plan
     ensures { λ r. ⌜ r ≡ ownPlan QuietEnd 0 k 0 condition w ⌝ }
 {
     if !words::has(w.quiet, k) {
-        return plan_forms::staying(7, 0, 0, condition, w);
+        return forms::staying(7, 0, 0, condition, w);
     }
-    plan_forms::turning(condition, loud_words(w, k), 0, false)
+    forms::turning(condition, loud_words(w, k), 0, false)
 }
 
 // ---- any event
@@ -289,10 +292,10 @@ pub fn plan_event(
     ensures { λ r. ⌜ (r ≡ eventPlan there kind own me k letter c told condition w) × EventPlans there kind own me k letter c told condition w r ⌝ }
 {
     if !there {
-        return plan_forms::staying(6, 0, 0, condition, w);
+        return forms::staying(6, 0, 0, condition, w);
     }
     match kind {
-        Kind::NoSuch => plan_forms::turning(condition, w, 0, false),
+        Kind::NoSuch => forms::turning(condition, w, 0, false),
         Kind::Start => plan_start(own, condition, w),
         Kind::Stop => plan_stop(condition, w),
         Kind::Recovery => plan_recovery(own, condition, w),
@@ -300,6 +303,6 @@ pub fn plan_event(
         Kind::TimeoutEnd => plan_timeout(own, k, c, condition, w),
         Kind::QuietEnd => plan_quiet_end(k, condition, w),
         Kind::Delivery => receiving::plan_letter(own, me, k, letter, c, told, condition, w),
-        Kind::Loss => plan_forms::staying(0, receiving::settled_by(letter), 1, condition, w),
+        Kind::Loss => forms::staying(0, receiving::settled_by(letter), 1, condition, w),
     }
 }

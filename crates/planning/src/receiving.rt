@@ -1,0 +1,245 @@
+// The plan of a letter that arrives, by what the receiver answers. Inner doors: the call is the network's step.
+ghost use mathlib.Core.Path.{_≡_};
+ghost use mathlib.Core.Bool.{true};
+ghost use Rattle.lists.specs.Lists.{if_then_else_};
+ghost use Rattle.lists.specs.Words.{bit};
+ghost use Rattle.marks.specs.Marks.{marksAt, wordsWith};
+ghost use Rattle.station.specs.declared.Effect.the-variants.{Answers, Heals, Levels, Takes};
+ghost use Rattle.station.specs.declared.Kind.the-variants.{Delivery};
+ghost use Rattle.station.specs.Holding.{setAsked};
+ghost use Rattle.station.specs.Acts.{requestedMarks, repliedMarks, effectAct};
+ghost use Rattle.station.specs.Events.{counting, isNotice, raisedEffect};
+ghost use Rattle.station_plan.specs.Plans.{donePlan, dropPlan};
+ghost use Rattle.station_plan.specs.Comes.{eventPlan};
+use crate::forms;
+use crate::hearing;
+use marks::Marks;
+use marks::Words;
+use net::Body;
+use net::Letter;
+use sending::Sending;
+use station::Condition;
+use station::Effect;
+use station::Heard;
+use station_plan::Plan;
+use tally::Tally;
+
+// A notice that is taken off is settled.
+// Promise: 1 for a notice, else 0.
+pub(crate) fn settled_by(letter: Letter) -> u64
+    ensures { λ r. ⌜ r ≡ bit (isNotice (letter .body)) ⌝ }
+{
+    let body = letter.body;
+    match body {
+        Body::Request => 0,
+        Body::Reply(_) => 0,
+        Body::Notice(_, _) => 1,
+    }
+}
+
+fn pick(on: bool, a: u64, b: u64) -> u64
+    ensures { λ r. ⌜ r ≡ (if on then a else b) ⌝ }
+{
+    if on { a } else { b }
+}
+
+fn one_if(on: bool) -> u64
+    ensures { λ r. ⌜ r ≡ bit on ⌝ }
+{
+    if on { 1 } else { 0 }
+}
+
+// What a letter that is heard adds to the tally.
+fn counted(settled: u64, raised: u64) -> Tally
+    ensures { λ r. ⌜ r ≡ counting settled raised 0 ⌝ }
+{
+    Tally {
+        settled,
+        raised,
+        dropped: 0,
+    }
+}
+
+// A request that is put off.
+fn asked_words(w: Words, k: u8) -> Words
+    ensures { λ r. ⌜ r ≡ wordsWith w k (setAsked true (marksAt w k)) ⌝ }
+{
+    let m = marks::marks_at(w, k);
+    let asked = Marks {
+        token: m.token,
+        turn: m.turn,
+        testing: m.testing,
+        asked: true, // the token comes when the test ends
+        quiet: m.quiet,
+    };
+    marks::with_marks(w, k, asked)
+}
+
+// A request that is answered: testing and asked off, token on, turn off.
+fn requested_words(w: Words, k: u8) -> Words
+    ensures { λ r. ⌜ r ≡ wordsWith w k (requestedMarks (marksAt w k)) ⌝ }
+{
+    let m = marks::marks_at(w, k);
+    let rested = Marks {
+        token: true,
+        turn: false, // or the next silent interval would test too early
+        testing: false,
+        asked: false,
+        quiet: m.quiet,
+    };
+    marks::with_marks(w, k, rested)
+}
+
+// A reply to a test on link k: testing and asked off.
+fn replied_words(w: Words, k: u8) -> Words
+    ensures { λ r. ⌜ r ≡ wordsWith w k (repliedMarks (marksAt w k)) ⌝ }
+{
+    let m = marks::marks_at(w, k);
+    let ended = Marks {
+        token: m.token,
+        turn: m.turn,
+        testing: false, // the test is over
+        asked: false,
+        quiet: m.quiet,
+    };
+    marks::with_marks(w, k, ended)
+}
+
+// A request is answered: over a link that was down all that is known is told, but of the link itself; last comes the reply.
+fn plan_answer(k: u8, c: u16, settled: u64, condition: Condition, w: Words) -> Plan
+    ensures { λ r. ⌜ r ≡ donePlan 0 w (effectAct condition k c Answers) (counting settled 0 0) ⌝ }
+{
+    let after = requested_words(w, k);
+    let down = !counters::is_even(c);
+    let others = words::put(18446744073709551615, k, false);
+    let subjects = pick(down, others, 0);
+    let ways = words::put(0, k, true);
+    Plan {
+        answer: 0,
+        condition,
+        marks: after,
+        resets: false,
+        sets: false,
+        at: 0,
+        counter: 0,
+        purges: false,
+        knows: down,
+        sends: Sending {
+            requests: 0,
+            subjects,
+            ways,
+            replies: true,
+            reply: c,
+            link: k,
+        },
+        counts: counted(settled, 0),
+    }
+}
+
+// A reply to a test. It heals if one of the two counters was odd: everything that is known is told, and what is out of reach then is
+// purged. Else it levels two even ones: this link alone is told.
+fn plan_reply(
+    own: u64,
+    k: u8,
+    settled: u64,
+    raised: u64,
+    to: u16,
+    heals: bool,
+    condition: Condition,
+    w: Words,
+) -> Plan
+    ensures { λ r. ⌜ r ≡ donePlan own w (effectAct condition k 0 (if heals then Heals to else Levels to)) (counting settled raised 0) ⌝ }
+{
+    let after = replied_words(w, k);
+    let alone = words::put(0, k, true);
+    let subjects = pick(heals, 18446744073709551615, alone);
+    let ways = words::without(own, w.quiet);
+    let counts = counted(settled, raised);
+    forms::telling(
+        condition,
+        after,
+        k,
+        to,
+        heals,
+        heals,
+        subjects,
+        ways,
+        counts,
+    )
+}
+
+// A newer notice: taken, and sent on wherever it did not come from.
+fn plan_take(
+    own: u64,
+    k: u8,
+    settled: u64,
+    j: u8,
+    to: u16,
+    condition: Condition,
+    w: Words,
+) -> Plan
+    ensures { λ r. ⌜ r ≡ donePlan own w (effectAct condition k 0 (Takes j to)) (counting settled 1 0) ⌝ }
+{
+    let subjects = words::put(0, j, true);
+    let ways = words::put(words::without(own, w.quiet), k, false); // not back
+    let counts = counted(settled, 1);
+    // no purge, or one notice could circle a ring for ever
+    forms::telling(condition, w, j, to, false, false, subjects, ways, counts)
+}
+
+// What a letter that is heard comes to, by what it does.
+fn plan_effect(
+    own: u64,
+    k: u8,
+    c: u16,
+    settled: u64,
+    effect: Effect,
+    condition: Condition,
+    w: Words,
+) -> Plan
+    ensures { λ r. ⌜ r ≡ donePlan own w (effectAct condition k c effect) (counting settled (raisedEffect c effect) 0) ⌝ }
+{
+    match effect {
+        Effect::Defers => forms::staying(0, settled, 0, condition, asked_words(w, k)),
+        Effect::Answers => plan_answer(k, c, settled, condition, w),
+        Effect::Heals(to) => plan_reply(own, k, settled, one_if(c < to), to, true, condition, w),
+        Effect::Levels(to) => plan_reply(own, k, settled, one_if(c < to), to, false, condition, w),
+        Effect::Equal => forms::staying(0, settled, 0, condition, replied_words(w, k)),
+        Effect::Takes(j, to) => plan_take(own, k, settled, j, to, condition, w),
+    }
+}
+
+// What becomes of a letter that does nothing: refused, dropped, or without effect.
+fn plan_drop(said: Heard, settled: u64, condition: Condition, w: Words) -> Plan
+    ensures { λ r. ⌜ r ≡ dropPlan said settled condition w ⌝ }
+{
+    match said {
+        Heard::Gone => forms::staying(0, settled, 1, condition, w),
+        Heard::Nothing => forms::staying(0, settled, 0, condition, w),
+        Heard::Overflows => forms::staying(8, 0, 0, condition, w),
+        Heard::Does(_) => forms::staying(0, settled, 0, condition, w),
+    }
+}
+
+// 7. A letter arrives on link k.
+// Promise: equals `Comes.eventPlan` of a delivery whose letter is there: by the receiver's answer, or 8.
+pub(crate) fn plan_letter(
+    own: u64,
+    me: u8,
+    k: u8,
+    letter: Letter,
+    c: u16,
+    told: u16,
+    condition: Condition,
+    w: Words,
+) -> Plan
+    ensures { λ r. ⌜ r ≡ eventPlan true Delivery own me k letter c told condition w ⌝ }
+{
+    let body = letter.body;
+    let said = hearing::hearing(me, k, letter.sender, body, c, told, condition, w);
+    let settled = settled_by(letter);
+    let Heard::Does(effect) = said else {
+        return plan_drop(said, settled, condition, w);
+    };
+    plan_effect(own, k, c, settled, effect, condition, w)
+}
