@@ -47,9 +47,9 @@ use Rattle.state.specs.State.{worldOf, Ends64, Sized}
 use Rattle.stepping.specs.Step.{refusing}
 use Rattle.stepping.proofs.Bridge.{Good}
 use Rattle.stepping.specs.Counting.{talliedBy}
-use Rattle.reaching.specs.Answers.{noReach}
-use Rattle.reaching.proofs.WordShown.{PathTo, WordShown}
-use Rattle.reports.proofs.Shown.{Shown}
+use Rattle.report.specs.Answers.{noReach}
+use Rattle.report.proofs.WordShown.{PathTo, WordShown}
+use Rattle.report.proofs.Shown.{Shown}
 use Rattle.counting.proofs.Runs.{LentCalls, tally-is-history}
 use Rattle.laws.specs.Flood.{onlyNotices, carried, highest, neighbours, share, bound}
 use Rattle.laws.specs.Tallied.{everCounted}

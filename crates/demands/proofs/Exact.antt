@@ -24,14 +24,14 @@ use Rattle.beginning.proofs.First.{first-sized, first-holds, first-means}
 use Rattle.stepping.specs.declared.Stepped.{Stepped}
 use Rattle.stepping.specs.Step.{event, refusing, accepting, numberOf, steppedOf}
 use Rattle.stepping.proofs.Bridge.{Good, IsStep, bad-refused, is-step}
-use Rattle.asking.proofs.Refusals.{Asks, stations-are, table-is}
-use Rattle.reaching.specs.declared.Asked.{Asked}
-use Rattle.reaching.specs.Answers.{askedOf}
-use Rattle.reaching.proofs.WordShown.{ownTable, PathTo, WordShown, word-shown}
-use Rattle.reports.specs.Answers.{answerOf, outputOf}
-use Rattle.reports.proofs.Refusals.{accepted-when}
-use Rattle.reports.proofs.Shown.{Shown, shown}
-use Rattle.reports.proofs.SameBits.{same-bits}
+use Rattle.report.proofs.Refusals.{Asks, stations-are, table-is}
+use Rattle.report.specs.declared.Asked.{Asked}
+use Rattle.report.specs.Answers.{askedOf}
+use Rattle.report.proofs.WordShown.{ownTable, PathTo, WordShown, word-shown}
+use Rattle.report.specs.ReportsAnswers.{answerOf, outputOf}
+use Rattle.report.proofs.ReportsRefusals.{accepted-when}
+use Rattle.report.proofs.Shown.{Shown, shown}
+use Rattle.report.proofs.SameBits.{same-bits}
 use Rattle.demands.specs.Given.{GoodNet}
 use Rattle.demands.specs.StateReasons.{GoodState, BadState}
 use Rattle.demands.proofs.States.{begun-good}

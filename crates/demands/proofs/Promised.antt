@@ -26,10 +26,10 @@ use Rattle.beginning.proofs.fresh.Kinds as FreshKinds
 use Rattle.beginning.proofs.fresh.Reads as Fresh
 use Rattle.network.proofs.step.Kinds as StepKinds
 use Rattle.network.proofs.step.Reads as Step
-use Rattle.reaching.proofs.reach.Kinds as ReachKinds
-use Rattle.reaching.proofs.reach.Reads as Reach
-use Rattle.reports.proofs.report.Kinds as ReportKinds
-use Rattle.reports.proofs.report.Reads as Report
+use Rattle.report.proofs.reach.Kinds as ReachKinds
+use Rattle.report.proofs.reach.Reads as Reach
+use Rattle.report.proofs.report.Kinds as ReportKinds
+use Rattle.report.proofs.report.Reads as Report
 use Rattle.counting.proofs.step_counted as Counted
 use Rattle.stepping.specs.Counting.{talliedBy}
 use Rattle.stepping.specs.Step.{event, steppedOf}

@@ -22,13 +22,13 @@ use Rattle.beginning.specs.Beginning.{unread, begunOf}
 use Rattle.stepping.specs.declared.Stepped.{Stepped}
 use Rattle.stepping.specs.Step.{event, refusing, accepting, numberOf, steppedOf}
 use Rattle.stepping.specs.Counting.{talliedBy}
-use Rattle.asking.specs.Asking.{numberOf as numberAsked}
-use Rattle.asking.proofs.Refusals as Ask
-use Rattle.reaching.specs.declared.Asked.{Asked}
-use Rattle.reaching.specs.Answers.{noReach, askedOf}
-use Rattle.reaching.proofs.WordShown.{answer-number}
-use Rattle.reports.specs.Answers.{answerOf, outputOf}
-use Rattle.reports.proofs.Refusals as Told
+use Rattle.report.specs.Asking.{numberOf as numberAsked}
+use Rattle.report.proofs.Refusals as Ask
+use Rattle.report.specs.declared.Asked.{Asked}
+use Rattle.report.specs.Answers.{noReach, askedOf}
+use Rattle.report.proofs.WordShown.{answer-number}
+use Rattle.report.specs.ReportsAnswers.{answerOf, outputOf}
+use Rattle.report.proofs.ReportsRefusals as Told
 use Rattle.demands.specs.Given.{netHolds, GoodNet, BadNet}
 use Rattle.demands.specs.StateReasons as W
 use Rattle.demands.specs.StateReasons.{GoodState, BadState, Fresh, Step, Reach, Report}

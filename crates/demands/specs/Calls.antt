@@ -22,9 +22,9 @@ use Rattle.beginning.specs.Beginning.{begunOf}
 use Rattle.stepping.specs.declared.Stepped.{Stepped}
 use Rattle.stepping.specs.Step.{steppedOf}
 use Rattle.stepping.specs.Counting.{talliedBy}
-use Rattle.reaching.specs.declared.Asked.{Asked}
-use Rattle.reaching.specs.Answers.{askedOf}
-use Rattle.reports.specs.Answers.{answerOf, outputOf}
+use Rattle.report.specs.declared.Asked.{Asked}
+use Rattle.report.specs.Answers.{askedOf}
+use Rattle.report.specs.ReportsAnswers.{answerOf, outputOf}
 
 -- sheet::read(bytes)
 pub record ReadsSheet (bytes : List ℕ) : Type 0 where

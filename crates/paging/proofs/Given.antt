@@ -9,13 +9,13 @@ use Rattle.net.proofs.ValueLaws.{stations-few}
 use Rattle.station.specs.Holding.{isWaiting}
 use Rattle.state.specs.declared.State.{State}
 use Rattle.state.specs.State.{stationIn}
-use Rattle.asking.specs.Asking.{placeBy}
-use Rattle.asking.proofs.Helpers.{place-there}
-use Rattle.asking.proofs.Refusals.{Why, none, eleven, six, seven, number-why, stations-are}
-use Rattle.reaching.specs.declared.Asked.{Asked}
-use Rattle.reaching.specs.Answers.{askedOf}
-use Rattle.reaching.proofs.WordShown.{answer-number}
-use Rattle.reports.specs.Answers.{outputOf}
+use Rattle.report.specs.Asking.{placeBy}
+use Rattle.report.proofs.AskingHelpers.{place-there}
+use Rattle.report.proofs.Refusals.{Why, none, eleven, six, seven, number-why, stations-are}
+use Rattle.report.specs.declared.Asked.{Asked}
+use Rattle.report.specs.Answers.{askedOf}
+use Rattle.report.proofs.WordShown.{answer-number}
+use Rattle.report.specs.ReportsAnswers.{outputOf}
 use Rattle.parts.specs.Parts.{isThere, partText, partWrote, partOutput}
 use Rattle.paging.specs.Page.{reportRoom, stationPart}
 

@@ -5,8 +5,8 @@ use lib.ListN.{replicate}
 use Rattle.station.specs.Holding.{isWaiting}
 use Rattle.state.specs.declared.State.{State}
 use Rattle.state.specs.State.{stationIn}
-use Rattle.reaching.specs.Answers.{askedOf}
-use Rattle.reports.specs.Answers.{outputOf}
+use Rattle.report.specs.Answers.{askedOf}
+use Rattle.report.specs.ReportsAnswers.{outputOf}
 use Rattle.parts.specs.Parts.{partText}
 
 -- "made from the public report and reach calls": the numbers are the reach's, and the report is what that call leaves in room of 96 bytes

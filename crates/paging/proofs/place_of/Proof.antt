@@ -1,4 +1,4 @@
-use Rattle.asking.proofs.Helpers.{place-there, place-past}
+use Rattle.report.proofs.AskingHelpers.{place-there, place-past}
 use borrow.Author.Needs.{needs}
 use Rattle.paging.proofs.place_of.Statement.{statement}
 use Rattle.paging.proofs.place_of.Tie as tie

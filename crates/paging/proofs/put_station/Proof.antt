@@ -1,4 +1,4 @@
-use Rattle.asking.proofs.Helpers.{place-few}
+use Rattle.report.proofs.AskingHelpers.{place-few}
 use Rattle.paging.proofs.Given.{station-given}
 use denote.Ref.{now}
 use mathlib.Core.Path.{_∙_}

@@ -1,0 +1,11 @@
+pub mod Helpers
+pub mod Known
+pub mod WordShown
+pub mod AskingHelpers
+pub mod AskingKnown
+pub mod Refusals
+pub mod Output
+pub mod ReportsKnown
+pub mod ReportsRefusals
+pub mod Shown
+pub mod SameBits

@@ -1,0 +1,4 @@
+pub mod Answers
+pub mod Asking
+pub mod ReportsAnswers
+pub mod Steps
