@@ -136,7 +136,7 @@ fn print_sheet_wrote(wrote: sheet::Wrote) {
 
 fn write_sheet(net: Net, out: &mut [u8]) {
     io::write_all(1, b"write");
-    print_sheet_wrote(sheet_writing::write(net, out));
+    print_sheet_wrote(sheet::write(net, out));
     print_bytes(out);
     io::write_all(1, b"\n");
 }
@@ -181,7 +181,7 @@ fn print_letter_wrote(wrote: letters::Wrote) {
 
 fn write_letter(net: Net, letter: Letter, out: &mut [u8]) {
     io::write_all(1, b"write");
-    print_letter_wrote(letter_writing::write(net, letter, out));
+    print_letter_wrote(letters::write(net, letter, out));
     print_bytes(out);
     io::write_all(1, b"\n");
 }

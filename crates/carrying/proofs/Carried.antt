@@ -8,8 +8,8 @@ use lib.Seq.{set-out}
 use Rattle.lists.specs.Words.{inWord}
 use Rattle.net.specs.declared.Net.{Net}
 use Rattle.net.specs.Values.{linkCount}
-use Rattle.words.specs.Sets.{wordBy}
-use Rattle.words.proofs.WordLaws.{by-same, in-by}
+use Rattle.sets.specs.Sets.{wordBy}
+use Rattle.sets.proofs.WordLaws.{by-same, in-by}
 use Rattle.sending.specs.declared.Sending.{Sending}
 use Rattle.station.specs.Values.{freshTable}
 use Rattle.station_plan.specs.Carrying.{toldBy, purgedIn, keptBy, knownIn, narrowed}

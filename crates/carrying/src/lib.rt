@@ -34,8 +34,8 @@ pub fn narrow(knows: bool, links: u8, table: Counters, sends: Sending) -> Sendin
         return sends;
     }
     let known = sending::known_links(links, table);
-    let unknown = words::without(sends.subjects, known);
-    let subjects = words::without(sends.subjects, unknown);
+    let unknown = sets::without(sends.subjects, known);
+    let subjects = sets::without(sends.subjects, unknown);
     Sending {
         requests: sends.requests,
         subjects,
@@ -56,7 +56,7 @@ pub fn kept_table(net: Net, me: u8, resets: bool, purges: bool, table: Counters)
     }
     if purges {
         let working = reach::working_links(net.links, table);
-        return purging::purged(net, working, table, me);
+        return reach::purged(net, working, table, me);
     }
     table
 }

@@ -61,9 +61,9 @@ use Rattle.laws.proofs.Joined as Joined
 use Rattle.laws.proofs.Joined.{Calls, Comes}
 use Rattle.laws.proofs.Cases as Cases
 use Rattle.console.proofs.Lines.{joined}
-use Rattle.running.specs.Events.{eventProgram}
-use Rattle.running.specs.Calls.{callsText}
-use Rattle.running.proofs.Program.{event-program}
+use Rattle.event_program.specs.Events.{eventProgram}
+use Rattle.event_program.specs.Calls.{callsText}
+use Rattle.event_program.proofs.Program.{event-program}
 use Rattle.demands.specs.Given.{Lawful, GoodNet, BadNet}
 use Rattle.demands.specs.Calls.{ReadsSheet, WritesSheet, ReadsLetter, WritesLetter, Begins, Steps, StepsCounted}
 use Rattle.demands.specs.Calls.{AsksReach, AsksReport}

@@ -18,9 +18,9 @@ use Rattle.world.specs.World.{World, Event, holdingAt, fresh}
 use Rattle.world.specs.History.{next}
 use Rattle.state.specs.declared.State.{State}
 use Rattle.state.specs.State.{worldOf, stateOf, stateHolds, Ends64, Sized}
-use Rattle.beginning.specs.declared.Begun.{Begun}
-use Rattle.beginning.specs.Beginning.{begunOf}
-use Rattle.beginning.proofs.First.{first-sized, first-holds, first-means}
+use Rattle.state.specs.declared.Begun.{Begun}
+use Rattle.state.specs.Beginning.{begunOf}
+use Rattle.state.proofs.First.{first-sized, first-holds, first-means}
 use Rattle.stepping.specs.declared.Stepped.{Stepped}
 use Rattle.stepping.specs.Step.{event, refusing, accepting, numberOf, steppedOf}
 use Rattle.stepping.proofs.Bridge.{Good, IsStep, bad-refused, is-step}

@@ -33,7 +33,7 @@ use Rattle.world.proofs.Steps.{step-number, step-accepts, taken}
 use Rattle.state.specs.declared.State.{State}
 use Rattle.state.specs.State.{worldOf, Ends64}
 use Rattle.state.proofs.Meaning.{world-well}
-use Rattle.beginning.specs.declared.Begun.{Begun}
+use Rattle.state.specs.declared.Begun.{Begun}
 use Rattle.stepping.specs.declared.Stepped.{Stepped}
 use Rattle.stepping.proofs.Bridge.{Good, IsStep, countsBy}
 use Rattle.laws.specs.Flood.{onlyNotices, carried, highest, neighbours, distance, share, bound}

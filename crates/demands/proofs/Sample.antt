@@ -13,8 +13,8 @@ use Rattle.text.specs.Text.{digitsIn, digits}
 use Rattle.lines.specs.Events.{pieces, isEvent, eventLine}
 use Rattle.lines.specs.Split.{linesOf}
 use Rattle.console.specs.Sheets.{fileSheet}
-use Rattle.standing.specs.Stations.{stationText}
-use Rattle.running.specs.Events.{answerText, done, printedFor, printed, doneAll, endText, eventProgram}
+use Rattle.event_program.specs.Stations.{stationText}
+use Rattle.event_program.specs.Events.{answerText, done, printedFor, printed, doneAll, endText, eventProgram}
 use Rattle.demands.specs.Sample.{sheet, events, output}
 
 pub sample-is : eventProgram sheet events ≡ output

@@ -17,8 +17,8 @@ use Rattle.world.specs.World.{World, Event, fresh, refusal}
 use Rattle.world.proofs.Steps as Steps
 use Rattle.state.specs.declared.State.{State}
 use Rattle.state.specs.State.{worldOf, stateOf, stationsHold, lettersHold, stateHolds}
-use Rattle.beginning.specs.declared.Begun.{Begun}
-use Rattle.beginning.specs.Beginning.{unread, begunOf}
+use Rattle.state.specs.declared.Begun.{Begun}
+use Rattle.state.specs.Beginning.{unread, begunOf}
 use Rattle.stepping.specs.declared.Stepped.{Stepped}
 use Rattle.stepping.specs.Step.{event, refusing, accepting, numberOf, steppedOf}
 use Rattle.stepping.specs.Counting.{talliedBy}

@@ -17,8 +17,8 @@ use Rattle.letters.specs.declared.Wrote as LetterWrote
 use Rattle.letters.specs.Values as LetterValues
 use Rattle.world.specs.World.{Event}
 use Rattle.state.specs.declared.State.{State}
-use Rattle.beginning.specs.declared.Begun.{Begun}
-use Rattle.beginning.specs.Beginning.{begunOf}
+use Rattle.state.specs.declared.Begun.{Begun}
+use Rattle.state.specs.Beginning.{begunOf}
 use Rattle.stepping.specs.declared.Stepped.{Stepped}
 use Rattle.stepping.specs.Step.{steppedOf}
 use Rattle.stepping.specs.Counting.{talliedBy}

@@ -84,7 +84,7 @@ fn take_turn(state: State, tally: Tally, reading: Reading) -> Turn {
     let mut out = output_room();
     let chunk = read_chunk(reading, &mut room);
     let size = chunk.size;
-    let ran = running::run_events(state, tally, reading, &room[..size], &mut out);
+    let ran = event_program::run_events(state, tally, reading, &room[..size], &mut out);
     let written = ran.written;
     io::write_all(1, &out[..written]);
     let after = ran.state;
@@ -100,14 +100,14 @@ fn take_turn(state: State, tally: Tally, reading: Reading) -> Turn {
 
 fn finish(state: State) {
     let mut out = output_room();
-    let wrote = standing::put_stations(state, &mut out);
+    let wrote = event_program::put_stations(state, &mut out);
     let written = wrote.written;
     io::write_all(1, &out[..written]);
 }
 
 // A proved loop has to end, and nothing says that an input does: it counts its turns down, from a number that no run uses up.
 fn run(net: Net) {
-    let begun = beginning::fresh(net);
+    let begun = state::fresh(net);
     let first = begun.state;
     let mut state = first;
     let mut tally = Tally {

@@ -16,7 +16,7 @@ use Rattle.world.specs.History.{run, everSettled, everSent, everDelivered, ever
 use Rattle.state.specs.declared.State.{State}
 use Rattle.state.specs.State.{worldOf, stateOf, stateHolds, Ends64, Sized}
 use Rattle.state.proofs.Meaning.{holds-net, net-is, world-well}
-use Rattle.beginning.proofs.First.{first-sized, first-holds, first-means}
+use Rattle.state.proofs.First.{first-sized, first-holds, first-means}
 use Rattle.stepping.specs.declared.Stepped.{Stepped}
 use Rattle.stepping.specs.Step.{steppedOf}
 use Rattle.stepping.proofs.Bridge as B

@@ -7,7 +7,7 @@ use Rattle.lists.specs.Words.{inWord}
 use Rattle.net.specs.declared.Net.{Net}
 use Rattle.net.specs.Network.{isEnd}
 use Rattle.net.specs.Values.{networkOf, linkCount}
-use Rattle.words.specs.Sets.{wordBy}
+use Rattle.sets.specs.Sets.{wordBy}
 use Rattle.marks.specs.declared.Marks.{Marks}
 use Rattle.marks.specs.declared.Words.{Words}
 

@@ -3,7 +3,7 @@
 ghost use mathlib.Core.Path.{_≡_};
 ghost use mathlib.Core.Bool.{_||_};
 ghost use lib.Dec.{eqb};
-ghost use Rattle.words.specs.Sets.{wordBy};
+ghost use Rattle.sets.specs.Sets.{wordBy};
 ghost use Rattle.marks.specs.Marks.{marksAt, wordsWith, ownAt};
 use net::Net;
 
@@ -31,11 +31,11 @@ pub fn marks_at(w: Words, k: u8) -> Marks
     ensures { λ r. ⌜ r ≡ marksAt w k ⌝ }
 {
     Marks {
-        token: words::has(w.token, k),
-        turn: words::has(w.turn, k),
-        testing: words::has(w.testing, k),
-        asked: words::has(w.asked, k),
-        quiet: words::has(w.quiet, k),
+        token: sets::has(w.token, k),
+        turn: sets::has(w.turn, k),
+        testing: sets::has(w.testing, k),
+        asked: sets::has(w.asked, k),
+        quiet: sets::has(w.quiet, k),
     }
 }
 
@@ -45,11 +45,11 @@ pub fn with_marks(w: Words, k: u8, m: Marks) -> Words
     ensures { λ r. ⌜ r ≡ wordsWith w k m ⌝ }
 {
     Words {
-        token: words::put(w.token, k, m.token),
-        turn: words::put(w.turn, k, m.turn),
-        testing: words::put(w.testing, k, m.testing),
-        asked: words::put(w.asked, k, m.asked),
-        quiet: words::put(w.quiet, k, m.quiet),
+        token: sets::put(w.token, k, m.token),
+        turn: sets::put(w.turn, k, m.turn),
+        testing: sets::put(w.testing, k, m.testing),
+        asked: sets::put(w.asked, k, m.asked),
+        quiet: sets::put(w.quiet, k, m.quiet),
     }
 }
 
@@ -67,11 +67,11 @@ fn is_end(low: u8, high: u8, s: u8) -> bool
 pub fn own_links(net: Net, s: u8) -> u64
     ensures { λ r. ⌜ r ≡ wordBy (ownAt net s) ⌝ }
 {
-    let m = words::at_most_64(net.links);
+    let m = sets::at_most_64(net.links);
     let mut own: u64 = 0;
     for k in 0..m {
         let i = k as usize;
-        own = words::put(own, k, is_end(net.low[i], net.high[i], s));
+        own = sets::put(own, k, is_end(net.low[i], net.high[i], s));
     }
     own
 }

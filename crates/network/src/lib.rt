@@ -49,7 +49,7 @@ fn in_room(a: u32) -> u8
 fn ends_of(net: Net, k: u32) -> Ends
     ensures { λ r. ⌜ (r .low ≡ ends (networkOf net) k .low) × (r .high ≡ ends (networkOf net) k .high) ⌝ }
 {
-    if words::at_most_64(net.links) as u32 <= k {
+    if sets::at_most_64(net.links) as u32 <= k {
         return Ends { low: 0, high: 0 };
     }
     let i = k as usize;
@@ -137,7 +137,7 @@ fn station_named(stations: u8, a: u32, b: u32) -> bool
 fn link_at(net: Net, a: u32, b: u32) -> bool
     ensures { λ r. ⌜ r ≡ isLinkAt (networkOf net) a b ⌝ }
 {
-    if words::at_most_64(net.links) as u32 <= b {
+    if sets::at_most_64(net.links) as u32 <= b {
         return false;
     }
     let e = ends_of(net, b);

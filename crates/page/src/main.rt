@@ -3,7 +3,7 @@ ghost use Prim.Native.Nat.{_≤_};
 ghost use mathlib.Core.Path.{_≡_};
 ghost use lib.ListN.{length};
 ghost use Rattle.io.specs.Counts.{Counts};
-use answers::Answers;
+use page_program::Answers;
 use lines::Reading;
 use net::Net;
 use state::State;
@@ -93,9 +93,9 @@ fn take_turn(state: State, tally: Tally, reading: Reading, before: Answers) -> T
     let mut out = output_room();
     let chunk = read_chunk(reading, &mut room);
     let size = chunk.size;
-    let ran = running::run_events(state, tally, reading, &room[..size], &mut out);
+    let ran = event_program::run_events(state, tally, reading, &room[..size], &mut out);
     let written = ran.written;
-    let answers = answers::count_answers(&out[..written], before);
+    let answers = page_program::count_answers(&out[..written], before);
     let after = ran.state;
     let read = ran.reading;
     let counts = ran.tally;
@@ -110,14 +110,14 @@ fn take_turn(state: State, tally: Tally, reading: Reading, before: Answers) -> T
 
 fn print_counts(answers: Answers) {
     let mut out = page_room();
-    let wrote = answers::put_counts(answers, &mut out);
+    let wrote = page_program::put_counts(answers, &mut out);
     let written = wrote.written;
     io::write_all(1, &out[..written]);
 }
 
 fn print_station(state: State, i: u8) {
     let mut out = page_room();
-    let wrote = paging::put_station(state, i, &mut out);
+    let wrote = page_program::put_station(state, i, &mut out);
     let written = wrote.written;
     io::write_all(1, &out[..written]);
 }
@@ -131,7 +131,7 @@ fn finish(state: State, stations: u8, answers: Answers) {
 }
 
 fn run(net: Net) {
-    let begun = beginning::fresh(net);
+    let begun = state::fresh(net);
     let first = begun.state;
     let mut state = first;
     let mut tally = Tally {

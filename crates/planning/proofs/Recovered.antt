@@ -4,8 +4,8 @@ use mathlib.Core.Bool.{Bool, true, false, not, _&&_, _||_}
 use mathlib.Core.Path.{_≡_, refl, ap, ap₂, _∙_}
 use Rattle.lists.specs.Lists.{if_then_else_}
 use Rattle.lists.specs.Words.{inWord}
-use Rattle.words.specs.Sets.{wordBy}
-use Rattle.words.proofs.WordLaws.{by-ext, by-same, in-by}
+use Rattle.sets.specs.Sets.{wordBy}
+use Rattle.sets.proofs.WordLaws.{by-ext, by-same, in-by}
 use Rattle.marks.specs.declared.Marks.{Marks}
 use Rattle.marks.specs.declared.Words.{Words}
 use Rattle.marks.specs.Marks.{marksAt}

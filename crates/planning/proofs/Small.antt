@@ -9,8 +9,8 @@ use Rattle.lists.proofs.Words.{zero-is-out, none-in}
 use Rattle.net.specs.declared.Body.the-variants.{Request}
 use Rattle.net.specs.declared.Letter.{Letter}
 use Rattle.counters.specs.Counters.{even, timedOut}
-use Rattle.words.specs.Sets.{wordBy}
-use Rattle.words.proofs.WordLaws.{by-ext, by-none}
+use Rattle.sets.specs.Sets.{wordBy}
+use Rattle.sets.proofs.WordLaws.{by-ext, by-none}
 use Rattle.marks.specs.declared.Marks.{Marks}
 use Rattle.marks.specs.declared.Words.{Words}
 use Rattle.marks.specs.Marks.{marksAt, wordsWith}

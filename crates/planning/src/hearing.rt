@@ -60,13 +60,13 @@ pub(crate) fn hearing(
     if !station::is_live(condition) {
         return Heard::Gone;
     }
-    if words::has(w.quiet, k) {
+    if sets::has(w.quiet, k) {
         return Heard::Gone;
     }
     match body {
-        Body::Request => request_heard(words::has(w.testing, k), sender, me),
+        Body::Request => request_heard(sets::has(w.testing, k), sender, me),
         Body::Reply(carried) => {
-            if words::has(w.testing, k) {
+            if sets::has(w.testing, k) {
                 reply_heard(c, carried)
             } else {
                 Heard::Nothing

@@ -123,11 +123,11 @@ fn loud_words(w: Words, k: u8) -> Words
 fn recovered_words(own: u64, w: Words) -> Words
     ensures { λ r. ⌜ r ≡ marksBy own w (recoveryAct .marks) ⌝ }
 {
-    let flips = words::without(own, w.token);
-    let turn = words::join(words::without(w.turn, flips), words::without(flips, w.turn));
-    let testing = words::join(w.testing, tests_on(own, w));
+    let flips = sets::without(own, w.token);
+    let turn = sets::join(sets::without(w.turn, flips), sets::without(flips, w.turn));
+    let testing = sets::join(w.testing, tests_on(own, w));
     Words {
-        token: words::without(w.token, own),
+        token: sets::without(w.token, own),
         turn,
         testing,
         asked: w.asked,
@@ -139,8 +139,8 @@ fn recovered_words(own: u64, w: Words) -> Words
 fn tests_on(own: u64, w: Words) -> u64
     ensures { λ r. ⌜ r ≡ linksWord own w (allOwn intervalTests) ⌝ }
 {
-    let neither = words::without(words::without(own, w.token), w.turn);
-    words::without(own, neither)
+    let neither = sets::without(sets::without(own, w.token), w.turn);
+    sets::without(own, neither)
 }
 
 // ---- events 1 to 6, each by its number in document 01
@@ -232,7 +232,7 @@ fn plan_interval(k: u8, condition: Condition, w: Words) -> Plan
     if !may_end(condition, m) {
         return forms::staying(7, 0, 0, condition, w);
     }
-    let requests = words::put(0, k, tests_now(m));
+    let requests = sets::put(0, k, tests_now(m));
     let after = marks::with_marks(w, k, interval_marks(m));
     forms::turning(condition, after, requests, false)
 }
@@ -242,15 +242,15 @@ fn plan_interval(k: u8, condition: Condition, w: Words) -> Plan
 fn plan_timeout(own: u64, k: u8, c: u16, condition: Condition, w: Words) -> Plan
     ensures { λ r. ⌜ r ≡ ownPlan TimeoutEnd own k c condition w ⌝ }
 {
-    if !words::has(w.testing, k) {
+    if !sets::has(w.testing, k) {
         return forms::staying(7, 0, 0, condition, w);
     }
     if !counters::is_even(c) {
         return forms::turning(condition, ended_words(w, k), 0, false);
     }
     let after = failed_words(w, k);
-    let subjects = words::put(0, k, true);
-    let ways = words::put(words::without(own, w.quiet), k, false); // every other own link
+    let subjects = sets::put(0, k, true);
+    let ways = sets::put(sets::without(own, w.quiet), k, false); // every other own link
     let raised = Tally {
         settled: 0,
         raised: 1,
@@ -265,7 +265,7 @@ fn plan_timeout(own: u64, k: u8, c: u16, condition: Condition, w: Words) -> Plan
 fn plan_quiet_end(k: u8, condition: Condition, w: Words) -> Plan
     ensures { λ r. ⌜ r ≡ ownPlan QuietEnd 0 k 0 condition w ⌝ }
 {
-    if !words::has(w.quiet, k) {
+    if !sets::has(w.quiet, k) {
         return forms::staying(7, 0, 0, condition, w);
     }
     forms::turning(condition, loud_words(w, k), 0, false)

@@ -111,9 +111,9 @@ fn plan_answer(k: u8, c: u16, settled: u64, condition: Condition, w: Words) -> P
 {
     let after = requested_words(w, k);
     let down = !counters::is_even(c);
-    let others = words::put(18446744073709551615, k, false);
+    let others = sets::put(18446744073709551615, k, false);
     let subjects = pick(down, others, 0);
-    let ways = words::put(0, k, true);
+    let ways = sets::put(0, k, true);
     Plan {
         answer: 0,
         condition,
@@ -151,9 +151,9 @@ fn plan_reply(
     ensures { λ r. ⌜ r ≡ donePlan own w (effectAct condition k 0 (if heals then Heals to else Levels to)) (counting settled raised 0) ⌝ }
 {
     let after = replied_words(w, k);
-    let alone = words::put(0, k, true);
+    let alone = sets::put(0, k, true);
     let subjects = pick(heals, 18446744073709551615, alone);
-    let ways = words::without(own, w.quiet);
+    let ways = sets::without(own, w.quiet);
     let counts = counted(settled, raised);
     forms::telling(
         condition,
@@ -180,8 +180,8 @@ fn plan_take(
 ) -> Plan
     ensures { λ r. ⌜ r ≡ donePlan own w (effectAct condition k 0 (Takes j to)) (counting settled 1 0) ⌝ }
 {
-    let subjects = words::put(0, j, true);
-    let ways = words::put(words::without(own, w.quiet), k, false); // not back
+    let subjects = sets::put(0, j, true);
+    let ways = sets::put(sets::without(own, w.quiet), k, false); // not back
     let counts = counted(settled, 1);
     // no purge, or one notice could circle a ring for ever
     forms::telling(condition, w, j, to, false, false, subjects, ways, counts)

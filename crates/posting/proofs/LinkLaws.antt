@@ -19,8 +19,8 @@ use Rattle.lists.proofs.Words.{one-is-in, zero-is-out, not-at}
 use Rattle.lists.proofs.Counts.{Run, run}
 use Rattle.lists.proofs.First.{first-below}
 use Rattle.lists.proofs.Heads.{fails-still, keep-head, keep-nothing}
-use Rattle.words.specs.Sets.{wordBy}
-use Rattle.words.proofs.WordLaws.{in-by, by-ext, by-none, off-fits, off-is}
+use Rattle.sets.specs.Sets.{wordBy}
+use Rattle.sets.proofs.WordLaws.{in-by, by-ext, by-none, off-fits, off-is}
 use Rattle.station.specs.Values.{membersOf}
 use Rattle.station.proofs.Sent.{keep-same}
 use Rattle.posting.specs.Links.{someIn, lowestIn, lessLowest}

@@ -4,7 +4,7 @@ use mathlib.Core.Bool.{Bool, false}
 use lib.Dec.{eqb}
 use Rattle.lists.specs.Lists.{if_then_else_, any, firstOf, below}
 use Rattle.lists.specs.Words.{inWord}
-use Rattle.words.specs.Sets.{wordBy}
+use Rattle.sets.specs.Sets.{wordBy}
 
 -- the word has a link
 unfoldable pub someIn : ℕ → Bool

@@ -5,3 +5,6 @@ pub mod Tables
 pub mod Working
 pub mod Same
 pub mod Cases
+pub mod PurgingTables
+pub mod Numbers
+pub mod Links

@@ -11,8 +11,8 @@ use lib.Seq.{getD-take}
 use borrow.Author.Tests.{lt-ltb, le-ltb}
 use Rattle.lists.specs.Words.{inWord}
 use Rattle.lists.proofs.Fill.{getD-any}
-use Rattle.words.specs.Sets.{wordBy, upTo}
-use Rattle.words.proofs.WordLaws.{in-by, out-by, by-same}
+use Rattle.sets.specs.Sets.{wordBy, upTo}
+use Rattle.sets.proofs.WordLaws.{in-by, out-by, by-same}
 use Rattle.net.specs.declared.Net.{Net}
 use Rattle.counters.specs.Counters.{even}
 use Rattle.reach.specs.Reach.{worksIn}

@@ -4,7 +4,7 @@ use Prim.Native.Nat.{ℕ, min}
 use mathlib.Core.Bool.{Bool}
 use mathlib.Core.List.{List, _++_}
 use lib.ListN.{take, drop}
-use Rattle.words.specs.Sets.{wordBy}
+use Rattle.sets.specs.Sets.{wordBy}
 use Rattle.net.specs.declared.Net.{Net}
 use Rattle.net.specs.Values.{networkOf, linkCount}
 use Rattle.reach.specs.Reach.{worksIn, reach, purge}

@@ -4,8 +4,12 @@
 ghost use mathlib.Core.Path.{_≡_};
 ghost use Prim.Native.Nat.{_+_, _<_, _^_};
 ghost use Rattle.lists.specs.Words.{bitAt, inWord, wordOf};
-ghost use Rattle.reach.specs.Values.{reachOf, workingOf};
+ghost use Rattle.reach.specs.Values.{reachOf, workingOf, purgedOf};
 ghost use Rattle.reach.specs.Steps.{crosses, Apart};
+ghost use Rattle.reach.specs.PurgingSteps.{purgedTo};
+ghost use mathlib.Core.Bool.{_||_};
+ghost use Rattle.reach.specs.Reach.{linkValue};
+ghost use Rattle.reach.specs.ShowingValues.{reachedOf, onesOf, lowestMissing};
 use counters::Counters;
 use net::Net;
 
@@ -30,7 +34,7 @@ fn joins(n: u8, a: u8, b: u8, works: bool, w: u32) -> bool
     if n <= b {
         return false;
     }
-    bits::bit_of(w, a) != bits::bit_of(w, b)
+    sets::bit_of(w, a) != sets::bit_of(w, b)
 }
 
 // The word with the one of two ends that it lacks.
@@ -38,7 +42,7 @@ fn grown(a: u8, b: u8, w: u32) -> u32
     requires { ⌜ (a < 32) × (b < 32) × (bitAt w a ≡ bitAt w b → ⊥) ⌝ }
     ensures { λ r. ⌜ Apart a b w r ⌝ }
 {
-    if bits::bit_of(w, a) == 0 {
+    if sets::bit_of(w, a) == 0 {
         with_bit(w, a)
     } else {
         with_bit(w, b)
@@ -50,11 +54,11 @@ fn grown(a: u8, b: u8, w: u32) -> u32
 pub fn working_links(links: u8, counters: Counters) -> u64
     ensures { λ r. ⌜ r ≡ workingOf links counters ⌝ }
 {
-    let m = bits::at_most(links, 64);
+    let m = sets::at_most(links, 64);
     let mut working: u64 = 0;
     for k in 0..m {
         let i = k as usize;
-        working = words::put(working, k, counters::is_even(counters[i]));
+        working = sets::put(working, k, counters::is_even(counters[i]));
     }
     working
 }
@@ -65,8 +69,8 @@ pub fn working_links(links: u8, counters: Counters) -> u64
 pub fn reach_word(net: Net, working: u64, s: u8) -> u32
     ensures { λ r. ⌜ r ≡ wordOf (reachOf net (inWord working) s) ⌝ }
 {
-    let n = bits::at_most(net.stations, 32);
-    let m = bits::at_most(net.links, 64);
+    let n = sets::at_most(net.stations, 32);
+    let m = sets::at_most(net.links, 64);
     if n <= s {
         return 0;
     }
@@ -79,7 +83,7 @@ pub fn reach_word(net: Net, working: u64, s: u8) -> u32
                 break 'grow;
             }
             let i = k as usize;
-            if joins(n, net.low[i], net.high[i], words::has(working, k), w) {
+            if joins(n, net.low[i], net.high[i], sets::has(working, k), w) {
                 break 'search k;
             }
             k += 1;
@@ -88,4 +92,81 @@ pub fn reach_word(net: Net, working: u64, s: u8) -> u32
         w = grown(net.low[j], net.high[j], w);
     }
     w
+}
+
+// ---- Purge: what a station forgets of links that it doesn't reach. Every public function answers every input;
+// what a bad network or a station that is not there gives is said in reach/specs/Values.antt.
+
+// A link's counter after a purge: kept if the word has an end of it.
+fn purge_one(a: u8, b: u8, counter: u16, w: u32) -> u16
+    ensures { λ r. ⌜ r ≡ purgedTo a b counter w ⌝ }
+{
+    if sets::has_end(a, b, w) { counter } else { 1 }
+}
+
+// The counters after a purge at s: 1 for each link neither of whose ends s reaches over the working links.
+// Promise: equals `reach.Values.purgedOf`: counter 1 for every link neither of whose ends s reaches over the working links, all else as it
+// was.
+pub fn purged(net: Net, working: u64, counters: Counters, s: u8) -> Counters
+    ensures { λ r. ⌜ r ≡ purgedOf net (inWord working) counters s ⌝ }
+{
+    let m = sets::at_most(net.links, 64);
+    let w = reach_word(net, working, s);
+    let mut next = counters;
+    for k in 0..m {
+        let i = k as usize;
+        next[i] = purge_one(net.low[i], net.high[i], counters[i], w);
+    }
+    next
+}
+
+// ---- What is shown of a reach: the word's two numbers, and how the report shows a link. Every public function answers every
+// input; what a bad network or a station that is not there gives is said in reach/specs/Values.antt.
+
+// A reach: bit t of the word for station t, how many bits are set, and the lowest station not reached or 255.
+pub struct Reached {
+    pub word: u32,
+    pub ones: u8,
+    pub lowest: u8,
+}
+
+// How many bits of the word are set.
+// Promise: equals `Values.onesOf`: the sum of the word's bits.
+fn count_ones(word: u32) -> u8
+    ensures { λ r. ⌜ r ≡ onesOf word ⌝ }
+{
+    u32::count_ones(word) as u8
+}
+
+// The lowest station that the word lacks, or 255.
+// Promise: equals `Values.lowestMissing`: the lowest station that the word lacks, or 255.
+fn lowest_missing(word: u32, stations: u8) -> u8
+    ensures { λ r. ⌜ r ≡ lowestMissing word stations ⌝ }
+{
+    let n = sets::at_most(stations, 32);
+    let z = u32::trailing_zeros(!word);
+    if z < n as u32 { z as u8 } else { 255 }
+}
+
+// The reach word with its two numbers.
+// Promise: equals `Values.reachedOf`: word, ones and lowest of one and the same reach.
+pub fn reach_of(net: Net, working: u64, s: u8) -> Reached
+    ensures { λ r. ⌜ r ≡ reachedOf net (inWord working) s ⌝ }
+{
+    let word = reach_word(net, working, s);
+    let ones = count_ones(word);
+    let lowest = lowest_missing(word, net.stations);
+    Reached { word, ones, lowest }
+}
+
+// How the report shows a link with the ends low and high, which works or not, to the station whose reach word this is.
+// Promise: equals `reach.Reach.linkValue`: 0 neither end reached, 1 working, 2 not.
+pub fn link_shown(low: u8, high: u8, works: bool, word: u32) -> u8
+    ensures { λ r. ⌜ r ≡ linkValue (inWord word low || inWord word high) works ⌝ }
+{
+    if sets::has_end(low, high, word) {
+        if works { 1 } else { 2 }
+    } else {
+        0
+    }
 }

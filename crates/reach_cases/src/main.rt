@@ -70,7 +70,7 @@ fn print_links(net: Net, working: u64, word: u32, links: u8)
 {
     for k in 0..links {
         let i = k as usize;
-        let shown = showing::link_shown(net.low[i], net.high[i], words::has(working, k), word);
+        let shown = reach::link_shown(net.low[i], net.high[i], sets::has(working, k), word);
         print(shown as u64);
     }
 }
@@ -89,13 +89,13 @@ fn run(case: &[u8])
         io::write_all(1, b" broken");
     }
     let working = reach::working_links(net.links, counters);
-    let got = showing::reach_of(net, working, s);
+    let got = reach::reach_of(net, working, s);
     io::write_all(1, b"\nreach");
     print(got.word as u64);
     print(got.ones as u64);
     print(got.lowest as u64);
     io::write_all(1, b"\npurged");
-    print_counters(purging::purged(net, working, counters, s), links);
+    print_counters(reach::purged(net, working, counters, s), links);
     io::write_all(1, b"\nlinks");
     print_links(net, working, got.word, links);
     io::write_all(1, b"\n");

@@ -5,8 +5,8 @@ use mathlib.Core.Path.{_≡_, sym, ap, _∙_}
 use borrow.Author.Tests.{eq-eqb, ne-eqb}
 use Rattle.lists.specs.Lists.{if_then_else_}
 use Rattle.net.specs.declared.Net.{Net}
-use Rattle.showing.specs.declared.Reached.{Reached}
-use Rattle.showing.specs.Values.{reachedOf}
+use Rattle.reach.specs.declared.Reached.{Reached}
+use Rattle.reach.specs.ShowingValues.{reachedOf}
 use Rattle.report.specs.Answers.{noReach, reachedBy}
 
 -- ---- the reach, where no number refuses it

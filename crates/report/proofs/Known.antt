@@ -12,8 +12,8 @@ use Rattle.net.specs.Network.{Network}
 use Rattle.reach.specs.Reach.{worksIn, reach, countOf, lowestOf}
 use Rattle.reach.specs.Values.{tableOf, workingOf}
 use Rattle.reach.proofs.Working.{working-is}
-use Rattle.showing.specs.declared.Reached.{Reached}
-use Rattle.showing.specs.Values.{reachedOf}
+use Rattle.reach.specs.declared.Reached.{Reached}
+use Rattle.reach.specs.ShowingValues.{reachedOf}
 use Rattle.world.specs.World.{World, holdingAt, reachAt}
 use Rattle.state.specs.declared.State.{State}
 use Rattle.state.specs.State.{stationIn, worldOf, stateHolds, Sized}

@@ -15,9 +15,9 @@ use Rattle.net.specs.Values.{networkOf}
 use Rattle.reach.specs.Reach.{worksIn, Reaches, reach, countOf, lowestOf}
 use Rattle.reach.specs.Values.{tableOf}
 use Rattle.reach.proofs.Word.{word-bit}
-use Rattle.showing.specs.declared.Reached.{Reached}
-use Rattle.showing.specs.Values.{reachedOf, onesOf}
-use Rattle.showing.proofs.Numbers.{ones-of-reach}
+use Rattle.reach.specs.declared.Reached.{Reached}
+use Rattle.reach.specs.ShowingValues.{reachedOf, onesOf}
+use Rattle.reach.proofs.Numbers.{ones-of-reach}
 use Rattle.world.specs.World.{holdingAt, reachAt}
 use Rattle.world.proofs.Reports as R
 use Rattle.state.specs.declared.State.{State}

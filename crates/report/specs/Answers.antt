@@ -4,8 +4,8 @@ use mathlib.Core.Bool.{Bool}
 use lib.Dec.{eqb}
 use Rattle.lists.specs.Lists.{if_then_else_}
 use Rattle.net.specs.declared.Net.{Net}
-use Rattle.showing.specs.declared.Reached.{Reached}
-use Rattle.showing.specs.Values.{reachedOf}
+use Rattle.reach.specs.declared.Reached.{Reached}
+use Rattle.reach.specs.ShowingValues.{reachedOf}
 use Rattle.world.specs.World.{reachAt}
 use Rattle.state.specs.declared.State.{State}
 use Rattle.state.specs.State.{worldOf}

@@ -11,7 +11,7 @@ ghost use Rattle.lists.specs.Lists.{filled};
 ghost use Rattle.report.specs.ReportsAnswers.{answerOf, outputOf, withRoom, writtenOver};
 ghost use Rattle.report.specs.Steps.{reportIn, linkShown};
 use net::Net;
-use showing::Reached;
+use reach::Reached;
 use state::State;
 use station::Condition;
 
@@ -31,7 +31,7 @@ fn reached_by(number: u8, net: Net, working: u64, me: u8) -> Reached
             lowest: 0,
         };
     }
-    showing::reach_of(net, working, me)
+    reach::reach_of(net, working, me)
 }
 
 // The reach of station a by its own table. Refusals in their order: 11, 6, 7.
@@ -103,7 +103,7 @@ fn put_links(out: &mut [u8], net: Net, working: u64, word: u32, m: u8)
 {
     for k in 0..m {
         let i = k as usize;
-        out[i] = showing::link_shown(net.low[i], net.high[i], words::has(working, k), word);
+        out[i] = reach::link_shown(net.low[i], net.high[i], sets::has(working, k), word);
     }
 }
 
@@ -115,8 +115,8 @@ fn written(number: u8, net: Net, working: u64, me: u8, out: &mut [u8]) -> u8
     if number != 0 {
         return number;
     }
-    let n = bits::at_most(net.stations, 32);
-    let m = bits::at_most(net.links, 64);
+    let n = sets::at_most(net.stations, 32);
+    let m = sets::at_most(net.links, 64);
     let from = n as usize;
     let size = from + m as usize;
     if out.len() < size {

@@ -4,7 +4,7 @@ ghost use mathlib.Core.Path.{_≡_};
 ghost use Prim.Native.Nat.{min};
 ghost use lib.Dec.{ltb};
 ghost use lib.ListN.{getD};
-ghost use Rattle.words.specs.Sets.{wordBy, upTo};
+ghost use Rattle.sets.specs.Sets.{wordBy, upTo};
 use counters::Counters;
 
 // What a station sends: a request on each link of the first word; a notice of each subject on each way, with the counter that the
@@ -23,12 +23,12 @@ pub struct Sending {
 pub fn known_links(links: u8, counters: Counters) -> u64
     ensures { λ r. ⌜ r ≡ wordBy (upTo (λ j. ltb 1 (getD counters j 0)) (min links 64)) ⌝ }
 {
-    let m = words::at_most_64(links);
+    let m = sets::at_most_64(links);
     let mut known: u64 = 0;
     for k in 0..m {
         let i = k as usize;
         let c = counters[i];
-        known = words::put(known, k, 1 < c);
+        known = sets::put(known, k, 1 < c);
     }
     known
 }

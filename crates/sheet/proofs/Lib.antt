@@ -5,3 +5,4 @@ pub mod Loop
 pub mod Laws
 pub mod Refusals
 pub mod ValueLaws
+pub mod Output

@@ -27,7 +27,7 @@ use Rattle.station.specs.declared.Station.{Station}
 use Rattle.station.specs.Holding.{Holding, holdingHolds}
 use Rattle.station.specs.Values.{holdingOf, laid, blank}
 use Rattle.station.proofs.HoldingLaws as Slots
-use Rattle.formed.specs.Formed.{stationFormed}
+use Rattle.state_rules.specs.Formed.{stationFormed}
 use Rattle.world.specs.World.{World, nobody, noLetter, holdingAt}
 use Rattle.world.proofs.Keeps.{Formed}
 use Rattle.state.specs.declared.State.{State}

@@ -3,3 +3,5 @@ pub mod Tested
 pub mod StationRoom
 pub mod Meaning
 pub mod LaidOut
+pub mod Begin
+pub mod First

@@ -15,7 +15,7 @@ use Rattle.net.specs.Values.{isZero}
 use Rattle.station.specs.declared.Station.{Station}
 use Rattle.station.specs.Holding.{isDown}
 use Rattle.net.specs.declared.Net.{Net}
-use Rattle.formed.specs.Formed.{stationFormed}
+use Rattle.state_rules.specs.Formed.{stationFormed}
 use Rattle.state.specs.State.{noWord, isBlank, stationPlace, isNoLetter, letterIn}
 use Rattle.state.specs.declared.State.{State}
 

@@ -26,7 +26,7 @@ use Rattle.station.specs.declared.Station.{Station}
 use Rattle.station.specs.Holding.{Holding, noMarks, isDown, isOff, holdingHolds}
 use Rattle.station.specs.Values.{holdingOf, bitsOf, laidWord, laidWords, laid, blank, unmarked, noWords}
 use Rattle.station.proofs.Laid.{Fit, laid-same}
-use Rattle.formed.specs.Formed.{stationFormed}
+use Rattle.state_rules.specs.Formed.{stationFormed}
 use Rattle.state.specs.State.{noWord, isBlank, Fits}
 
 -- ---- marks that are off, counters that are zero

@@ -17,8 +17,8 @@ use Rattle.net.specs.Letters.{letterHolds}
 use Rattle.net.specs.Values.{networkOf, linkCount}
 use Rattle.sheet_rules.specs.Values.{netHolds}
 use Rattle.sheet_rules.proofs.Good.{few-places}
-use Rattle.carried.specs.Carried.{letterTest}
-use Rattle.carried.proofs.LetterTests.{letter-is, letter-past}
+use Rattle.state_rules.specs.Carried.{letterTest}
+use Rattle.state_rules.proofs.LetterTests.{letter-is, letter-past}
 use Rattle.state.specs.declared.State.{State}
 use Rattle.state.specs.State.{stationIn, letterIn, stationPlace, letterPlace, isNoLetter, stationsHold, lettersHold, stateHolds, Fits, Ends64, Sized}
 use Rattle.state.proofs.Places.{restAt}

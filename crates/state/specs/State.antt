@@ -20,7 +20,7 @@ use Rattle.station.specs.declared.Station.{Station}
 use Rattle.station.specs.declared.Condition.the-variants.{Down}
 use Rattle.station.specs.Holding.{isDown}
 use Rattle.station.specs.Values.{holdingOf, laid, blank, noWords}
-use Rattle.formed.specs.Formed.{stationFormed}
+use Rattle.state_rules.specs.Formed.{stationFormed}
 use Rattle.world.specs.World.{World, noLetter}
 use Rattle.state.specs.declared.State.{State}
 

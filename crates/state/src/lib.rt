@@ -7,6 +7,11 @@ ghost use lib.Dec.{leb, eqb};
 ghost use Rattle.sheet_rules.specs.Values.{netHolds};
 ghost use Rattle.station.specs.Holding.{isDown};
 ghost use Rattle.state.specs.State.{isRequest, isBlank, isNoLetter, noWord, stationPlace, stateHolds, Fits, Sized};
+ghost use Rattle.net.specs.Values.{networkOf};
+ghost use Rattle.station.specs.Done.{stopped};
+ghost use Rattle.station.specs.Values.{laid, blank};
+ghost use Rattle.world.specs.World.{noLetter};
+ghost use Rattle.state.specs.Beginning.{begunOf};
 use marks::Words;
 use net::Body;
 use net::Letter;
@@ -70,7 +75,7 @@ fn station_place(net: Net, i: u8, st: Station) -> bool
     ensures { λ r. ⌜ (r ≡ stationPlace net i st) × Fits st ⌝ }
 {
     if i < net.stations {
-        return formed::station_formed(net, i, st);
+        return state_rules::station_formed(net, i, st);
     }
     is_blank(st)
 }
@@ -131,7 +136,7 @@ pub fn well_formed(s: State) -> bool
         let at = j as usize;
         let x = s.letters[at];
         let k = in_room(x.link);
-        if !carried::letter_formed(net.links, net.low[k], net.high[k], x) {
+        if !state_rules::letter_formed(net.links, net.low[k], net.high[k], x) {
             return false;
         }
     }
@@ -142,4 +147,93 @@ pub fn well_formed(s: State) -> bool
         rest += word_of(x);
     }
     rest == 0
+}
+
+// ---- The state right after a sheet is read: every station down, no letter in flight.
+
+// A state just made, or the number that says no.
+pub struct Begun {
+    pub answer: u8,
+    pub state: State,
+}
+
+fn no_station() -> Station
+    ensures { λ r. ⌜ r ≡ blank ⌝ }
+{
+    Station {
+        condition: Condition::Down,
+        counters: [0u16; 64],
+        marks: Words {
+            token: 0,
+            turn: 0,
+            testing: 0,
+            asked: 0,
+            quiet: 0,
+        },
+    }
+}
+
+// Down, counters 1, no mark.
+fn down_station(net: Net) -> Station
+    ensures { λ r. ⌜ r ≡ laid net blank (stopped (networkOf net) 0 .holding) ⌝ }
+{
+    Station {
+        condition: Condition::Down,
+        counters: station::fresh_counters(net.links),
+        marks: Words {
+            token: 0,
+            turn: 0,
+            testing: 0,
+            asked: 0,
+            quiet: 0,
+        },
+    }
+}
+
+fn no_letter() -> Letter
+    ensures { λ r. ⌜ r ≡ noLetter ⌝ }
+{
+    Letter {
+        link: 0,
+        sender: 0,
+        body: Body::Request,
+    }
+}
+
+// The state with every station down and no letter in flight; 11 for a bad network, with a state that no call accepts.
+// Promise: equals `Beginning.begunOf`: 0 and the state in which every station is down and no letter is in flight; 11 for a bad network,
+// with a state that no call accepts.
+pub fn fresh(net: Net) -> Begun
+    ensures { λ r. ⌜ r ≡ begunOf net ⌝ }
+{
+    let nobody = no_station();
+    let mut stations = [nobody; 32];
+    let unused = no_letter();
+    let letters = [unused; 4096];
+    if !sheet_rules::keeps_sheet_rules(net) {
+        return Begun {
+            answer: 11,
+            state: State {
+                net,
+                flying: 0,
+                stations,
+                letters,
+            },
+        };
+    }
+    let down = down_station(net);
+    let n = net.stations;
+    for i in 0..n {
+        let at = i as usize;
+        stations[at] = down;
+    }
+    Begun {
+        answer: 0,
+        state: State {
+            net,
+            flying: 0, // no letter
+            stations,
+            letters,
+        },
+    }
 }

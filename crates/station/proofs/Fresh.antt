@@ -12,8 +12,8 @@ use Rattle.net.specs.declared.Net.{Net}
 use Rattle.net.specs.Network.{linkNumbers}
 use Rattle.net.specs.Values.{networkOf, linkCount}
 use Rattle.net.proofs.ValueLaws.{links-of}
-use Rattle.words.specs.Sets.{wordBy}
-use Rattle.words.proofs.WordLaws.{by-none}
+use Rattle.sets.specs.Sets.{wordBy}
+use Rattle.sets.proofs.WordLaws.{by-none}
 use Rattle.marks.specs.Marks.{marksAt}
 use Rattle.station.specs.declared.Condition.the-variants.{Down}
 use Rattle.station.specs.declared.Station.{Station}

@@ -15,8 +15,8 @@ use Rattle.lists.proofs.Numbers.{getD-map-below, length-map-below}
 use Rattle.net.specs.declared.Net.{Net}
 use Rattle.net.specs.Values.{linkCount}
 use Rattle.reach.specs.Values.{tableOf}
-use Rattle.words.specs.Sets.{wordBy}
-use Rattle.words.proofs.WordLaws.{by-ext, by-same}
+use Rattle.sets.specs.Sets.{wordBy}
+use Rattle.sets.proofs.WordLaws.{by-ext, by-same}
 use Rattle.marks.specs.declared.Marks.{Marks}
 use Rattle.marks.specs.declared.Words.{Words}
 use Rattle.marks.specs.Marks.{marksAt, wordsBy, wordsWith}

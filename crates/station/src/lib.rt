@@ -97,7 +97,7 @@ fn no_counters() -> Counters
 pub fn fresh_counters(links: u8) -> Counters
     ensures { λ r. ⌜ r ≡ freshTable (min links 64) ⌝ }
 {
-    let m = words::at_most_64(links);
+    let m = sets::at_most_64(links);
     let mut counters = no_counters();
     for k in 0..m {
         let i = k as usize;

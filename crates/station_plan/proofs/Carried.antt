@@ -18,8 +18,8 @@ use Rattle.net.specs.Values.{networkOf, linkCount}
 use Rattle.net.proofs.ValueLaws.{links-of}
 use Rattle.reach.specs.Reach.{worksIn, purge}
 use Rattle.reach.specs.Values.{tableOf, purgedOf}
-use Rattle.words.specs.Sets.{wordBy}
-use Rattle.words.proofs.WordLaws.{in-by}
+use Rattle.sets.specs.Sets.{wordBy}
+use Rattle.sets.proofs.WordLaws.{in-by}
 use Rattle.marks.specs.declared.Marks.{Marks}
 use Rattle.marks.specs.declared.Words.{Words}
 use Rattle.marks.specs.Marks.{marksAt, wordsWith, ownAt}

@@ -18,8 +18,8 @@ use Rattle.net.proofs.ValueLaws.{links-of}
 use Rattle.reach.specs.Reach.{counterIn}
 use Rattle.reach.specs.Values.{tableOf}
 use Rattle.reach.proofs.Tables.{counter-of}
-use Rattle.words.specs.Sets.{wordBy, upTo}
-use Rattle.words.proofs.WordLaws.{by-same, in-by, all-in}
+use Rattle.sets.specs.Sets.{wordBy, upTo}
+use Rattle.sets.proofs.WordLaws.{by-same, in-by, all-in}
 use Rattle.marks.specs.declared.Marks.{Marks}
 use Rattle.marks.specs.Marks.{marksAt, ownAt}
 use Rattle.station.specs.declared.Station.{Station}

@@ -10,7 +10,7 @@ use Rattle.net.specs.declared.Net.{Net}
 use Rattle.net.specs.Values.{linkCount}
 use Rattle.reach.specs.Reach.{worksIn}
 use Rattle.reach.specs.Values.{tableOf, purgedOf}
-use Rattle.words.specs.Sets.{wordBy, upTo}
+use Rattle.sets.specs.Sets.{wordBy, upTo}
 use Rattle.sending.specs.declared.Sending.{Sending}
 use Rattle.station.specs.Values.{freshTable}
 

@@ -9,7 +9,7 @@ use Rattle.net.specs.declared.Body.the-variants.{Request}
 use Rattle.net.specs.declared.Letter.{Letter}
 use Rattle.net.specs.declared.Net.{Net}
 use Rattle.net.specs.Values.{networkOf, linkCount}
-use Rattle.words.specs.Sets.{wordBy}
+use Rattle.sets.specs.Sets.{wordBy}
 use Rattle.marks.specs.declared.Words.{Words}
 use Rattle.marks.specs.Marks.{marksAt, ownAt}
 use Rattle.station.specs.declared.Condition.{Condition}

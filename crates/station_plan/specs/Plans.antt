@@ -10,7 +10,7 @@ use Rattle.tally.specs.declared.Tally.{Tally}
 use Rattle.net.specs.declared.Letter.{Letter}
 use Rattle.net.specs.declared.Net.{Net}
 use Rattle.net.specs.Values.{linkCount}
-use Rattle.words.specs.Sets.{wordBy}
+use Rattle.sets.specs.Sets.{wordBy}
 use Rattle.marks.specs.declared.Words.{Words}
 use Rattle.marks.specs.Marks.{marksAt, wordsBy, wordsWith}
 use Rattle.sending.specs.declared.Sending.{Sending}

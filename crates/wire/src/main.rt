@@ -80,7 +80,7 @@ fn take_turn(net: Net, reading: HexReading) -> Turn {
     let mut out = output_room();
     let chunk = read_chunk(reading, &mut room);
     let size = chunk.size;
-    let passed = wiring::run_letters(net, reading, &room[..size], &mut out);
+    let passed = wire_program::run_letters(net, reading, &room[..size], &mut out);
     let written = passed.written;
     io::write_all(1, &out[..written]);
     let read = passed.reading;
@@ -107,7 +107,7 @@ fn run(net: Net) {
 
 fn show_sheet(file: &[u8]) {
     let mut out = output_room();
-    let wrote = sheet_line::put_sheet(file, &mut out);
+    let wrote = wire_program::put_sheet(file, &mut out);
     let written = wrote.written;
     io::write_all(1, &out[..written]);
 }

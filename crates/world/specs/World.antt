@@ -15,7 +15,7 @@ use Rattle.net.specs.Network.{Network, isEnd, other, linkNumbers}
 use Rattle.sheet_rules.specs.Rules.{sheetHolds}
 use Rattle.net.specs.Letters.{letterHolds}
 use Rattle.reach.specs.Reach.{worksIn, reach, countOf, lowestOf, report}
-use Rattle.showing.specs.declared.Reached.{Reached}
+use Rattle.reach.specs.declared.Reached.{Reached}
 use Rattle.station.specs.declared.Kind.{Kind}
 use Rattle.station.specs.declared.Kind.the-variants.{NoSuch, Start, Stop, Recovery, IntervalEnd, TimeoutEnd, QuietEnd, Delivery, Loss}
 use Rattle.station.specs.Holding.{Holding, counter, isLive, holdingHolds}

@@ -4,8 +4,8 @@ use native.Mathlib.Omega.{arith}
 use borrow.Author.Needs.{needs}
 use Rattle.net.specs.Network.{isEnd}
 use Rattle.net.specs.Values.{networkOf, linkCount}
-use Rattle.words.specs.Sets.{wordBy, upTo}
-use Rattle.words.proofs.WordLaws.{upto-none, upto-more}
+use Rattle.sets.specs.Sets.{wordBy, upTo}
+use Rattle.sets.proofs.WordLaws.{upto-none, upto-more}
 use Rattle.marks.proofs.OwnLinks.{own-read}
 use Rattle.marks.proofs.own_links.Statement.{statement}
 use Rattle.marks.proofs.own_links.Tie as tie

@@ -4,8 +4,8 @@ use native.Mathlib.Omega.{arith}
 use borrow.Author.Needs.{needs}
 use lib.ListN.{getD}
 use Rattle.counters.specs.Counters.{even}
-use Rattle.words.specs.Sets.{wordBy, upTo}
-use Rattle.words.proofs.WordLaws.{upto-none, upto-more}
+use Rattle.sets.specs.Sets.{wordBy, upTo}
+use Rattle.sets.proofs.WordLaws.{upto-none, upto-more}
 use Rattle.reach.proofs.Working.{working-made}
 use Rattle.reach.proofs.working_links.Statement.{statement}
 use Rattle.reach.proofs.working_links.Tie as tie

@@ -4,8 +4,8 @@ use native.Mathlib.Omega.{arith}
 use borrow.Author.Needs.{needs}
 use lib.Dec.{ltb}
 use lib.ListN.{getD}
-use Rattle.words.specs.Sets.{wordBy, upTo}
-use Rattle.words.proofs.WordLaws.{upto-none, upto-more}
+use Rattle.sets.specs.Sets.{wordBy, upTo}
+use Rattle.sets.proofs.WordLaws.{upto-none, upto-more}
 use Rattle.sending.proofs.known_links.Statement.{statement}
 use Rattle.sending.proofs.known_links.Tie as tie
 

@@ -1,2 +1,0 @@
-pub mod Begin
-pub mod First

@@ -1,0 +1,6 @@
+pub mod Answers
+pub mod Parts
+pub mod Worlds
+pub mod Program
+pub mod Sayings
+pub mod Stations

@@ -1,0 +1,61 @@
+-- What is printed for a line, in other words of document 01: a malformed line, and the notices settled so far. Assumes nothing.
+use Prim.Native.Nat.{ℕ, _/_, _≤_}
+use mathlib.Core.Bool.{true}
+use mathlib.Core.Path.{_≡_, refl, ap, ap₂, _∙_}
+use mathlib.Core.List.{List, [], _∷_, map}
+use native.Mathlib.Omega.{arith}
+use lib.ListN.{length}
+use borrow.Author.Tests.{le-leb}
+use Rattle.tally.specs.declared.Tally.{Tally}
+use Rattle.tally.specs.Sums.{counted}
+use Rattle.station.specs.Events.{dueOf, comesTo}
+use Rattle.world.specs.World.{World, Outcome, refused, step, exists, comes, refusal}
+use Rattle.world.specs.History.{run, orElse, everSettled}
+use Rattle.world.proofs.Steps.{step-refuses, step-number}
+use Rattle.laws.specs.Tallied.{acceptedCounts, tallyBy, tallyAfter}
+use Rattle.laws.proofs.Tallies.{Fits, tally-is-history}
+use Rattle.event_program.specs.Events.{Standing, eventBy, answerText, done, printedFor, doneAll}
+use Rattle.event_program.specs.Runs.{enough}
+
+-- ---- a malformed line names no event
+no-kind : (w : World) → refusal w (eventBy (6 ∷ [])) ≡ 6
+unfolding refusal exists comes comesTo dueOf
+no-kind w = refl
+
+none-taken : (w : World) → step w (eventBy (6 ∷ [])) ≡ refused 6
+none-taken w = step-refuses w (eventBy (6 ∷ [])) 6 (no-kind w) (λ e. omega arith)
+
+-- it changes nothing, and prints 6 with the two standing numbers
+pub malformed-stays : (st : Standing) → done st (eventBy (6 ∷ [])) ≡ st
+unfolding done
+malformed-stays st =
+    let o = none-taken (st .world) in
+    let e = eventBy (6 ∷ []) in
+    λ i. record {
+      world = ap (orElse (st .world)) o i;
+      tally = ap (λ (x : Outcome). tallyBy x (st .tally) (acceptedCounts (st .world) e)) o i;
+    }
+
+pub malformed : (st : Standing) → printedFor st (eventBy (6 ∷ [])) ≡ answerText 6 (length (st .world .letters)) (st .tally .settled)
+unfolding printedFor
+malformed st =
+    ap₂ (λ (n : ℕ) (x : Standing). answerText n (length (x .world .letters)) (x .tally .settled)) (step-number (st .world) (eventBy (6 ∷ [])) ∙ no-kind (st .world)) (malformed-stays st)
+
+-- ---- lines are a history
+pub world-after : (said : List (List ℕ)) (st : Standing) → doneAll st said .world ≡ run (st .world) (map eventBy said)
+unfolding doneAll run done
+world-after [] st = refl
+world-after (x ∷ said) st = world-after said (done st (eventBy x))
+
+pub tally-after : (said : List (List ℕ)) (st : Standing) → doneAll st said .tally ≡ tallyAfter (st .tally) (st .world) (map eventBy said)
+unfolding doneAll tallyAfter done
+tally-after [] st = refl
+tally-after (x ∷ said) st = tally-after said (done st (eventBy x))
+
+-- THE SETTLED NUMBER is the history's count of notices taken off by events 7 and 8, and stays at its largest value once there
+pub settled-so-far : (said : List (List ℕ)) (st : Standing) → Fits (st .tally) → doneAll st said .tally .settled ≡ counted (st .tally .settled) (everSettled (st .world) (map eventBy said))
+settled-so-far said st f = ap (λ (t : Tally). t .settled) (tally-after said st ∙ tally-is-history (st .tally) (st .world) (map eventBy said) f)
+
+-- the event program lends 32,768 bytes for a piece of at most 1,024: it is never refused with 10
+pub room-suffices : (bytes out : List ℕ) → length bytes ≤ 1024 → length out ≡ 32768 → enough bytes out ≡ true
+room-suffices bytes out h e = le-leb (length bytes) (length out / 32) (omega arith)

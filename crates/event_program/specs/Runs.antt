@@ -1,0 +1,59 @@
+-- What the code answers for a piece of the input, byte by byte and for every state. proofs/Program.antt: from a fresh state the pieces of
+-- an input give what specs/Events.antt says of the whole of it. Assumes nothing.
+use Prim.Native.Nat.{ℕ, _/_}
+use mathlib.Core.Bool.{Bool}
+use mathlib.Core.List.{List}
+use lib.Dec.{leb}
+use lib.ListN.{length, getD}
+use Rattle.lists.specs.Lists.{if_then_else_}
+use Rattle.tally.specs.declared.Tally.{Tally}
+use Rattle.tally.specs.Sums.{tallied}
+use Rattle.lines.specs.declared.Reading.{Reading}
+use Rattle.lines.specs.Steps.{start, readOn, lineEnd}
+use Rattle.state.specs.declared.State.{State}
+use Rattle.stepping.specs.declared.Stepped.{Stepped}
+use Rattle.stepping.specs.Step.{steppedOf}
+use Rattle.console.specs.Feeding.{heldAfter, readAfter, textAfter}
+use Rattle.event_program.specs.declared.Ran.{Ran}
+use Rattle.event_program.specs.Events.{answerText}
+
+-- what is held between two lines
+pub record Desk : Type 0 where
+  pub state : State
+  pub tally : Tally
+
+abbrev pub deskOf : State → Tally → Desk
+deskOf s t = record { state = s; tally = t }
+
+-- the step of the event that a line's numbers name
+abbrev pub stepBy : State → List ℕ → Stepped
+stepBy s said = steppedOf s (getD said 1 0) (getD said 2 0) (getD said 3 0)
+
+-- what a line does, and what is printed for it
+unfoldable pub acted : Desk → List ℕ → Desk
+acted d said =
+    let x = stepBy (d .state) said in
+    record { state = x .state; tally = tallied (d .tally) (x .counts) }
+
+unfoldable pub spoken : Desk → List ℕ → List ℕ
+spoken d said = answerText (stepBy (d .state) said .answer) (acted d said .state .flying) (acted d said .tally .settled)
+
+-- after some bytes, from a desk and the reading of a line under way
+abbrev pub deskAfter : Desk → Reading → List ℕ → Desk
+deskAfter = heldAfter start readOn lineEnd acted spoken
+
+abbrev pub lineAfter : Desk → Reading → List ℕ → Reading
+lineAfter = readAfter start readOn lineEnd acted spoken
+
+abbrev pub texts : Desk → Reading → List ℕ → List ℕ
+texts = textAfter start readOn lineEnd acted spoken
+
+-- ---- with lent output: 32 bytes for each byte of the input, or 10
+abbrev pub enough : List ℕ → List ℕ → Bool
+enough bytes old = leb (length bytes) (length old / 32)
+
+abbrev pub ranAs : ℕ → ℕ → Reading → Desk → Ran
+ranAs answer written r d = record { answer = answer; written = written; reading = r; tally = d .tally; state = d .state }
+
+abbrev pub ranBy : Bool → Desk → Reading → List ℕ → Ran
+ranBy enough d r bytes = if enough then ranAs 0 (length (texts d r bytes)) (lineAfter d r bytes) (deskAfter d r bytes) else ranAs 10 0 r d

@@ -1,0 +1,184 @@
+// Running events, on bytes and values alone: the lines of a piece of the input. Nothing here reads or writes. The stations' lines at
+// the end: crate `standing`.
+// An inner door: the calls are in docs/CALLS.md.
+ghost use mathlib.Core.Path.{_≡_};
+ghost use Prim.Native.Nat.{_+_, _≤_};
+ghost use lib.ListN.{length, drop, take};
+ghost use Rattle.lines.specs.Steps.{readOn, lineEnd};
+ghost use Rattle.console.specs.Outputs.{Counts, outputBy, Put, wroteBy};
+ghost use Rattle.console.specs.Feeding.{stopOf};
+ghost use Rattle.event_program.specs.Events.{answerText};
+ghost use Rattle.event_program.specs.Runs.{deskOf, texts, enough, ranBy};
+ghost use Rattle.event_program.specs.Steps.{askedBy, stopIn};
+ghost use lib.Dec.{leb};
+ghost use Rattle.event_program.specs.Stations.{stationText, stationsText};
+use console::Wrote;
+use lines::Line;
+use lines::Reading;
+use state::State;
+use tally::Tally;
+
+// ---- lines
+
+// The numbers of an event line. A malformed one is no event: there is no kind 0, so that it is answered by 6 and changes
+// nothing.
+struct Asked {
+    kind: u32,
+    a: u32,
+    b: u32,
+}
+
+fn asked_of(r: Reading) -> Asked
+    ensures { λ e. ⌜ e ≡ askedBy (lineEnd r) ⌝ }
+{
+    match lines::line_end(r) {
+        Line::Malformed => Asked {
+            kind: 0,
+            a: 0,
+            b: 0,
+        },
+        Line::Event(kind, a, b) => Asked { kind, a, b },
+    }
+}
+
+// A line read as far as its newline or the end of the bytes, and the place behind that.
+struct Part {
+    reading: Reading,
+    next: usize,
+    ended: bool,
+}
+
+fn read_part(r: Reading, bytes: &[u8], from: usize) -> Part
+    requires { ⌜ from ≤ length (now bytes) ⌝ }
+    ensures { λ p. ⌜ stopIn p ≡ stopOf readOn r (drop from (now (bytes .entry))) from ⌝ }
+{
+    let mut reading = r;
+    for i in from..bytes.len() {
+        let byte = bytes[i];
+        if byte == 10 {
+            return Part {
+                reading,
+                next: i + 1,
+                ended: true,
+            };
+        }
+        reading = lines::read_on(reading, byte);
+    }
+    Part {
+        reading,
+        next: bytes.len(),
+        ended: false,
+    }
+}
+
+// ---- events
+
+// Answer, letters in flight, notices settled so far.
+fn put_answer(out: &mut [u8], at: usize, answer: u8, flying: u16, settled: u64) -> usize
+    requires { ⌜ at + 32 ≤ length (now out) ⌝ }
+    ensures { λ r. ⌜ Put (answerText answer flying settled) 32 at (now (out .entry)) r (now (out .exit)) ⌝ }
+{
+    let a = text::put_number(out, at, answer as u64);
+    let b = text::put_word(out, a, b" ");
+    let c = text::put_number(out, b, flying as u64);
+    let d = text::put_word(out, c, b" ");
+    let e = text::put_number(out, d, settled);
+    text::put_word(out, e, b"\n")
+}
+
+// After a piece of the input: 0 or the number that says no, how many bytes of output there are, and all that goes on from there.
+pub struct Ran {
+    pub answer: u8,
+    pub written: usize,
+    pub reading: Reading,
+    pub tally: Tally,
+    pub state: State,
+}
+
+// Runs the event lines that end in these bytes.
+// Promise: for the lines that end in these bytes: what document 01's event program prints for each, and the state, tally and reading after
+// them.
+pub fn run_events(given: State, t: Tally, r: Reading, bytes: &[u8], out: &mut [u8]) -> Ran
+    ensures answer { λ n. ⌜ n ≡ ranBy (enough (now (bytes .entry)) (now (out .entry))) (deskOf given t) r (now (bytes .entry)) ⌝ }
+    ensures output { λ n. ⌜ now (out .exit) ≡ outputBy (enough (now (bytes .entry)) (now (out .entry))) (texts (deskOf given t) r (now (bytes .entry))) (now (out .entry)) ⌝ }
+    ensures room { λ n. ⌜ Counts (n .written) (now (out .exit)) ⌝ }
+{
+    // no line is longer than 32 bytes, and none is without a byte of input
+    if out.len() / 32 < bytes.len() {
+        return Ran {
+            answer: 10,
+            written: 0,
+            reading: r,
+            tally: t,
+            state: given,
+        };
+    }
+    let mut state = given;
+    let mut tally = t;
+    let mut at: usize = 0;
+    let mut part = read_part(r, bytes, 0);
+    while part.ended {
+        let line = part.reading;
+        let e = asked_of(line);
+        let done = network::step(state, e.kind, e.a, e.b);
+        let after = done.state;
+        state = after;
+        tally = tally::with_step(tally, done.counts);
+        at = put_answer(out, at, done.answer, state.flying, tally.settled);
+        part = read_part(lines::begin(), bytes, part.next);
+    }
+    let reading = part.reading;
+    Ran {
+        answer: 0,
+        written: at,
+        reading,
+        tally,
+        state,
+    }
+}
+
+// ---- Where the stations stand at the end of the event program: each station's counters, on bytes and values alone. Nothing here reads
+// or writes.
+
+// A station's number and its counters by link.
+fn put_station(out: &mut [u8], at: usize, i: u8, links: u8, counters: [u16; 64]) -> usize
+    requires { ⌜ (at + 400 ≤ length (now out)) × (links ≤ 64) ⌝ }
+    ensures { λ r. ⌜ Put (stationText i (take links counters)) 400 at (now (out .entry)) r (now (out .exit)) ⌝ }
+{
+    let mut to = text::put_number(out, at, i as u64);
+    for k in 0..links {
+        let here = k as usize;
+        let behind = text::put_word(out, to, b" ");
+        to = text::put_number(out, behind, counters[here] as u64);
+    }
+    text::put_word(out, to, b"\n")
+}
+
+// One line per station.
+// Promise: one line per station, its number and its counters by link.
+pub fn put_stations(s: State, out: &mut [u8]) -> Wrote
+    ensures answer { λ r. ⌜ r ≡ wroteBy (leb 12800 (length (now (out .entry)))) (stationsText s) ⌝ }
+    ensures output { λ r. ⌜ now (out .exit) ≡ outputBy (leb 12800 (length (now (out .entry)))) (stationsText s) (now (out .entry)) ⌝ }
+    ensures room { λ r. ⌜ Counts (r .written) (now (out .exit)) ⌝ }
+{
+    // 32 lines, each of at most 400 bytes
+    if out.len() < 12800 {
+        return Wrote {
+            answer: 10,
+            written: 0,
+        };
+    }
+    let n = sets::at_most(s.net.stations, 32);
+    let m = sets::at_most(s.net.links, 64);
+    let mut at: usize = 0;
+    for i in 0..n {
+        let here = i as usize;
+        let st = s.stations[here];
+        let counters = st.counters;
+        at = put_station(out, at, i, m, counters);
+    }
+    Wrote {
+        answer: 0,
+        written: at,
+    }
+}

@@ -1,0 +1,106 @@
+use Prim.Native.Nat.{ℕ}
+use mathlib.Core.List.{[], _∷_}
+use mathlib.Core.Path.{sym, ap, ap₂, _∙_}
+use denote.Ref.{now}
+use Rattle.fields.specs.Fields.{writeField}
+use Rattle.letters.specs.Letters.{bodyBytes}
+use Rattle.letters.proofs.Output.{put-as}
+use borrow.Author.Needs.{needs}
+use Rattle.letters.proofs.put_letter.Statement.{statement}
+use Rattle.letters.proofs.put_letter.Tie as tie
+use Rattle.letters.proofs.put_letter.Reads as reads
+use Rattle.letters.proofs.put_letter.Lts as lts
+use Rattle.letters.proofs.high_byte.Reads as high-byte-reads
+use Rattle.letters.proofs.low_byte.Reads as low-byte-reads
+use Rattle.letters.proofs.put_value.Reads as put-value-reads
+
+enum-told : tie.Need-enum-told
+enum-told c = search needs
+
+slice-aggregate-put-value : tie.Need-slice-aggregate-put-value
+slice-aggregate-put-value c = search needs
+
+put-value-requires : tie.Need-put-value-requires
+put-value-requires c κs = search needs
+
+enum-known-body : tie.Need-enum-known-body
+enum-known-body c = search needs
+
+high-byte-requires : tie.Need-high-byte-requires
+high-byte-requires c κs = search needs
+
+low-byte-requires : tie.Need-low-byte-requires
+low-byte-requires c κs = search needs
+
+slice-aggregate-put-value-2 : tie.Need-slice-aggregate-put-value-2
+slice-aggregate-put-value-2 c = search needs
+
+put-value-requires-2 : tie.Need-put-value-requires-2
+put-value-requires-2 c κs = search needs
+
+enum-known-body-2 : tie.Need-enum-known-body-2
+enum-known-body-2 c = search needs
+
+high-byte-requires-2 : tie.Need-high-byte-requires-2
+high-byte-requires-2 c κs = search needs
+
+low-byte-requires-2 : tie.Need-low-byte-requires-2
+low-byte-requires-2 c κs = search needs
+
+slice-aggregate-put-value-3 : tie.Need-slice-aggregate-put-value-3
+slice-aggregate-put-value-3 c = search needs
+
+put-value-requires-3 : tie.Need-put-value-requires-3
+put-value-requires-3 c κs = search needs
+
+same-length : tie.Need-same-length
+same-length c = search needs
+
+returns : tie.Need-returns
+returns c = let a = c .before .before .before .before .before .before .before .before .args in put-as _ _ (c .before .before .put-value .result) (now (a .out)) _ (sym (ap (bodyBytes (a .link) (a .side)) (c .before .before .before .before .before .enum-told .given .1))) (c .before .before .put-value .ensures)
+
+same-length-2 : tie.Need-same-length-2
+same-length-2 c = search needs
+
+returns-2 : tie.Need-returns-2
+returns-2 c =
+    let a = c .before .before .before .before .before .before .before .before .before .before .before .args in
+    let g = c .before .before .before .before .before .before .before .before .body .given in
+    put-as _ _ (c .before .before .put-value2 .result) (now (a .out)) _
+    (ap₂ (λ (x y : ℕ). writeField 34 (a .link ∷ a .side ∷ x ∷ y ∷ [])) (c .before .before .before .before .before .before .high-byte .ensures) (c .before .before .before .before .before .low-byte .ensures) ∙ sym (ap (bodyBytes (a .link) (a .side)) (g .1)))
+    (c .before .before .put-value2 .ensures)
+
+same-length-3 : tie.Need-same-length-3
+same-length-3 c = search needs
+
+returns-3 : tie.Need-returns-3
+returns-3 c =
+    let a = c .before .before .before .before .before .before .before .before .before .before .before .args in
+    let g = c .before .before .before .before .before .before .before .before .body2 .given in
+    put-as _ _ (c .before .before .put-value3 .result) (now (a .out)) _
+    (ap₂ (λ (x y : ℕ). writeField 35 (a .link ∷ a .side ∷ g .0 .0 ∷ x ∷ y ∷ [])) (c .before .before .before .before .before .before .high-byte2 .ensures) (c .before .before .before .before .before .low-byte2 .ensures) ∙ sym (ap (bodyBytes (a .link) (a .side)) (g .1)))
+    (c .before .before .put-value3 .ensures)
+
+pub put-letter-spec : {M : Type 1} → statement M
+put-letter-spec =
+    tie.close
+    (tie.spec
+    enum-told
+    slice-aggregate-put-value
+    put-value-requires
+    enum-known-body
+    high-byte-requires
+    low-byte-requires
+    slice-aggregate-put-value-2
+    put-value-requires-2
+    enum-known-body-2
+    high-byte-requires-2
+    low-byte-requires-2
+    slice-aggregate-put-value-3
+    put-value-requires-3
+    same-length
+    returns
+    same-length-2
+    returns-2
+    same-length-3
+    returns-3)

@@ -1,0 +1,5 @@
+pub mod Given
+pub mod Counting
+pub mod First
+pub mod Texts
+pub mod Parts

@@ -1,5 +1,0 @@
-pub mod Answers
-pub mod Parts
-pub mod Worlds
-pub mod Program
-pub mod Sayings

@@ -1,4 +1,0 @@
-pub mod Events
-pub mod Runs
-pub mod Steps
-pub mod Calls

@@ -1,0 +1,4 @@
+pub mod PlaceLaws
+pub mod WordTests
+pub mod Parts
+pub mod LetterTests

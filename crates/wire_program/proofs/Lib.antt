@@ -1,0 +1,8 @@
+pub mod Passing
+pub mod Program
+pub mod Texts
+pub mod Rooms
+pub mod Puts
+mod Written
+mod LetterLineWritten
+pub mod Lined

@@ -1,0 +1,136 @@
+use Rattle.wire_program.proofs.LetterLineWritten.{was-read}
+use Rattle.wire_program.proofs.Lined.{lined-short, lined-put}
+use Rattle.wire_program.specs.LetterLineLine.{readText, readLine}
+use Rattle.console.proofs.Puts.{put-same}
+use Rattle.letters.specs.Values.{lettersOf}
+use Rattle.net.specs.Values.{networkOf}
+use denote.Ref.{now}
+use mathlib.Core.Path.{sym, ap, _∙_}
+use native.Mathlib.Omega.{arith}
+use borrow.Author.Needs.{needs}
+use Rattle.wire_program.proofs.put_read.Statement.{statement}
+use Rattle.wire_program.proofs.put_read.Tie as tie
+
+add-result : tie.Need-add-result
+add-result c = search needs
+
+returns : tie.Need-returns
+returns c = let a = c .before .before .before .args in lined-short (readLine (a .net) (now (a .bytes))) (a .at) (now (a .out)) (omega arith)
+
+sub-if2 : tie.Need-sub-if2
+sub-if2 c = search needs
+
+add-result-2 : tie.Need-add-result-2
+add-result-2 c = search needs
+
+returns-2 : tie.Need-returns-2
+returns-2 c = let a = c .before .before .before .before .args in lined-short (readLine (a .net) (now (a .bytes))) (a .at) (now (a .out)) (omega arith)
+
+read-requires : tie.Need-read-requires
+read-requires c κs = search needs
+
+enum-known-letter : tie.Need-enum-known-letter
+enum-known-letter c = search needs
+
+put-letter-requires : tie.Need-put-letter-requires
+put-letter-requires c κs = let a = c .before .before .before .before .before .before .before .before .before .args in (omega arith, was-read (a .net) (now (a .bytes)) _ (sym (c .before .before .before .before .read .ensures) ∙ ap lettersOf (c .before .before .letter .given .1)))
+
+enum-told : tie.Need-enum-told
+enum-told c = search needs
+
+put-number-line-requires : tie.Need-put-number-line-requires
+put-number-line-requires c κs = search needs
+
+enum-told-2 : tie.Need-enum-told-2
+enum-told-2 c = search needs
+
+put-number-line-requires-2 : tie.Need-put-number-line-requires-2
+put-number-line-requires-2 c κs = search needs
+
+enum-told-3 : tie.Need-enum-told-3
+enum-told-3 c = search needs
+
+put-number-line-requires-3 : tie.Need-put-number-line-requires-3
+put-number-line-requires-3 c κs = search needs
+
+enum-told-4 : tie.Need-enum-told-4
+enum-told-4 c = search needs
+
+put-number-line-requires-4 : tie.Need-put-number-line-requires-4
+put-number-line-requires-4 c κs = search needs
+
+same-length : tie.Need-same-length
+same-length c = search needs
+
+returns-3 : tie.Need-returns-3
+returns-3 c =
+    let a = c .before .before .before .before .before .before .before .before .before .before .before .before .args in
+    let text = ap (readText (networkOf (a .net))) (sym (ap lettersOf (c .before .before .before .before .before .letter .given .1)) ∙ c .before .before .before .before .before .before .before .read .ensures) in
+    lined-put (readLine (a .net) (now (a .bytes))) (a .at) (now (a .out)) _ _ (omega arith) (put-same _ _ 64 (a .at) (now (a .out)) _ _ text (c .before .before .put-letter .ensures))
+
+same-length-2 : tie.Need-same-length-2
+same-length-2 c = search needs
+
+returns-4 : tie.Need-returns-4
+returns-4 c =
+    let a = c .before .before .before .before .before .before .before .before .before .before .before .args in
+    let text = ap (readText (networkOf (a .net))) (sym (ap lettersOf (c .before .before .before .before .enum-told .given .1)) ∙ c .before .before .before .before .before .before .read .ensures) in
+    lined-put (readLine (a .net) (now (a .bytes))) (a .at) (now (a .out)) _ _ (omega arith) (put-same _ _ 64 (a .at) (now (a .out)) _ _ text (c .before .before .put-number-line .ensures))
+
+same-length-3 : tie.Need-same-length-3
+same-length-3 c = search needs
+
+returns-5 : tie.Need-returns-5
+returns-5 c =
+    let a = c .before .before .before .before .before .before .before .before .before .before .before .args in
+    let text = ap (readText (networkOf (a .net))) (sym (ap lettersOf (c .before .before .before .before .enum-told2 .given .1)) ∙ c .before .before .before .before .before .before .read .ensures) in
+    lined-put (readLine (a .net) (now (a .bytes))) (a .at) (now (a .out)) _ _ (omega arith) (put-same _ _ 64 (a .at) (now (a .out)) _ _ text (c .before .before .put-number-line2 .ensures))
+
+same-length-4 : tie.Need-same-length-4
+same-length-4 c = search needs
+
+returns-6 : tie.Need-returns-6
+returns-6 c =
+    let a = c .before .before .before .before .before .before .before .before .before .before .before .args in
+    let text = ap (readText (networkOf (a .net))) (sym (ap lettersOf (c .before .before .before .before .enum-told3 .given .1)) ∙ c .before .before .before .before .before .before .read .ensures) in
+    lined-put (readLine (a .net) (now (a .bytes))) (a .at) (now (a .out)) _ _ (omega arith) (put-same _ _ 64 (a .at) (now (a .out)) _ _ text (c .before .before .put-number-line3 .ensures))
+
+same-length-5 : tie.Need-same-length-5
+same-length-5 c = search needs
+
+returns-7 : tie.Need-returns-7
+returns-7 c =
+    let a = c .before .before .before .before .before .before .before .before .before .before .before .args in
+    let text = ap (readText (networkOf (a .net))) (sym (ap lettersOf (c .before .before .before .before .enum-told4 .given .1)) ∙ c .before .before .before .before .before .before .read .ensures) in
+    lined-put (readLine (a .net) (now (a .bytes))) (a .at) (now (a .out)) _ _ (omega arith) (put-same _ _ 64 (a .at) (now (a .out)) _ _ text (c .before .before .put-number-line4 .ensures))
+
+pub put-read-spec : {M : Type 1} → statement M
+put-read-spec =
+    tie.close
+    (tie.spec
+    add-result
+    returns
+    sub-if2
+    add-result-2
+    returns-2
+    read-requires
+    enum-known-letter
+    put-letter-requires
+    enum-told
+    put-number-line-requires
+    enum-told-2
+    put-number-line-requires-2
+    enum-told-3
+    put-number-line-requires-3
+    enum-told-4
+    put-number-line-requires-4
+    same-length
+    returns-3
+    same-length-2
+    returns-4
+    same-length-3
+    returns-5
+    same-length-4
+    returns-6
+    same-length-5
+    returns-7)

@@ -1,0 +1,50 @@
+-- What the code answers for a piece of the input, and for every network value. proofs/Program.antt: the pieces of an input give what
+-- specs/Wire.antt says of the whole of it. Assumes nothing.
+use Prim.Native.Nat.{ℕ, _/_}
+use mathlib.Core.Bool.{Bool}
+use mathlib.Core.List.{List}
+use lib.Dec.{leb}
+use lib.ListN.{length}
+use Rattle.lists.specs.Lists.{if_then_else_}
+use Rattle.hex_lines.specs.declared.HexReading.{HexReading}
+use Rattle.hex_lines.specs.Hex.{HexText, malformed, octets}
+use Rattle.hex_lines.specs.HexSteps.{hexStart, readHex, hexEnd, hexSays}
+use Rattle.net.specs.declared.Net.{Net}
+use Rattle.console.specs.Feeding.{Stop, readAfter, textAfter}
+use Rattle.wire_program.specs.LetterLineLine.{readLine}
+use Rattle.wire_program.specs.declared.Part.{Part}
+use Rattle.wire_program.specs.declared.Passed.{Passed}
+use Rattle.wire_program.specs.Wire.{malformedLine}
+
+-- what a line says that ends here
+abbrev pub saidBy : HexReading → HexText
+saidBy r = hexSays (hexEnd r) (r .bytes)
+
+-- a line against a network value
+abbrev pub spoken : Net → HexText → List ℕ
+spoken net malformed = malformedLine
+spoken net (octets bytes) = readLine net bytes
+
+-- no line changes the network
+abbrev pub acted : Net → HexText → Net
+acted net said = net
+
+abbrev pub lineAfter : Net → HexReading → List ℕ → HexReading
+lineAfter = readAfter hexStart readHex saidBy acted spoken
+
+abbrev pub texts : Net → HexReading → List ℕ → List ℕ
+texts = textAfter hexStart readHex saidBy acted spoken
+
+-- a part of a line, as crate `console` has it
+abbrev pub stopIn : Part → Stop HexReading
+stopIn p = record { reading = p .reading; next = p .next; ended = p .ended }
+
+-- ---- with lent output: 64 bytes for each byte of the input, or 10
+abbrev pub enough : List ℕ → List ℕ → Bool
+enough bytes old = leb (length bytes) (length old / 64)
+
+abbrev pub passedAs : ℕ → ℕ → HexReading → Passed
+passedAs answer written r = record { answer = answer; written = written; reading = r }
+
+abbrev pub passedBy : Bool → Net → HexReading → List ℕ → Passed
+passedBy enough net r bytes = if enough then passedAs 0 (length (texts net r bytes)) (lineAfter net r bytes) else passedAs 10 0 r

@@ -1,0 +1,298 @@
+// The wire program's lines, on bytes and values alone: letters read and written back, line by line. Nothing here reads or writes.
+// An inner door: the calls are in docs/CALLS.md.
+ghost use mathlib.Core.Path.{_≡_};
+ghost use Prim.Native.Nat.{_+_, _≤_};
+ghost use lib.ListN.{length, drop, getD};
+ghost use Rattle.hex_lines.specs.HexSteps.{readHex};
+ghost use Rattle.console.specs.Outputs.{Counts, outputBy, Put, wroteBy};
+ghost use Rattle.console.specs.Feeding.{stopOf};
+ghost use Rattle.wire_program.specs.Passing.{saidBy, spoken, texts, stopIn, enough, passedBy};
+ghost use Rattle.text.specs.Text.{putAt, placeAfter};
+ghost use Rattle.wire_program.specs.Parts.{fieldText, hexText};
+ghost use lib.Dec.{T, leb};
+ghost use Rattle.net.specs.Values.{networkOf};
+ghost use Rattle.sheet_rules.specs.Values.{netHolds};
+ghost use Rattle.sheet.specs.Sheet.{sheet};
+ghost use Rattle.sheet.specs.Values as Sheet;
+ghost use Rattle.console.specs.Sheets.{fileSheet, refusalText};
+ghost use Rattle.wire_program.specs.Line.{sheetText};
+ghost use Rattle.net.specs.Letters.{letterHolds};
+ghost use Rattle.letters.specs.Values as Letters;
+ghost use Rattle.wire_program.specs.LetterLineLine.{kindWord, bodyText, letterText, readLine, lineAt, placeBehind, Few};
+use console::Wrote;
+use hex_lines::HexLine;
+use hex_lines::HexReading;
+use net::Body;
+use net::Letter;
+use net::Net;
+
+// What is printed for a line that ends here.
+fn put_line(out: &mut [u8], at: usize, net: Net, r: HexReading) -> usize
+    requires { ⌜ at + 64 ≤ length (now out) ⌝ }
+    ensures { λ n. ⌜ Put (spoken net (saidBy r)) 64 at (now (out .entry)) n (now (out .exit)) ⌝ }
+{
+    let bytes = r.bytes;
+    match hex_lines::hex_end(r) {
+        HexLine::NotHex => text::put_word(out, at, b"malformed\n"),
+        HexLine::Bytes(n) => put_read(out, at, net, &bytes[..n]),
+    }
+}
+
+// A line read as far as its newline or the end of the bytes, and the place behind that.
+struct Part {
+    reading: HexReading,
+    next: usize,
+    ended: bool,
+}
+
+fn read_part(r: HexReading, bytes: &[u8], from: usize) -> Part
+    requires { ⌜ from ≤ length (now bytes) ⌝ }
+    ensures { λ p. ⌜ stopIn p ≡ stopOf readHex r (drop from (now (bytes .entry))) from ⌝ }
+{
+    let mut reading = r;
+    for i in from..bytes.len() {
+        let byte = bytes[i];
+        if byte == 10 {
+            return Part {
+                reading,
+                next: i + 1,
+                ended: true,
+            };
+        }
+        reading = hex_lines::read_hex(reading, byte);
+    }
+    Part {
+        reading,
+        next: bytes.len(),
+        ended: false,
+    }
+}
+
+// After a piece of the input: 0 or the number that says no, how many bytes of output there are, and the reading that goes on from there.
+pub struct Passed {
+    pub answer: u8,
+    pub written: usize,
+    pub reading: HexReading,
+}
+
+// Reads and writes back the letters whose lines end in these bytes.
+// Promise: that line for each letter whose line ends in these bytes.
+pub fn run_letters(net: Net, r: HexReading, bytes: &[u8], out: &mut [u8]) -> Passed
+    ensures answer { λ n. ⌜ n ≡ passedBy (enough (now (bytes .entry)) (now (out .entry))) net r (now (bytes .entry)) ⌝ }
+    ensures output { λ n. ⌜ now (out .exit) ≡ outputBy (enough (now (bytes .entry)) (now (out .entry))) (texts net r (now (bytes .entry))) (now (out .entry)) ⌝ }
+    ensures room { λ n. ⌜ Counts (n .written) (now (out .exit)) ⌝ }
+{
+    // no line is longer than 64 bytes, and none is without a byte of input
+    if out.len() / 64 < bytes.len() {
+        return Passed {
+            answer: 10,
+            written: 0,
+            reading: r,
+        };
+    }
+    let mut at: usize = 0;
+    let mut part = read_part(r, bytes, 0);
+    while part.ended {
+        let line = part.reading;
+        at = put_line(out, at, net, line);
+        part = read_part(hex_lines::begin_hex(), bytes, part.next);
+    }
+    let reading = part.reading;
+    Passed {
+        answer: 0,
+        written: at,
+        reading,
+    }
+}
+
+// ---- The parts of the wire program's lines, put like crate `text`'s words: where a part does not fit whole, nothing is touched and the answer is
+// one beyond the output's end.
+
+// A byte is two digits, upper case.
+// Promise: bytes in hexadecimal, put as crate `text` puts a word.
+fn put_bytes(out: &mut [u8], at: usize, bytes: &[u8]) -> usize
+    ensures place { λ r. ⌜ r ≡ placeAfter (hexText (now (bytes .entry))) at (now (out .entry)) ⌝ }
+    ensures output { λ r. ⌜ now (out .exit) ≡ putAt (hexText (now (bytes .entry))) at (now (out .entry)) ⌝ }
+{
+    // all the digits or none
+    if out.len() < at {
+        return out.len() + 1;
+    }
+    if (out.len() - at) / 2 < bytes.len() {
+        return out.len() + 1;
+    }
+    let mut to = at;
+    for i in 0..bytes.len() {
+        to = text::put_hex(out, to, bytes[i]);
+    }
+    to
+}
+
+// A number and a space.
+// Promise: a number and a space, put as crate `text` puts a word.
+fn put_field(out: &mut [u8], at: usize, n: u16) -> usize
+    ensures place { λ r. ⌜ r ≡ placeAfter (fieldText n) at (now (out .entry)) ⌝ }
+    ensures output { λ r. ⌜ now (out .exit) ≡ putAt (fieldText n) at (now (out .entry)) ⌝ }
+{
+    // no 16-bit number has more than five digits; spelled here first, so that it is put whole or not at all
+    let mut room = [0u8; 6];
+    let digits = text::put_number(&mut room, 0, n as u64);
+    let end = text::put_word(&mut room, digits, b" ");
+    text::put_word(out, at, &room[..end])
+}
+
+// ---- The wire program's first line, on bytes and values alone: the sheet written back, or the number of a refused one.
+
+// No sheet is longer: the first field, 64 links, the last field.
+fn sheet_room() -> [u8; 327]
+    ensures { λ r. ⌜ 327 ≡ length r ⌝ }
+{
+    [0u8; 327]
+}
+
+fn sheet_size(wrote: sheet::Wrote) -> usize
+    ensures { λ r. ⌜ r ≡ getD (Sheet.wroteNumbers wrote) 1 0 ⌝ }
+{
+    match wrote {
+        sheet::Wrote::Bytes(n) => n,
+        sheet::Wrote::OutputShort => 0,
+        sheet::Wrote::BadNetwork => 0,
+    }
+}
+
+fn put_network(out: &mut [u8], net: Net) -> usize
+    requires { ⌜ (700 ≤ length (now out)) × T (netHolds net) ⌝ }
+    ensures { λ r. ⌜ Put (sheetText (sheet (networkOf net))) 700 0 (now (out .entry)) r (now (out .exit)) ⌝ }
+{
+    let mut room = sheet_room();
+    let n = sheet_size(sheet::write(net, &mut room));
+    let a = text::put_word(out, 0, b"sheet 0 ");
+    let b = put_field(out, a, net.stations as u16);
+    let c = put_field(out, b, net.links as u16);
+    let d = put_bytes(out, c, &room[..n]);
+    text::put_word(out, d, b"\n")
+}
+
+// `sheet 0 STATIONS LINKS HEX`, or `sheet N` for a refused one.
+// Promise: the wire program's first line.
+pub fn put_sheet(file: &[u8], out: &mut [u8]) -> Wrote
+    ensures answer { λ r. ⌜ r ≡ wroteBy (leb 700 (length (now (out .entry)))) (sheetText (fileSheet (now (file .entry)))) ⌝ }
+    ensures output { λ r. ⌜ now (out .exit) ≡ outputBy (leb 700 (length (now (out .entry)))) (sheetText (fileSheet (now (file .entry)))) (now (out .entry)) ⌝ }
+    ensures room { λ r. ⌜ Counts (r .written) (now (out .exit)) ⌝ }
+{
+    if out.len() < 700 {
+        return Wrote {
+            answer: 10,
+            written: 0,
+        };
+    }
+    let opened = console::open_sheet(file);
+    let net = opened.net;
+    // a refused sheet gives no network
+    if !sheet_rules::keeps_sheet_rules(net) {
+        let a = text::put_word(out, 0, b"sheet ");
+        let b = text::put_number(out, a, opened.number as u64);
+        let end = text::put_word(out, b, b"\n");
+        return Wrote {
+            answer: 0,
+            written: end,
+        };
+    }
+    let end = put_network(out, net);
+    Wrote {
+        answer: 0,
+        written: end,
+    }
+}
+
+// ---- The wire program's line for bytes taken as a letter: the letter written back, or the number that says no.
+
+fn put_kind(out: &mut [u8], at: usize, body: Body) -> usize
+    requires { ⌜ at + 10 ≤ length (now out) ⌝ }
+    ensures { λ r. ⌜ Put (kindWord body) 10 at (now (out .entry)) r (now (out .exit)) ⌝ }
+{
+    match body {
+        Body::Request => text::put_word(out, at, b"0 request "),
+        Body::Reply(c) => text::put_word(out, at, b"0 reply "),
+        Body::Notice(j, c) => text::put_word(out, at, b"0 notice "),
+    }
+}
+
+fn put_body(out: &mut [u8], at: usize, body: Body) -> usize
+    requires { ⌜ at + 12 ≤ length (now out) ⌝ }
+    ensures { λ r. ⌜ Put (bodyText body) 12 at (now (out .entry)) r (now (out .exit)) ⌝ }
+{
+    match body {
+        Body::Request => at,
+        Body::Reply(c) => put_field(out, at, c),
+        Body::Notice(j, c) => {
+            let to = put_field(out, at, j as u16);
+            put_field(out, to, c)
+        }
+    }
+}
+
+// The longest letter's field.
+fn letter_room() -> [u8; 8]
+    ensures { λ r. ⌜ 8 ≡ length r ⌝ }
+{
+    [0u8; 8]
+}
+
+fn letter_size(wrote: letters::Wrote) -> usize
+    ensures { λ r. ⌜ r ≡ getD (Letters.wroteNumbers wrote) 1 0 ⌝ }
+{
+    match wrote {
+        letters::Wrote::Bytes(n) => n,
+        letters::Wrote::OutOfRange => 0,
+        letters::Wrote::OutputShort => 0,
+        letters::Wrote::BadNetwork => 0,
+    }
+}
+
+fn put_letter(out: &mut [u8], at: usize, net: Net, letter: Letter) -> usize
+    requires { ⌜ (at + 64 ≤ length (now out)) × (T (netHolds net) × T (letterHolds (networkOf net) letter)) ⌝ }
+    ensures { λ r. ⌜ Put (letterText (networkOf net) letter) 64 at (now (out .entry)) r (now (out .exit)) ⌝ }
+{
+    let mut room = letter_room();
+    let n = letter_size(letters::write(net, letter, &mut room));
+    let body = letter.body;
+    let a = put_kind(out, at, body);
+    let b = put_field(out, a, letter.link);
+    let c = put_field(out, b, letter.sender);
+    let d = put_body(out, c, body);
+    let e = put_bytes(out, d, &room[..n]);
+    text::put_word(out, e, b"\n")
+}
+
+fn put_number_line(out: &mut [u8], at: usize, n: u8) -> usize
+    requires { ⌜ at + 64 ≤ length (now out) ⌝ }
+    ensures { λ r. ⌜ Put (refusalText n) 64 at (now (out .entry)) r (now (out .exit)) ⌝ }
+{
+    let to = text::put_number(out, at, n as u64);
+    text::put_word(out, to, b"\n")
+}
+
+// A line's bytes taken as a letter. No line is longer than 64 bytes: where the output has no room for 64, nothing is touched and the answer is
+// one beyond the output's end.
+// Promise: its line for these bytes as a letter, at that place, where there is room for 64 bytes, the longest line; else nothing is
+// touched, and the answer is a place past the end.
+fn put_read(out: &mut [u8], at: usize, net: Net, bytes: &[u8]) -> usize
+    ensures place { λ r. ⌜ r ≡ placeBehind (readLine net (now (bytes .entry))) at (now (out .entry)) ⌝ }
+    ensures output { λ r. ⌜ now (out .exit) ≡ lineAt (readLine net (now (bytes .entry))) at (now (out .entry)) ⌝ }
+    ensures few { λ r. ⌜ Few (readLine net (now (bytes .entry))) at (now (out .entry)) ⌝ }
+{
+    if out.len() < at {
+        return out.len() + 1;
+    }
+    if out.len() - at < 64 {
+        return out.len() + 1;
+    }
+    match letters::read(net, bytes) {
+        letters::Answer::Good(letter) => put_letter(out, at, net, letter),
+        letters::Answer::Short => put_number_line(out, at, 1),
+        letters::Answer::Malformed => put_number_line(out, at, 2),
+        letters::Answer::OutOfRange => put_number_line(out, at, 3),
+        letters::Answer::BadNetwork => put_number_line(out, at, 11),
+    }
+}

@@ -1,3 +1,0 @@
-pub mod Wire
-pub mod Passing
-pub mod Calls

@@ -1,9 +1,0 @@
-use Rattle.words.proofs.WordLaws.{join-is}
-use Rattle.words.proofs.join.Statement.{statement}
-use Rattle.words.proofs.join.Tie as tie
-
-returns : tie.Need-returns
-returns c = join-is (c .args .a) (c .args .b) (c .fits .a .fits) (c .fits .b .fits)
-
-pub join-spec : {M : Type 1} → statement M
-join-spec = tie.close (tie.spec returns)
