@@ -8,7 +8,7 @@ use native.Mathlib.Decide.{ℕ-discrete}
 use borrow.Author.Tests.{eq-eqb, ne-eqb}
 use Rattle.lists.specs.Lists.{if_then_else_}
 use Rattle.lists.specs.Places.{collect}
-use Rattle.lines.specs.Split.{linesOf, answers}
+use Rattle.event_lines.specs.Split.{linesOf, answers}
 use Rattle.console.specs.Feeding.{heldAfter, readAfter, textAfter, printed, heldAll, piecesHeld, piecesRead, piecesText, closing, wholeText, wholeHeld}
 
 -- the pieces joined

@@ -44,13 +44,13 @@ use Rattle.world.proofs.Ledger as Ledger
 use Rattle.world.proofs.Reports as Reports
 use Rattle.state.specs.declared.State.{State}
 use Rattle.state.specs.State.{worldOf, Ends64, Sized}
-use Rattle.stepping.specs.Step.{refusing}
-use Rattle.stepping.proofs.Bridge.{Good}
-use Rattle.stepping.specs.Counting.{talliedBy}
+use Rattle.step_rules.specs.Step.{refusing}
+use Rattle.step_rules.proofs.Bridge.{Good}
+use Rattle.step_rules.specs.Counting.{talliedBy}
 use Rattle.report.specs.Answers.{noReach}
 use Rattle.report.proofs.WordShown.{PathTo, WordShown}
 use Rattle.report.proofs.Shown.{Shown}
-use Rattle.counting.proofs.Runs.{LentCalls, tally-is-history}
+use Rattle.step_counted.proofs.Runs.{LentCalls, tally-is-history}
 use Rattle.laws.specs.Flood.{onlyNotices, carried, highest, neighbours, share, bound}
 use Rattle.laws.specs.Tallied.{everCounted}
 use Rattle.laws.proofs.Demand3 as Flood

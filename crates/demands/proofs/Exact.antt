@@ -21,9 +21,9 @@ use Rattle.state.specs.State.{worldOf, stateOf, stateHolds, Ends64, Sized}
 use Rattle.state.specs.declared.Begun.{Begun}
 use Rattle.state.specs.Beginning.{begunOf}
 use Rattle.state.proofs.First.{first-sized, first-holds, first-means}
-use Rattle.stepping.specs.declared.Stepped.{Stepped}
-use Rattle.stepping.specs.Step.{event, refusing, accepting, numberOf, steppedOf}
-use Rattle.stepping.proofs.Bridge.{Good, IsStep, bad-refused, is-step}
+use Rattle.step_rules.specs.declared.Stepped.{Stepped}
+use Rattle.step_rules.specs.Step.{event, refusing, accepting, numberOf, steppedOf}
+use Rattle.step_rules.proofs.Bridge.{Good, IsStep, bad-refused, is-step}
 use Rattle.report.proofs.Refusals.{Asks, stations-are, table-is}
 use Rattle.report.specs.declared.Asked.{Asked}
 use Rattle.report.specs.Answers.{askedOf}

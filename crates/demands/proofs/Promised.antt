@@ -24,15 +24,15 @@ use Rattle.letters.proofs.write.Kinds as LetterWriteKinds
 use Rattle.letters.proofs.write.Reads as LetterWrite
 use Rattle.state.proofs.fresh.Kinds as FreshKinds
 use Rattle.state.proofs.fresh.Reads as Fresh
-use Rattle.network.proofs.step.Kinds as StepKinds
-use Rattle.network.proofs.step.Reads as Step
+use Rattle.step.proofs.step.Kinds as StepKinds
+use Rattle.step.proofs.step.Reads as Step
 use Rattle.report.proofs.reach.Kinds as ReachKinds
 use Rattle.report.proofs.reach.Reads as Reach
 use Rattle.report.proofs.report.Kinds as ReportKinds
 use Rattle.report.proofs.report.Reads as Report
-use Rattle.counting.proofs.step_counted as Counted
-use Rattle.stepping.specs.Counting.{talliedBy}
-use Rattle.stepping.specs.Step.{event, steppedOf}
+use Rattle.step_counted.proofs.step_counted as Counted
+use Rattle.step_rules.specs.Counting.{talliedBy}
+use Rattle.step_rules.specs.Step.{event, steppedOf}
 use Rattle.demands.specs.Calls.{ReadsSheet, WritesSheet, ReadsLetter, WritesLetter, Begins, Steps, AsksReach, AsksReport}
 
 -- sheet::read(bytes)

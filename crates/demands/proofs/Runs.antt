@@ -34,15 +34,15 @@ use Rattle.state.specs.declared.State.{State}
 use Rattle.state.specs.State.{worldOf, Ends64}
 use Rattle.state.proofs.Meaning.{world-well}
 use Rattle.state.specs.declared.Begun.{Begun}
-use Rattle.stepping.specs.declared.Stepped.{Stepped}
-use Rattle.stepping.proofs.Bridge.{Good, IsStep, countsBy}
+use Rattle.step_rules.specs.declared.Stepped.{Stepped}
+use Rattle.step_rules.proofs.Bridge.{Good, IsStep, countsBy}
 use Rattle.laws.specs.Flood.{onlyNotices, carried, highest, neighbours, distance, share, bound}
 use Rattle.laws.proofs.Tallies.{Fits}
 use Rattle.laws.proofs.Demand3.{flood-of-notices-dies-out, at-the-end}
 use Rattle.laws.proofs.Calls as C
 use Rattle.laws.proofs.Joined as Joined
 use Rattle.laws.proofs.Joined.{Call, Calls, Comes}
-use Rattle.counting.proofs.Runs.{LentCalls, tally-is-history}
+use Rattle.step_counted.proofs.Runs.{LentCalls, tally-is-history}
 use Rattle.demands.specs.Given.{GoodNet}
 use Rattle.demands.specs.Calls.{ReadsSheet, Begins}
 use Rattle.demands.specs.Counted.{Counted, letterOf, heardAt, isHeard}

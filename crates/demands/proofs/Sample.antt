@@ -10,8 +10,8 @@ use Rattle.station.proofs.Doing.{openLinks, started, recovered, interval, answe
 use Rattle.station.specs.Events.{dueOf, comesTo}
 use Rattle.world.specs.World.{exists, concerned, rule, comes, left, after, fits, refusal, step, fresh, raised}
 use Rattle.text.specs.Text.{digitsIn, digits}
-use Rattle.lines.specs.Events.{pieces, isEvent, eventLine}
-use Rattle.lines.specs.Split.{linesOf}
+use Rattle.event_lines.specs.Events.{pieces, isEvent, eventLine}
+use Rattle.event_lines.specs.Split.{linesOf}
 use Rattle.console.specs.Sheets.{fileSheet}
 use Rattle.event_program.specs.Stations.{stationText}
 use Rattle.event_program.specs.Events.{answerText, done, printedFor, printed, doneAll, endText, eventProgram}

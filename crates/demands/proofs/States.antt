@@ -19,9 +19,9 @@ use Rattle.state.specs.declared.State.{State}
 use Rattle.state.specs.State.{worldOf, stateOf, stationsHold, lettersHold, stateHolds}
 use Rattle.state.specs.declared.Begun.{Begun}
 use Rattle.state.specs.Beginning.{unread, begunOf}
-use Rattle.stepping.specs.declared.Stepped.{Stepped}
-use Rattle.stepping.specs.Step.{event, refusing, accepting, numberOf, steppedOf}
-use Rattle.stepping.specs.Counting.{talliedBy}
+use Rattle.step_rules.specs.declared.Stepped.{Stepped}
+use Rattle.step_rules.specs.Step.{event, refusing, accepting, numberOf, steppedOf}
+use Rattle.step_rules.specs.Counting.{talliedBy}
 use Rattle.report.specs.Asking.{numberOf as numberAsked}
 use Rattle.report.proofs.Refusals as Ask
 use Rattle.report.specs.declared.Asked.{Asked}

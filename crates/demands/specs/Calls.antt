@@ -19,9 +19,9 @@ use Rattle.world.specs.World.{Event}
 use Rattle.state.specs.declared.State.{State}
 use Rattle.state.specs.declared.Begun.{Begun}
 use Rattle.state.specs.Beginning.{begunOf}
-use Rattle.stepping.specs.declared.Stepped.{Stepped}
-use Rattle.stepping.specs.Step.{steppedOf}
-use Rattle.stepping.specs.Counting.{talliedBy}
+use Rattle.step_rules.specs.declared.Stepped.{Stepped}
+use Rattle.step_rules.specs.Step.{steppedOf}
+use Rattle.step_rules.specs.Counting.{talliedBy}
 use Rattle.report.specs.declared.Asked.{Asked}
 use Rattle.report.specs.Answers.{askedOf}
 use Rattle.report.specs.ReportsAnswers.{answerOf, outputOf}

@@ -14,7 +14,7 @@ use Rattle.station.specs.Events.{kindOf, delivers, loses, takesLetter, isNotice
 use Rattle.world.specs.World.{World, Event, holdingAt, letterAt, receiverIn}
 use Rattle.state.specs.declared.State.{State}
 use Rattle.state.specs.State.{worldOf}
-use Rattle.stepping.specs.declared.Stepped.{Stepped}
+use Rattle.step_rules.specs.declared.Stepped.{Stepped}
 
 -- the letter that an event 7 or 8 takes
 abbrev pub letterOf : State → Event → Letter

@@ -9,10 +9,10 @@ use borrow.Author.Tests.{le-leb, lt-leb}
 use Rattle.lists.specs.Words.{bit}
 use Rattle.tally.specs.declared.Tally.{Tally}
 use Rattle.tally.specs.Sums.{tallied}
-use Rattle.lines.specs.declared.Reading.{Reading}
-use Rattle.lines.specs.Steps.{start, readOn, lineEnd}
+use Rattle.event_lines.specs.declared.Reading.{Reading}
+use Rattle.event_lines.specs.Steps.{start, readOn, lineEnd}
 use Rattle.state.specs.declared.State.{State}
-use Rattle.stepping.specs.declared.Stepped.{Stepped}
+use Rattle.step_rules.specs.declared.Stepped.{Stepped}
 use Rattle.console.specs.Feeding.{Stop, stopOf}
 use Rattle.console.specs.Outputs.{Counts, outputBy, Put}
 use Rattle.console.proofs.Feeding as Feeding

@@ -10,10 +10,10 @@ use borrow.Author.Tests.{ne-eqb}
 use Rattle.lists.specs.Lists.{if_then_else_}
 use Rattle.lists.proofs.Tests.{T-is}
 use Rattle.tally.specs.Sums.{largest}
-use Rattle.lines.specs.Events.{eventLine}
-use Rattle.lines.specs.Split.{linesOf}
-use Rattle.lines.specs.Steps.{start, readOn, lineEnd}
-use Rattle.lines.proofs.Split.{event-lines}
+use Rattle.event_lines.specs.Events.{eventLine}
+use Rattle.event_lines.specs.Split.{linesOf}
+use Rattle.event_lines.specs.Steps.{start, readOn, lineEnd}
+use Rattle.event_lines.proofs.Split.{event-lines}
 use Rattle.net.specs.declared.Net.{Net}
 use Rattle.net.specs.Network.{Network}
 use Rattle.sheet_rules.specs.Rules.{sheetHolds}
@@ -29,12 +29,12 @@ use Rattle.state.specs.State.{stateOf, Ends64}
 use Rattle.state.specs.declared.Begun.{Begun}
 use Rattle.state.specs.Beginning.{begunOf}
 use Rattle.laws.proofs.Tallies.{Fits}
-use Rattle.begun.specs.Begun.{isBegun}
+use Rattle.event_lines.specs.Begun.{isBegun}
 use Rattle.console.specs.Sheets.{fileSheet, openedBy, refusalText}
 use Rattle.console.proofs.Lines.{joined, whole-text, whole-held}
 use Rattle.console.proofs.Faults.{refusal-counts}
 use Rattle.console.proofs.Goods.{file-holds}
-use Rattle.begun.proofs.Begun.{not-first, byte-begins}
+use Rattle.event_lines.proofs.Begun.{not-first, byte-begins}
 use Rattle.event_program.specs.Stations.{stationsText}
 use Rattle.event_program.specs.Events.{Standing, noTally, begins, printed, doneAll, endText, outputBy, eventProgram}
 use Rattle.event_program.specs.Runs.{Desk, deskOf, acted, spoken}

@@ -16,7 +16,7 @@ use Rattle.tally.specs.declared.Tally.{Tally}
 use Rattle.tally.specs.Sums.{largest, counted, tallied}
 use Rattle.tally.specs.Plain.{noCounts}
 use Rattle.tally.proofs.Sums.{counted-fits}
-use Rattle.lines.specs.Steps.{start, readOn, lineEnd}
+use Rattle.event_lines.specs.Steps.{start, readOn, lineEnd}
 use Rattle.net.specs.declared.Net.{Net}
 use Rattle.net.specs.Values.{networkOf}
 use Rattle.sheet_rules.specs.Values.{netHolds}
@@ -34,8 +34,8 @@ use Rattle.state.specs.declared.State.{State}
 use Rattle.state.specs.State.{stationIn, worldOf, stateOf, stateHolds, Ends64}
 use Rattle.state.proofs.LaidOut.{laid-sized, laid-holds, laid-means}
 use Rattle.state.proofs.Meaning.{count-is, world-holding}
-use Rattle.stepping.specs.declared.Stepped.{Stepped}
-use Rattle.stepping.specs.Step as Step
+use Rattle.step_rules.specs.declared.Stepped.{Stepped}
+use Rattle.step_rules.specs.Step as Step
 use Rattle.laws.specs.Tallied.{acceptedCounts, tallyBy}
 use Rattle.laws.proofs.Tallies.{Fits}
 use Rattle.console.specs.Feeding as Feeding

@@ -5,12 +5,12 @@ use Prim.Native.Nat.{ℕ}
 use mathlib.Core.List.{List, _++_}
 use lib.Dec.{eqb}
 use Rattle.lists.specs.Lists.{if_then_else_}
-use Rattle.lines.specs.Steps.{start, readOn, lineEnd}
+use Rattle.event_lines.specs.Steps.{start, readOn, lineEnd}
 use Rattle.state.specs.declared.State.{State}
 use Rattle.state.specs.Beginning.{begunOf}
 use Rattle.console.specs.declared.Opened.{Opened}
 use Rattle.console.specs.Sheets.{fileSheet, openedBy, refusalText}
-use Rattle.begun.specs.Begun.{isBegun}
+use Rattle.event_lines.specs.Begun.{isBegun}
 use Rattle.console.specs.Feeding.{wholeText, wholeHeld}
 use Rattle.event_program.specs.Stations.{stationsText}
 use Rattle.event_program.specs.Events.{noTally}

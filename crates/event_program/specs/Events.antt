@@ -6,8 +6,8 @@ use Rattle.lists.specs.Lists.{below}
 use Rattle.lists.specs.Places.{collect}
 use Rattle.tally.specs.declared.Tally.{Tally}
 use Rattle.text.specs.Text.{digits}
-use Rattle.lines.specs.Events.{eventLine}
-use Rattle.lines.specs.Split.{linesOf}
+use Rattle.event_lines.specs.Events.{eventLine}
+use Rattle.event_lines.specs.Split.{linesOf}
 use Rattle.net.specs.Network.{Network}
 use Rattle.sheet.specs.Sheet.{Sheet, refused, sheet}
 use Rattle.world.specs.World.{World, Event, numberOf, step, holdingAt, fresh}

@@ -8,11 +8,11 @@ use lib.ListN.{length, getD}
 use Rattle.lists.specs.Lists.{if_then_else_}
 use Rattle.tally.specs.declared.Tally.{Tally}
 use Rattle.tally.specs.Sums.{tallied}
-use Rattle.lines.specs.declared.Reading.{Reading}
-use Rattle.lines.specs.Steps.{start, readOn, lineEnd}
+use Rattle.event_lines.specs.declared.Reading.{Reading}
+use Rattle.event_lines.specs.Steps.{start, readOn, lineEnd}
 use Rattle.state.specs.declared.State.{State}
-use Rattle.stepping.specs.declared.Stepped.{Stepped}
-use Rattle.stepping.specs.Step.{steppedOf}
+use Rattle.step_rules.specs.declared.Stepped.{Stepped}
+use Rattle.step_rules.specs.Step.{steppedOf}
 use Rattle.console.specs.Feeding.{heldAfter, readAfter, textAfter}
 use Rattle.event_program.specs.declared.Ran.{Ran}
 use Rattle.event_program.specs.Events.{answerText}

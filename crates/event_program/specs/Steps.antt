@@ -2,7 +2,7 @@
 use Prim.Native.Nat.{ℕ}
 use mathlib.Core.List.{List}
 use lib.ListN.{getD}
-use Rattle.lines.specs.declared.Reading.{Reading}
+use Rattle.event_lines.specs.declared.Reading.{Reading}
 use Rattle.console.specs.Feeding.{Stop}
 use Rattle.event_program.specs.declared.Asked.{Asked}
 use Rattle.event_program.specs.declared.Part.{Part}

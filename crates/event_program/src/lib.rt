@@ -4,7 +4,7 @@
 ghost use mathlib.Core.Path.{_≡_};
 ghost use Prim.Native.Nat.{_+_, _≤_};
 ghost use lib.ListN.{length, drop, take};
-ghost use Rattle.lines.specs.Steps.{readOn, lineEnd};
+ghost use Rattle.event_lines.specs.Steps.{readOn, lineEnd};
 ghost use Rattle.console.specs.Outputs.{Counts, outputBy, Put, wroteBy};
 ghost use Rattle.console.specs.Feeding.{stopOf};
 ghost use Rattle.event_program.specs.Events.{answerText};
@@ -13,8 +13,8 @@ ghost use Rattle.event_program.specs.Steps.{askedBy, stopIn};
 ghost use lib.Dec.{leb};
 ghost use Rattle.event_program.specs.Stations.{stationText, stationsText};
 use console::Wrote;
-use lines::Line;
-use lines::Reading;
+use event_lines::Line;
+use event_lines::Reading;
 use state::State;
 use tally::Tally;
 
@@ -31,7 +31,7 @@ struct Asked {
 fn asked_of(r: Reading) -> Asked
     ensures { λ e. ⌜ e ≡ askedBy (lineEnd r) ⌝ }
 {
-    match lines::line_end(r) {
+    match event_lines::line_end(r) {
         Line::Malformed => Asked {
             kind: 0,
             a: 0,
@@ -62,7 +62,7 @@ fn read_part(r: Reading, bytes: &[u8], from: usize) -> Part
                 ended: true,
             };
         }
-        reading = lines::read_on(reading, byte);
+        reading = event_lines::read_on(reading, byte);
     }
     Part {
         reading,
@@ -120,12 +120,12 @@ pub fn run_events(given: State, t: Tally, r: Reading, bytes: &[u8], out: &mut [u
     while part.ended {
         let line = part.reading;
         let e = asked_of(line);
-        let done = network::step(state, e.kind, e.a, e.b);
+        let done = step::step(state, e.kind, e.a, e.b);
         let after = done.state;
         state = after;
         tally = tally::with_step(tally, done.counts);
         at = put_answer(out, at, done.answer, state.flying, tally.settled);
-        part = read_part(lines::begin(), bytes, part.next);
+        part = read_part(event_lines::begin(), bytes, part.next);
     }
     let reading = part.reading;
     Ran {

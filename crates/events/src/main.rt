@@ -3,7 +3,7 @@ ghost use Prim.Native.Nat.{_≤_};
 ghost use mathlib.Core.Path.{_≡_};
 ghost use lib.ListN.{length};
 ghost use Rattle.io.specs.Counts.{Counts};
-use lines::Reading;
+use event_lines::Reading;
 use net::Net;
 use state::State;
 use tally::Tally;
@@ -58,7 +58,7 @@ fn read_chunk(reading: Reading, room: &mut [u8]) -> Chunk
             more: true,
         };
     }
-    if begun::is_begun(reading) {
+    if event_lines::is_begun(reading) {
         room[0] = 10;
         return Chunk {
             size: 1,
@@ -115,7 +115,7 @@ fn run(net: Net) {
         raised: 0,
         dropped: 0,
     };
-    let mut reading = lines::begin();
+    let mut reading = event_lines::begin();
     let mut turns = u64::MAX;
     while turns > 0 {
         let done = take_turn(state, tally, reading);

@@ -2,3 +2,4 @@ pub mod Hex
 pub mod Split
 mod HexReads
 pub mod Cases
+pub mod HexBegun

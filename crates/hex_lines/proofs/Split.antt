@@ -3,8 +3,8 @@ use Prim.Native.Nat.{ℕ}
 use mathlib.Core.Bool.{false}
 use mathlib.Core.Path.{_≡_, refl}
 use mathlib.Core.List.{List, [], _∷_, map}
-use Rattle.lines.specs.Split.{linesOf, answers}
-use Rattle.lines.proofs.Split.{each-line}
+use Rattle.event_lines.specs.Split.{linesOf, answers}
+use Rattle.event_lines.proofs.Split.{each-line}
 use Rattle.hex_lines.specs.declared.HexReading.{HexReading}
 use Rattle.hex_lines.specs.Hex.{HexText, hexLine}
 use Rattle.hex_lines.specs.HexSteps.{hexStart, readHex, hexEnd, hexSays, fedHex}

@@ -1,2 +1,3 @@
 pub mod Hex
 pub mod HexSteps
+pub mod HexBegun

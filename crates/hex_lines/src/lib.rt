@@ -4,6 +4,7 @@ ghost use mathlib.Core.Path.{_≡_};
 ghost use Prim.Native.Nat.{_<_};
 ghost use Rattle.hex_lines.specs.Hex.{hexValue};
 ghost use Rattle.hex_lines.specs.HexSteps.{hexStart, notHex, withHex, readHex, hexEnd};
+ghost use Rattle.hex_lines.specs.HexBegun.{isHexBegun};
 
 // How far a line of hexadecimal digits has been read.
 pub struct HexReading {
@@ -118,4 +119,12 @@ pub fn hex_end(r: HexReading) -> HexLine
         return HexLine::Bytes(r.count / 2);
     }
     HexLine::NotHex
+}
+
+// Whether a byte of the line under way is read: "the last newline may be missing".
+// Promise: a byte of the line of hexadecimal digits under way is read.
+pub fn is_hex_begun(r: HexReading) -> bool
+    ensures { λ b. ⌜ b ≡ isHexBegun r ⌝ }
+{
+    r.count != 0
 }

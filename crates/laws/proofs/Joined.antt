@@ -17,10 +17,10 @@ use Rattle.state.specs.declared.State.{State}
 use Rattle.state.specs.State.{worldOf, stateOf, stateHolds, Ends64, Sized}
 use Rattle.state.proofs.Meaning.{holds-net, net-is, world-well}
 use Rattle.state.proofs.First.{first-sized, first-holds, first-means}
-use Rattle.stepping.specs.declared.Stepped.{Stepped}
-use Rattle.stepping.specs.Step.{steppedOf}
-use Rattle.stepping.proofs.Bridge as B
-use Rattle.stepping.proofs.Bridge.{Good, is-step, meaning-determines}
+use Rattle.step_rules.specs.declared.Stepped.{Stepped}
+use Rattle.step_rules.specs.Step.{steppedOf}
+use Rattle.step_rules.proofs.Bridge as B
+use Rattle.step_rules.proofs.Bridge.{Good, is-step, meaning-determines}
 use Rattle.laws.specs.Flood.{onlyNotices}
 use Rattle.laws.specs.Tallied.{everCounted}
 use Rattle.laws.proofs.Calls as C

@@ -3,9 +3,9 @@ ghost use Prim.Native.Nat.{_≤_};
 ghost use mathlib.Core.Path.{_≡_};
 ghost use lib.ListN.{length};
 ghost use Rattle.io.specs.Counts.{Counts};
-use page_program::Answers;
-use lines::Reading;
+use event_lines::Reading;
 use net::Net;
+use page_program::Answers;
 use state::State;
 use tally::Tally;
 
@@ -66,7 +66,7 @@ fn read_chunk(reading: Reading, room: &mut [u8]) -> Chunk
             more: true,
         };
     }
-    if begun::is_begun(reading) {
+    if event_lines::is_begun(reading) {
         room[0] = 10;
         return Chunk {
             size: 1,
@@ -139,7 +139,7 @@ fn run(net: Net) {
         raised: 0,
         dropped: 0,
     };
-    let mut reading = lines::begin();
+    let mut reading = event_lines::begin();
     let mut answers = Answers {
         taken: 0,
         refused: 0,

@@ -16,7 +16,7 @@ use Rattle.report.specs.declared.Asked.{Asked}
 use Rattle.report.specs.Answers.{askedOf}
 use Rattle.report.proofs.WordShown.{answer-number}
 use Rattle.report.specs.ReportsAnswers.{outputOf}
-use Rattle.page_program.specs.Parts.{isThere, partText, partWrote, partOutput}
+use Rattle.page_part.specs.Parts.{isThere, partText, partWrote, partOutput}
 use Rattle.page_program.specs.Page.{reportRoom, stationPart}
 
 module _ (s : State) (i : ℕ) where

@@ -1,5 +1,3 @@
 pub mod Given
 pub mod Counting
 pub mod First
-pub mod Texts
-pub mod Parts

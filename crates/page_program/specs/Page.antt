@@ -7,7 +7,7 @@ use Rattle.state.specs.declared.State.{State}
 use Rattle.state.specs.State.{stationIn}
 use Rattle.report.specs.Answers.{askedOf}
 use Rattle.report.specs.ReportsAnswers.{outputOf}
-use Rattle.page_program.specs.Parts.{partText}
+use Rattle.page_part.specs.Parts.{partText}
 
 -- "made from the public report and reach calls": the numbers are the reach's, and the report is what that call leaves in room of 96 bytes
 abbrev pub reportRoom : List ℕ

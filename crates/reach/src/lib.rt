@@ -110,10 +110,10 @@ fn purge_one(a: u8, b: u8, counter: u16, w: u32) -> u16
 pub fn purged(net: Net, working: u64, counters: Counters, s: u8) -> Counters
     ensures { λ r. ⌜ r ≡ purgedOf net (inWord working) counters s ⌝ }
 {
-    let m = sets::at_most(net.links, 64);
+    let links = sets::at_most(net.links, 64);
     let w = reach_word(net, working, s);
     let mut next = counters;
-    for k in 0..m {
+    for k in 0..links {
         let i = k as usize;
         next[i] = purge_one(net.low[i], net.high[i], counters[i], w);
     }

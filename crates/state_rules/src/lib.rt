@@ -53,10 +53,7 @@ fn apart(a: u64, b: u64) -> bool
 fn beside_token(w: Words) -> u64
     ensures { λ r. ⌜ r ≡ wordBy (λ t. besideToken (marksAt w t)) ⌝ }
 {
-    sets::join(
-        sets::join(w.turn, w.testing),
-        sets::join(w.asked, w.quiet),
-    )
+    sets::join(sets::join(w.turn, w.testing), sets::join(w.asked, w.quiet))
 }
 
 // No mark at all.

@@ -15,7 +15,7 @@ use Rattle.net.specs.declared.Letter.{Letter}
 use Rattle.lists.proofs.Words.{zero-is-out, none-in}
 use Rattle.sets.specs.Sets.{wordBy, upTo}
 use Rattle.sets.proofs.WordLaws.{in-by, by-same}
-use Rattle.sending.specs.declared.Sending.{Sending}
+use Rattle.station.specs.declared.Sending.{Sending}
 use Rattle.station.specs.Done.{letter, onEach, tell}
 use Rattle.station.specs.Values.{membersOf, parts, lettersOf}
 

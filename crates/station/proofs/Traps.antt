@@ -17,10 +17,10 @@ use Rattle.marks.specs.declared.Marks.{Marks}
 use Rattle.station.specs.declared.Condition.{Condition}
 use Rattle.station.specs.declared.Condition.the-variants.{Down, Waiting, Live}
 use Rattle.station.specs.declared.Kind.{Kind}
-use Rattle.station.specs.declared.Kind.the-variants.{Start, Stop, Recovery, IntervalEnd, TimeoutEnd, QuietEnd}
+use Rattle.station.specs.declared.Kind.the-variants.{Start, Stop, Recovery, IntervalEnd, TimeoutEnd, QuietEnd, Delivery}
 use Rattle.station.specs.Holding.{Holding, noMarks, setToken, setTurn, setTesting, setQuiet}
 use Rattle.station.specs.Done.{Done, letter, known, doneBy, ownLinks}
-use Rattle.station.proofs.Doing.{openLinks, timeout, answer, effectOn, received}
+use Rattle.station.proofs.Doing.{answer, received}
 use Rattle.station.specs.Events.{ruleAt}
 use Rattle.station.proofs.Cases.{bodyNumbers, letterNumbers, stands}
 
@@ -71,11 +71,18 @@ hears : Holding → Letter → List (List ℕ)
 unfolding line seen stands letterHolds answer healed healing doneBy ownLinks known purge
 hears h x = (bit (stands line 1 h && letterHolds line x) ∷ []) ∷ seen (received line 1 x h)
 
+-- what a letter that is delivered adds to the tally: settled, raised, dropped
+tallies : Holding → Letter → List (List ℕ)
+unfolding line stands letterHolds healing healed
+tallies h x =
+    let t = ruleAt 1 Delivery 0 x h .counts in
+    (bit (stands line 1 h && letterHolds line x) ∷ []) ∷ (t .settled ∷ t .raised ∷ t .dropped ∷ []) ∷ []
+
 testing : Marks
 testing = setTesting true noMarks
 
 pub traps : List Trap
-unfolding live timesOut hears testing does quietly
+unfolding live timesOut hears testing does quietly tallies
 traps =
     -- a start: waiting, token on each own link and on no other; a stop: down, no mark, counters 1
     record { got = does Start 0 (quietly Down noMarks); want = (1 ∷ 1 ∷ []) ∷ (1 ∷ 1 ∷ 1 ∷ []) ∷ (1 ∷ 1 ∷ 0 ∷ []) ∷ [] ∷ [] }
@@ -109,8 +116,8 @@ traps =
     }
     -- of two testers the higher-numbered only marks that it was asked
     ∷ record { got = hears (live 2 2 1 testing noMarks) (letter 0 0 Request); want = (1 ∷ []) ∷ (2 ∷ 2 ∷ 1 ∷ []) ∷ (12 ∷ 0 ∷ 0 ∷ []) ∷ [] ∷ [] }
-    -- the lower-numbered answers
-    ∷ record { got = hears (live 2 2 1 noMarks testing) (letter 2 1 Request); want = (1 ∷ []) ∷ (2 ∷ 2 ∷ 1 ∷ []) ∷ (0 ∷ 1 ∷ 0 ∷ []) ∷ (1 ∷ 1 ∷ 34 ∷ 2 ∷ []) ∷ [] }
+    -- the lower-numbered answers, with the counter of the link that the request came on
+    ∷ record { got = hears (live 4 2 1 noMarks testing) (letter 2 1 Request); want = (1 ∷ []) ∷ (4 ∷ 2 ∷ 1 ∷ []) ∷ (0 ∷ 1 ∷ 0 ∷ []) ∷ (1 ∷ 1 ∷ 34 ∷ 2 ∷ []) ∷ [] }
     -- turn goes off when a token is got; where the counter is odd the other known links are told before the reply
     ∷ record {
       got = hears (live 3 2 4 (setTurn true noMarks) noMarks) (letter 0 0 Request);
@@ -122,6 +129,11 @@ traps =
     ∷ record { got = hears (live 2 2 4 noMarks (setQuiet true noMarks)) (letter 0 0 (Notice 2 5)); want = (1 ∷ []) ∷ (2 ∷ 2 ∷ 5 ∷ []) ∷ (0 ∷ 16 ∷ 0 ∷ []) ∷ [] ∷ [] }
     -- and a letter that comes on a quiet link is gone
     ∷ record { got = hears (live 2 2 4 (setQuiet true noMarks) noMarks) (letter 0 0 (Notice 2 5)); want = (1 ∷ []) ∷ (2 ∷ 2 ∷ 4 ∷ []) ∷ (16 ∷ 0 ∷ 0 ∷ []) ∷ [] ∷ [] }
+    -- a notice that is taken off is settled, and nothing else is; what is taken raises one counter; what is not heard is dropped
+    ∷ record { got = tallies (live 2 2 4 noMarks noMarks) (letter 0 0 (Notice 1 3)); want = (1 ∷ []) ∷ (1 ∷ 1 ∷ 0 ∷ []) ∷ [] }
+    ∷ record { got = tallies (live 2 2 4 noMarks noMarks) (letter 0 0 Request); want = (1 ∷ []) ∷ (0 ∷ 0 ∷ 0 ∷ []) ∷ [] }
+    ∷ record { got = tallies (live 3 2 4 testing noMarks) (letter 0 0 (Reply 2)); want = (1 ∷ []) ∷ (0 ∷ 1 ∷ 0 ∷ []) ∷ [] }
+    ∷ record { got = tallies (live 2 2 4 (setQuiet true noMarks) noMarks) (letter 0 0 (Notice 2 5)); want = (1 ∷ []) ∷ (1 ∷ 0 ∷ 1 ∷ []) ∷ [] }
     ∷ []
 
 pub traps-hold : map (λ c. c .got) traps ≡ map (λ c. c .want) traps

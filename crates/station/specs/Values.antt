@@ -14,7 +14,7 @@ use Rattle.marks.specs.Marks.{marksAt}
 use Rattle.marks.specs.declared.Marks.{Marks}
 use Rattle.marks.specs.declared.Words.{Words}
 use Rattle.station.specs.declared.Station.{Station}
-use Rattle.sending.specs.declared.Sending.{Sending}
+use Rattle.station.specs.declared.Sending.{Sending}
 use Rattle.station.specs.declared.Condition.the-variants.{Down}
 use Rattle.station.specs.Holding.{Holding}
 use Rattle.station.specs.Done.{letter, onEach, tell}

@@ -105,3 +105,16 @@ pub fn fresh_counters(links: u8) -> Counters
     }
     counters
 }
+
+// ---- What a station sends, as a small description that the network expands: no list of letters is built before it is appended.
+// What a station sends: a request on each link of the first word; a notice of each subject on each way, with the counter that the
+// station's table has for it; and last a reply on one link.
+
+pub struct Sending {
+    pub requests: u64,
+    pub subjects: u64,
+    pub ways: u64,
+    pub replies: bool,
+    pub reply: u16,
+    pub link: u8,
+}

@@ -23,7 +23,7 @@ use Rattle.sets.proofs.WordLaws.{in-by}
 use Rattle.marks.specs.declared.Marks.{Marks}
 use Rattle.marks.specs.declared.Words.{Words}
 use Rattle.marks.specs.Marks.{marksAt, wordsWith, ownAt}
-use Rattle.sending.specs.declared.Sending.{Sending}
+use Rattle.station.specs.declared.Sending.{Sending}
 use Rattle.station.specs.declared.Station.{Station}
 use Rattle.station.specs.Holding.{Holding, noMarks, mark}
 use Rattle.station.specs.Acts.{Links, Marking, asBefore, onLink, onEvery, Tabling, kept, ones, sets, Sends, nothing, requests, notices, allKnown, reply, Act}

@@ -209,8 +209,8 @@ module _ (net : Net) (s : ℕ) (st : Station) (own : ℕ) (eo : Own own net s) (
         due-elim there (ruled e) X (λ d. Planned net s st (roomOf e st) (comesOf (networkOf net) s H d) (planOf own W d))
         (λ n z. record { answer = refl; counts = refl; done = λ q. absurd (z q); refused = λ q. refl })
         (λ t a o.
-            let done = carried-out net s st own eo fit size (record { number = 0; act = ruled e .act; counts = ruled e .counts }) (roomOf e st) refl (act-fits e (m t)) (act-room e .0) (act-room e .1) in
-            record { answer = done .answer; counts = done .counts; done = λ q. done; refused = λ q. absurd (q refl) })
+        let done = carried-out net s st own eo fit size (record { number = 0; act = ruled e .act; counts = ruled e .counts }) (roomOf e st) refl (act-fits e (m t)) (act-room e .0) (act-room e .1) in
+        record { answer = done .answer; counts = done .counts; done = λ q. done; refused = λ q. absurd (q refl) })
 
     here-plans : (there : Bool) (e : Kind) → (T there → Meant net st e k l told) → Plans e net s k l st there (eventPlan there e own s k l c told X W)
     unfolding eventPlan comesTo holdingOf dueOf

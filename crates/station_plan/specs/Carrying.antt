@@ -11,7 +11,7 @@ use Rattle.net.specs.Values.{linkCount}
 use Rattle.reach.specs.Reach.{worksIn}
 use Rattle.reach.specs.Values.{tableOf, purgedOf}
 use Rattle.sets.specs.Sets.{wordBy, upTo}
-use Rattle.sending.specs.declared.Sending.{Sending}
+use Rattle.station.specs.declared.Sending.{Sending}
 use Rattle.station.specs.Values.{freshTable}
 
 -- ---- the table

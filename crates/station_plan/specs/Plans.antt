@@ -13,7 +13,7 @@ use Rattle.net.specs.Values.{linkCount}
 use Rattle.sets.specs.Sets.{wordBy}
 use Rattle.marks.specs.declared.Words.{Words}
 use Rattle.marks.specs.Marks.{marksAt, wordsBy, wordsWith}
-use Rattle.sending.specs.declared.Sending.{Sending}
+use Rattle.station.specs.declared.Sending.{Sending}
 use Rattle.station.specs.declared.Condition.{Condition}
 use Rattle.station.specs.declared.Heard.{Heard}
 use Rattle.station.specs.declared.Station.{Station}

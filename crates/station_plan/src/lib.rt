@@ -4,8 +4,8 @@
 // (proofs/Laws); no function. The code that makes it: hearing, receiving and planning; that carries it out: carrying, and the network's
 // step.
 use marks::Words;
-use sending::Sending;
 use station::Condition;
+use station::Sending;
 use tally::Tally;
 
 // A plan: the number that says no, or 0 and what becomes of the station, what it sends, and what is added to the tally.

@@ -56,7 +56,7 @@ fn read_chunk(reading: HexReading, room: &mut [u8]) -> Chunk
             more: true,
         };
     }
-    if begun::is_hex_begun(reading) {
+    if hex_lines::is_hex_begun(reading) {
         room[0] = 10;
         return Chunk {
             size: 1,

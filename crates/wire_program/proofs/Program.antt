@@ -11,7 +11,7 @@ use Rattle.lists.specs.Places.{collect}
 use Rattle.lists.proofs.Tests.{T-is}
 use Rattle.hex_lines.specs.Hex.{HexText, malformed, octets, hexLine}
 use Rattle.hex_lines.specs.HexSteps.{hexStart, readHex}
-use Rattle.lines.specs.Split.{linesOf}
+use Rattle.event_lines.specs.Split.{linesOf}
 use Rattle.hex_lines.proofs.Split.{hex-lines}
 use Rattle.net.specs.declared.Net.{Net}
 use Rattle.net.specs.Network.{Network}
@@ -22,14 +22,14 @@ use Rattle.sheet.specs.Values.{valueOf}
 use Rattle.sheet.proofs.ValueLaws.{value-means, value-holds}
 use Rattle.letters.specs.Letters.{readLetter}
 use Rattle.letters.specs.Values.{reading}
-use Rattle.begun.specs.Begun.{isHexBegun}
+use Rattle.hex_lines.specs.HexBegun.{isHexBegun}
 use Rattle.console.specs.Sheets.{fileSheet, openedBy}
 use Rattle.console.specs.Feeding.{wholeText}
 use Rattle.console.specs.Feeding as Feeding
 use Rattle.console.proofs.Lines.{joined, whole-text}
 use Rattle.console.proofs.Faults.{refusal-counts}
 use Rattle.console.proofs.Goods.{file-holds}
-use Rattle.begun.proofs.Begun.{hex-not-first, hex-begins}
+use Rattle.hex_lines.proofs.HexBegun.{hex-not-first, hex-begins}
 use Rattle.wire_program.specs.Line.{sheetText}
 use Rattle.wire_program.specs.LetterLineLine.{readText}
 use Rattle.wire_program.specs.Wire.{lineText, outputBy, wireProgram}

@@ -8,7 +8,7 @@ use Rattle.lists.specs.Lists.{if_then_else_}
 use Rattle.hex_lines.specs.HexSteps.{hexStart, readHex}
 use Rattle.console.specs.declared.Opened.{Opened}
 use Rattle.console.specs.Sheets.{fileSheet, openedBy}
-use Rattle.begun.specs.Begun.{isHexBegun}
+use Rattle.hex_lines.specs.HexBegun.{isHexBegun}
 use Rattle.console.specs.Feeding.{wholeText}
 use Rattle.wire_program.specs.Line.{sheetText}
 use Rattle.wire_program.specs.Passing.{saidBy, acted, spoken}

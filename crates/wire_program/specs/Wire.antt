@@ -2,7 +2,7 @@
 use Prim.Native.Nat.{ℕ}
 use mathlib.Core.List.{List, [], _∷_, _++_, map}
 use Rattle.lists.specs.Places.{collect}
-use Rattle.lines.specs.Split.{linesOf}
+use Rattle.event_lines.specs.Split.{linesOf}
 use Rattle.hex_lines.specs.Hex.{HexText, malformed, octets, hexLine}
 use Rattle.net.specs.Network.{Network}
 use Rattle.sheet.specs.Sheet as Sheets

@@ -1,5 +1,5 @@
 use Rattle.event_program.specs.Steps.{askedBy}
-use Rattle.lines.specs.Steps.{lineNumbers}
+use Rattle.event_lines.specs.Steps.{lineNumbers}
 use mathlib.Core.Path.{sym, ap, _∙_}
 use borrow.Author.Needs.{needs}
 use Rattle.event_program.proofs.asked_of.Statement.{statement}

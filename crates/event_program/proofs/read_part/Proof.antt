@@ -1,5 +1,5 @@
 use Rattle.console.proofs.Reading.{stop-ends, stop-more, stop-none}
-use Rattle.lines.specs.Steps.{readOn}
+use Rattle.event_lines.specs.Steps.{readOn}
 use Rattle.console.specs.Feeding.{stopOf}
 use denote.Ref.{now}
 use lib.ListN.{length, drop}

@@ -1,10 +1,10 @@
 use Rattle.event_program.proofs.Parts.{Going, turn-room, turn-more, turn-less, ran-short, ran-all}
 use Rattle.console.proofs.Feeding.{going-begins}
-use Rattle.lines.specs.Steps.{start, readOn, lineEnd}
+use Rattle.event_lines.specs.Steps.{start, readOn, lineEnd}
 use Rattle.event_program.specs.Steps.{stopIn}
 use Rattle.event_program.specs.Runs.{deskOf, stepBy, acted, spoken}
 use Rattle.event_program.specs.declared.Asked.{Asked}
-use Rattle.stepping.specs.Step.{steppedOf}
+use Rattle.step_rules.specs.Step.{steppedOf}
 use Rattle.lists.specs.Words.{bit}
 use denote.Ref.{now}
 use lib.ListN.{length}

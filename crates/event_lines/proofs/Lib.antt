@@ -1,0 +1,5 @@
+pub mod Events
+pub mod Split
+pub mod Cases
+pub mod Unique
+pub mod Begun

@@ -1,4 +1,0 @@
-pub mod Events
-pub mod Split
-pub mod Cases
-pub mod Unique

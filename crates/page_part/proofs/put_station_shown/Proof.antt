@@ -1,0 +1,41 @@
+use Rattle.page_part.proofs.Texts.{same-word, shown-working, shown-unreachable}
+use borrow.Author.Needs.{needs}
+use Rattle.page_part.proofs.put_station_shown.Statement.{statement}
+use Rattle.page_part.proofs.put_station_shown.Tie as tie
+
+slice-aggregate-put-word : tie.Need-slice-aggregate-put-word
+slice-aggregate-put-word c = search needs
+
+put-word-requires : tie.Need-put-word-requires
+put-word-requires c κs = search needs
+
+same-length : tie.Need-same-length
+same-length c = search needs
+
+returns : tie.Need-returns
+returns c = let a = c .before .before .before .before .before .before .before .args in same-word _ _ _ _ _ _ (shown-working (a .shown) (c .before .before .before .before .before .if1 .taken)) (c .before .before .put-word .ensures)
+
+slice-aggregate-put-word-2 : tie.Need-slice-aggregate-put-word-2
+slice-aggregate-put-word-2 c = search needs
+
+put-word-requires-2 : tie.Need-put-word-requires-2
+put-word-requires-2 c κs = search needs
+
+same-length-2 : tie.Need-same-length-2
+same-length-2 c = search needs
+
+returns-2 : tie.Need-returns-2
+returns-2 c = let a = c .before .before .before .before .before .before .before .args in same-word _ _ _ _ _ _ (shown-unreachable (a .shown) (c .before .before .before .before .before .if1 .left)) (c .before .before .put-word2 .ensures)
+
+pub put-station-shown-spec : {M : Type 1} → statement M
+put-station-shown-spec =
+    tie.close
+    (tie.spec
+    slice-aggregate-put-word
+    put-word-requires
+    same-length
+    returns
+    slice-aggregate-put-word-2
+    put-word-requires-2
+    same-length-2
+    returns-2)

@@ -1,0 +1,49 @@
+-- What the small steps of the code answer, return by return. Assumes nothing.
+use Prim.Native.Nat.{ℕ, _+_, _-_, _≤_, _<_}
+use mathlib.Core.Bool.{Bool, true, false, not}
+use mathlib.Core.Path.{_≡_, refl, sym, ap, _∙_, subst⁻¹}
+use native.Mathlib.Omega.{arith}
+use lib.Dec.{eqb, ltb, ltb→lt}
+use borrow.Author.Tests.{eq-eqb, ne-eqb, lt-ltb, le-ltb, not-true, not-false}
+use Rattle.lists.specs.Lists.{if_then_else_}
+use Rattle.lists.proofs.Tests.{if-elim}
+use Rattle.net.specs.declared.Letter.{Letter}
+use Rattle.world.specs.World.{noLetter}
+use Rattle.step.specs.Concerned.{inRoom}
+use Rattle.step.specs.Parts.{placeBy, fewerBy, numberBy}
+
+pub place-there : (a : ℕ) → a < 4096 → a ≡ placeBy a
+place-there a h = sym (ap (λ (b : Bool). if b then a else 0) (lt-ltb a 4096 h))
+
+pub place-past : (a : ℕ) → 4096 ≤ a → 0 ≡ placeBy a
+place-past a h = sym (ap (λ (b : Bool). if b then a else 0) (le-ltb a 4096 h))
+
+pub place-few : (a r : ℕ) → r ≡ placeBy a → r < 4096
+place-few a r e = subst⁻¹ (λ (n : ℕ). n < 4096) e (if-elim (λ (n : ℕ). n < 4096) (ltb a 4096) (λ t. ltb→lt a 4096 t) (λ t. omega arith))
+
+pub room-few : (n r : ℕ) → r ≡ inRoom n → r < 32
+room-few n r e = subst⁻¹ (λ (n : ℕ). n < 32) e (if-elim (λ (n : ℕ). n < 32) (ltb n 32) (λ t. ltb→lt n 32 t) (λ t. omega arith))
+
+module _ (leaves : Bool) where
+  pub left-all : (n : ℕ) → leaves ≡ false → n ≡ fewerBy leaves n
+  left-all n e = sym (ap (λ (b : Bool). fewerBy b n) e)
+
+  pub left-less : (n r : ℕ) → leaves ≡ true → r ≡ n - 1 → r ≡ fewerBy leaves n
+  left-less n r e h = h ∙ sym (ap (λ (b : Bool). fewerBy b n) e)
+
+  pub freed-is : (x : Letter) → leaves ≡ true → noLetter ≡ (if leaves then noLetter else x)
+  freed-is x e = sym (ap (λ (b : Bool). if b then noLetter else x) e)
+
+module _ (planned left count : ℕ) where
+  pub number-planned : (planned ≡ 0 → ⊥) → planned ≡ numberBy planned left count
+  number-planned n = sym (ap (λ (b : Bool). if b then (if ltb 4096 (left + count) then 9 else 0) else planned) (ne-eqb planned 0 n))
+
+  pub number-nine : planned ≡ 0 → 4096 < left + count → 9 ≡ numberBy planned left count
+  number-nine e h =
+      sym (ap (λ (b : Bool). if b then (if ltb 4096 (left + count) then 9 else 0) else planned) (eq-eqb planned 0 e)
+      ∙ ap (λ (b : Bool). if b then 9 else 0) (lt-ltb 4096 (left + count) h))
+
+  pub number-none : planned ≡ 0 → left + count ≤ 4096 → 0 ≡ numberBy planned left count
+  number-none e h =
+      sym (ap (λ (b : Bool). if b then (if ltb 4096 (left + count) then 9 else 0) else planned) (eq-eqb planned 0 e)
+      ∙ ap (λ (b : Bool). if b then 9 else 0) (le-ltb 4096 (left + count) h))
