@@ -1,4 +1,4 @@
--- The number of a refused sheet is never 0: so 0 says that there is a network. Assumes nothing.
+-- The number of a refused sheet is never 0: so 0 says that there is a network.
 use Prim.Native.Nat.{ℕ, zero, suc}
 use mathlib.Core.Bool.{not, _&&_}
 use mathlib.Core.Path.{_≡_, subst}
@@ -30,14 +30,16 @@ opens : (f : Field) → Opens (opened f)
 unfolding opened
 opens short = λ e. omega arith
 opens (field t v rest) =
-    if-elim Opens (not (isField 1 1 t v)) (λ u e. omega arith) (λ u. if-elim Opens (not (stationsHold (getD v 0 0))) (λ w e. omega arith) (λ w. tt))
+    if-elim Opens (not (isField 1 1 t v)) (λ u e. omega arith)
+    (λ u. if-elim Opens (not (stationsHold (getD v 0 0))) (λ w e. omega arith) (λ w. tt))
 
 judges : (n : ℕ) (prev : Ends) (f : Field) → Judges (judged n prev f)
 unfolding judged
 judges n prev short = λ e. omega arith
 judges n prev (field t v rest) =
     if-elim Judges (isField 2 2 t v)
-    (λ u. if-elim Judges (not (endsHold n (linkOf v))) (λ w e. omega arith) (λ w. if-elim Judges (not (precedes prev (linkOf v))) (λ x e. omega arith) (λ x. tt)))
+    (λ u. if-elim Judges (not (endsHold n (linkOf v))) (λ w e. omega arith)
+    (λ w. if-elim Judges (not (precedes prev (linkOf v))) (λ x e. omega arith) (λ x. tt)))
     (λ u. if-elim Judges (isField 15 0 t v && isEmpty rest) (λ w. tt) (λ w e. omega arith))
 
 counts : (room n : ℕ) (so : List Ends) (v : Verdict) → Judges v → Counts (readLinks room n so v)

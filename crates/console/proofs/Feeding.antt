@@ -1,5 +1,5 @@
 -- The loop over the lines that end in a piece of the input: what holds between its turns, and what it leaves. For any reading, any value
--- that is held, and lines of at most so many bytes. Assumes nothing.
+-- that is held, and lines of at most so many bytes.
 use Prim.Native.Nat.{ℕ, _+_, _-_, _*_, _≤_, _<_}
 use mathlib.Core.Bool.{Bool, true, false}
 use mathlib.Core.Path.{_≡_, refl, sym, ap, ap₂, _∙_}
@@ -44,7 +44,8 @@ module _ {Y R A : Type 0} (fresh : R) (on : R → ℕ → R) (ends : R → A) (a
     stop-held [] r at e = refl
     stop-held (b ∷ later) r at e = go (ℕ-discrete b 10) (stop-held later (on r b) (at + 1) (drop-next bytes at b later e))
       where
-        go : Dec (b ≡ 10) → restHeld y (stopOf on (on r b) later (at + 1)) bytes ≡ held y (on r b) later → restHeld y (stopOf on r (b ∷ later) at) bytes ≡ held y r (b ∷ later)
+        go : Dec (b ≡ 10) → restHeld y (stopOf on (on r b) later (at + 1)) bytes ≡ held y (on r b) later
+            → restHeld y (stopOf on r (b ∷ later) at) bytes ≡ held y r (b ∷ later)
         go (yes h) p = simp (eq-eqb b 10 h) (ap (held (act y (ends r)) fresh) (drop-next bytes at b later e))
         go (no h) p = simp (ne-eqb b 10 h) p
 
@@ -53,7 +54,8 @@ module _ {Y R A : Type 0} (fresh : R) (on : R → ℕ → R) (ends : R → A) (a
     stop-read [] r at e = refl
     stop-read (b ∷ later) r at e = go (ℕ-discrete b 10) (stop-read later (on r b) (at + 1) (drop-next bytes at b later e))
       where
-        go : Dec (b ≡ 10) → restRead y (stopOf on (on r b) later (at + 1)) bytes ≡ read y (on r b) later → restRead y (stopOf on r (b ∷ later) at) bytes ≡ read y r (b ∷ later)
+        go : Dec (b ≡ 10) → restRead y (stopOf on (on r b) later (at + 1)) bytes ≡ read y (on r b) later
+            → restRead y (stopOf on r (b ∷ later) at) bytes ≡ read y r (b ∷ later)
         go (yes h) p = simp (eq-eqb b 10 h) (ap (read (act y (ends r)) fresh) (drop-next bytes at b later e))
         go (no h) p = simp (ne-eqb b 10 h) p
 
@@ -62,8 +64,10 @@ module _ {Y R A : Type 0} (fresh : R) (on : R → ℕ → R) (ends : R → A) (a
     stop-text [] r at e = refl
     stop-text (b ∷ later) r at e = go (ℕ-discrete b 10) (stop-text later (on r b) (at + 1) (drop-next bytes at b later e))
       where
-        go : Dec (b ≡ 10) → restText y (stopOf on (on r b) later (at + 1)) bytes ≡ text y (on r b) later → restText y (stopOf on r (b ∷ later) at) bytes ≡ text y r (b ∷ later)
-        go (yes h) p = simp (eq-eqb b 10 h) (ap (λ (l : List ℕ). say y (ends r) ++ text (act y (ends r)) fresh l) (drop-next bytes at b later e))
+        go : Dec (b ≡ 10) → restText y (stopOf on (on r b) later (at + 1)) bytes ≡ text y (on r b) later
+            → restText y (stopOf on r (b ∷ later) at) bytes ≡ text y r (b ∷ later)
+        go (yes h) p =
+            simp (eq-eqb b 10 h) (ap (λ (l : List ℕ). say y (ends r) ++ text (act y (ends r)) fresh l) (drop-next bytes at b later e))
         go (no h) p = simp (ne-eqb b 10 h) p
 
   -- ---- between two turns: what is printed so far stands at the front of the output
@@ -78,7 +82,8 @@ module _ {Y R A : Type 0} (fresh : R) (on : R → ℕ → R) (ends : R → A) (a
     pub enough : most * length bytes ≤ length old
 
   module _ (most : ℕ) (bytes old : List ℕ) (y₀ : Y) (p₀ : Stop R) where
-    pub going-begins : (r : R) → p₀ ≡ stopOf on r (drop 0 bytes) 0 → most * length bytes ≤ length old → Going most bytes old y₀ p₀ old y₀ 0 p₀
+    pub going-begins : (r : R) → p₀ ≡ stopOf on r (drop 0 bytes) 0 → most * length bytes ≤ length old
+        → Going most bytes old y₀ p₀ old y₀ 0 p₀
     going-begins r e h =
         let n = next-stop on bytes 0 r p₀ (omega arith) e in
         let room : most * bit (p₀ .ended) ≤ most * p₀ .next = mul-le-mul-left most (omega (arith, n .more)) in
@@ -91,7 +96,8 @@ module _ {Y R A : Type 0} (fresh : R) (on : R → ℕ → R) (ends : R → A) (a
       pub going-room : at + most ≤ length out
       going-room = omega (arith, whole, g .room, mul-le-mul-left most (g .within), g .enough, g .size)
 
-      module _ (z : Y) (is : z ≡ act y (ends (p .reading))) (line : List ℕ) (same : line ≡ say y (ends (p .reading))) (r : ℕ) (new : List ℕ) (w : Put line most at out r new)
+      module _ (z : Y) (is : z ≡ act y (ends (p .reading))) (line : List ℕ) (same : line ≡ say y (ends (p .reading))) (r : ℕ) (new : List ℕ)
+          (w : Put line most at out r new)
           (q : Stop R) (behind : q ≡ stopOf on fresh (drop (p .next) bytes) (p .next)) where
         fits : at + length line ≤ length out
         fits = omega (arith, going-room, w .few)
@@ -107,24 +113,29 @@ module _ {Y R A : Type 0} (fresh : R) (on : R → ℕ → R) (ends : R → A) (a
 
         later-text : restText y p bytes ≡ line ++ restText z q bytes
         later-text =
-            ap (λ (b : Bool). if b then say y (ends (p .reading)) ++ text (act y (ends (p .reading))) fresh (drop (p .next) bytes) else []) e
+            ap (λ (b : Bool). if b then say y (ends (p .reading)) ++ text (act y (ends (p .reading))) fresh (drop (p .next) bytes) else [])
+            e
             ∙ ap₂ (λ (l : List ℕ) (v : Y). l ++ text v fresh (drop (p .next) bytes)) (sym same) (sym is)
-            ∙ ap (λ (l : List ℕ). line ++ l) (sym (stop-text z bytes (drop (p .next) bytes) fresh (p .next) refl) ∙ ap (λ (v : Stop R). restText z v bytes) (sym behind))
+            ∙ ap (λ (l : List ℕ). line ++ l) (sym (stop-text z bytes (drop (p .next) bytes) fresh (p .next) refl)
+            ∙ ap (λ (v : Stop R). restText z v bytes) (sym behind))
 
         later-held : restHeld y p bytes ≡ restHeld z q bytes
         later-held =
-            ap (λ (b : Bool). if b then held (act y (ends (p .reading))) fresh (drop (p .next) bytes) else y) e ∙ ap (λ (v : Y). held v fresh (drop (p .next) bytes)) (sym is)
+            ap (λ (b : Bool). if b then held (act y (ends (p .reading))) fresh (drop (p .next) bytes) else y) e
+            ∙ ap (λ (v : Y). held v fresh (drop (p .next) bytes)) (sym is)
             ∙ sym (stop-held z bytes (drop (p .next) bytes) fresh (p .next) refl) ∙ ap (λ (v : Stop R). restHeld z v bytes) (sym behind)
 
         later-read : restRead y p bytes ≡ restRead z q bytes
         later-read =
-            ap (λ (b : Bool). if b then read (act y (ends (p .reading))) fresh (drop (p .next) bytes) else p .reading) e ∙ ap (λ (v : Y). read v fresh (drop (p .next) bytes)) (sym is)
+            ap (λ (b : Bool). if b then read (act y (ends (p .reading))) fresh (drop (p .next) bytes) else p .reading) e
+            ∙ ap (λ (v : Y). read v fresh (drop (p .next) bytes)) (sym is)
             ∙ sym (stop-read z bytes (drop (p .next) bytes) fresh (p .next) refl) ∙ ap (λ (v : Stop R). restRead z v bytes) (sym behind)
 
         more-room : r + most * bit (q .ended) ≤ most * q .next
         more-room =
             let steps : most * (p .next + bit (q .ended)) ≤ most * q .next = mul-le-mul-left most (follows .more) in
-            let spread : most * (p .next + bit (q .ended)) ≡ most * p .next + most * bit (q .ended) = mul-add most (p .next) (bit (q .ended)) in
+            let spread : most * (p .next + bit (q .ended)) ≡ most * p .next + most * bit (q .ended) = mul-add most (p .next)
+            (bit (q .ended)) in
             omega (arith, g .room, whole, w .place, w .few)
 
         pub going-more : Going most bytes old y₀ p₀ new z r q
@@ -132,11 +143,13 @@ module _ {Y R A : Type 0} (fresh : R) (on : R → ℕ → R) (ends : R → A) (a
             record {
               size = ap length (w .output) ∙ length-put line at out ∙ g .size;
               tail =
-                  ap (drop r) new-is ∙ drop-at (take at out ++ line) (drop (at + length line) out) r front ∙ sym (drop-drop (length line) at out)
+                  ap (drop r) new-is ∙ drop-at (take at out ++ line) (drop (at + length line) out) r front
+                  ∙ sym (drop-drop (length line) at out)
                   ∙ ap (drop (length line)) (g .tail) ∙ drop-drop (length line) at old ∙ ap (λ (n : ℕ). drop n old) (sym (w .place));
               text =
                   g .text ∙ ap (λ (l : List ℕ). take at out ++ l) later-text ∙ sym (append-assoc (take at out) line (restText z q bytes))
-                  ∙ ap (λ (l : List ℕ). l ++ restText z q bytes) (sym (ap (take r) new-is ∙ take-at (take at out ++ line) (drop (at + length line) out) r front));
+                  ∙ ap (λ (l : List ℕ). l ++ restText z q bytes)
+                  (sym (ap (take r) new-is ∙ take-at (take at out ++ line) (drop (at + length line) out) r front));
               held = g .held ∙ later-held;
               read = g .read ∙ later-read;
               room = more-room;
@@ -155,13 +168,15 @@ module _ {Y R A : Type 0} (fresh : R) (on : R → ℕ → R) (ends : R → A) (a
     pub output : out ≡ putAt (textAfter fresh on ends act say y₀ r bytes) 0 old
     pub counts : Counts at out
 
-  pub going-done : (most : ℕ) (bytes old : List ℕ) (y₀ : Y) (p₀ : Stop R) (out : List ℕ) (y : Y) (at : ℕ) (p : Stop R) (r : R) → p₀ ≡ stopOf on r (drop 0 bytes) 0
+  pub going-done : (most : ℕ) (bytes old : List ℕ) (y₀ : Y) (p₀ : Stop R) (out : List ℕ) (y : Y) (at : ℕ) (p : Stop R) (r : R)
+      → p₀ ≡ stopOf on r (drop 0 bytes) 0
       → Going most bytes old y₀ p₀ out y at p → p .ended ≡ false → Done y₀ r bytes old out y at p
   going-done most bytes old y₀ p₀ out y at p r e g z =
       let within : at ≤ length out = omega (arith, g .room, mul-le-mul-left most (g .within), g .enough, g .size) in
       let said : text y₀ r bytes ≡ take at out =
       sym (stop-text y₀ bytes bytes r 0 refl) ∙ ap (λ (v : Stop R). restText y₀ v bytes) (sym e) ∙ g .text
-      ∙ ap (λ (b : Bool). take at out ++ (if b then say y (ends (p .reading)) ++ text (act y (ends (p .reading))) fresh (drop (p .next) bytes) else [])) z
+      ∙ ap (λ (b : Bool). take at out ++ (if b then say y (ends (p .reading)) ++ text (act y (ends (p .reading))) fresh
+      (drop (p .next) bytes) else [])) z
       ∙ append-nil (take at out) in
       let count : at ≡ length (text y₀ r bytes) = sym (ap length said ∙ length-take-le at out within) in
       let there : at ≡ 0 + length (text y₀ r bytes) = omega arith in

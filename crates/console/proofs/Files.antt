@@ -1,4 +1,4 @@
--- The file of a sheet: one that is too long, and one that is read. Assumes nothing.
+-- The file of a sheet: one that is too long, and one that is read.
 use Prim.Native.Nat.{ℕ, _≤_, _<_}
 use mathlib.Core.Path.{_≡_, refl, _∙_}
 use mathlib.Core.List.{List, []}
@@ -20,6 +20,7 @@ module _ (file : List ℕ) where
   unfolding fileSheet
   file-long net h e = simp (lt-ltb 4096 (length file) h) (λ i. record { number = 2; net = e i })
 
-  pub file-read : (r : Read.Reading) (n : ℕ) → length file ≤ 4096 → Says r (readSheet file) → n ≡ numberOf (r .answer) → record { number = n; net = r .net } ≡ openedBy (fileSheet file)
+  pub file-read : (r : Read.Reading) (n : ℕ) → length file ≤ 4096 → Says r (readSheet file) → n ≡ numberOf (r .answer)
+      → record { number = n; net = r .net } ≡ openedBy (fileSheet file)
   unfolding fileSheet
   file-read r n h s e = simp (le-ltb 4096 (length file) h) (λ i. record { number = (e ∙ s .number) i; net = s .net i })

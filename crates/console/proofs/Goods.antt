@@ -1,4 +1,4 @@
--- A file whose sheet is good: the value that it gives is a good network, and means the sheet's. Assumes nothing.
+-- A file whose sheet is good: the value that it gives is a good network, and means the sheet's.
 use Prim.Native.Nat.{ℕ}
 use mathlib.Core.Bool.{Bool, true, false}
 use mathlib.Core.Path.{_≡_}

@@ -1,4 +1,4 @@
--- A text that was put in parts, and what a caller has of it. Assumes nothing.
+-- A text that was put in parts, and what a caller has of it.
 use Prim.Native.Nat.{ℕ, _+_, _≤_, _<_, _^_}
 use mathlib.Core.Path.{_≡_, refl, sym, ap, _∙_, subst}
 use mathlib.Core.List.{List, [], _∷_, _++_, append-nil}
@@ -19,13 +19,15 @@ use Rattle.console.specs.Sheets.{refusalText}
 use Rattle.console.specs.Outputs.{Counts, wroteBy, outputBy, Put}
 
 -- a chain that has room for its text
-pub put-done : (text : List ℕ) (most at : ℕ) (old : List ℕ) (r : ℕ) (new : List ℕ) → Chain text at old r new → length text ≤ most → at + most ≤ length old → Put text most at old r new
+pub put-done : (text : List ℕ) (most at : ℕ) (old : List ℕ) (r : ℕ) (new : List ℕ) → Chain text at old r new → length text ≤ most
+    → at + most ≤ length old → Put text most at old r new
 put-done text most at old r new c few h =
     let here : r ≡ at + length text = c .place ∙ place-fits text at old (omega arith) in
     record { place = here; output = c .output (omega arith); few = few }
 
 -- the same for a text written otherwise
-pub put-same : (text other : List ℕ) (most at : ℕ) (old : List ℕ) (r : ℕ) (new : List ℕ) → text ≡ other → Put text most at old r new → Put other most at old r new
+pub put-same : (text other : List ℕ) (most at : ℕ) (old : List ℕ) (r : ℕ) (new : List ℕ) → text ≡ other → Put text most at old r new
+    → Put other most at old r new
 put-same text other most at old r new e p = subst (λ (x : List ℕ). Put x most at old r new) e p
 
 -- ---- how long numbers are
@@ -40,22 +42,30 @@ count-digits n h = digits-at-most 19 n (omega arith)
 
 -- ---- a whole answer: the text at the front, or 10
 module _ (most : ℕ) (text old : List ℕ) where
-  pub wrote-short : length old < most → (record { answer = 10; written = 0 } ≡ wroteBy (leb most (length old)) text) × ((old ≡ outputBy (leb most (length old)) text old) × Counts 0 old)
+  pub wrote-short : length old < most → (record { answer = 10; written = 0 } ≡ wroteBy (leb most (length old))
+      text) × ((old ≡ outputBy (leb most (length old)) text old) × Counts 0 old)
   wrote-short h = simp (lt-leb most (length old) h) (refl, (refl, (omega arith, refl)))
 
   pub wrote-all : (r : ℕ) (new : List ℕ) → most ≤ length old → Put text most 0 old r new
-      → (record { answer = 0; written = r } ≡ wroteBy (leb most (length old)) text) × ((new ≡ outputBy (leb most (length old)) text old) × Counts r new)
+      → (record { answer = 0; written = r } ≡ wroteBy (leb most (length old))
+      text) × ((new ≡ outputBy (leb most (length old)) text old) × Counts r new)
   wrote-all r new h p =
       let size : length new ≡ length old = ap length (p .output) ∙ length-put text 0 old in
       let within : r ≤ length new = omega (arith, p .place, p .few) in
       let here : r ≡ length text = omega (arith, p .place) in
-      simp (le-leb most (length old) h) ((λ i. record { answer = 0; written = here i }), (p .output, (within, sym (length-take-le r new within))))
+      simp (le-leb most (length old) h) (
+        (λ i. record
+            { answer = 0; written = here i }),
+        (p .output, (within, sym (length-take-le r new within))),
+      )
 
 -- what a chain takes of a text that was put
-pub put-next : {text : List ℕ} {most at : ℕ} {old : List ℕ} {r : ℕ} {new : List ℕ} → at + most ≤ length old → Put text most at old r new → (r ≡ placeAfter text at old) × (new ≡ putAt text at old)
+pub put-next : {text : List ℕ} {most at : ℕ} {old : List ℕ} {r : ℕ} {new : List ℕ} → at + most ≤ length old → Put text most at old r new
+    → (r ≡ placeAfter text at old) × (new ≡ putAt text at old)
 put-next {text} {most} {at} {old} h p = (p .place ∙ sym (place-fits text at old (omega (arith, p .few))), p .output)
 
-pub chain-same : {text other : List ℕ} {from : ℕ} {old : List ℕ} {at : ℕ} {out : List ℕ} → text ≡ other → Chain text from old at out → Chain other from old at out
+pub chain-same : {text other : List ℕ} {from : ℕ} {old : List ℕ} {at : ℕ} {out : List ℕ} → text ≡ other → Chain text from old at out
+    → Chain other from old at out
 chain-same {from = from} {old = old} {at = at} {out = out} e c = subst (λ (x : List ℕ). Chain x from old at out) e c
 
 -- ---- a refused sheet's number
@@ -75,14 +85,16 @@ put-of text most at old r new few h p = record { place = p .0 ∙ place-fits tex
 pub put-size : {text : List ℕ} {most at : ℕ} {old : List ℕ} {r : ℕ} {new : List ℕ} → Put text most at old r new → length new ≡ length old
 put-size {text} {most} {at} {old} p = ap length (p .output) ∙ length-put text at old
 
-pub put-wider : {text : List ℕ} {less at : ℕ} {old : List ℕ} {r : ℕ} {new : List ℕ} (most : ℕ) → less ≤ most → Put text less at old r new → Put text most at old r new
+pub put-wider : {text : List ℕ} {less at : ℕ} {old : List ℕ} {r : ℕ} {new : List ℕ} (most : ℕ) → less ≤ most → Put text less at old r new
+    → Put text most at old r new
 put-wider most h p = record { place = p .place; output = p .output; few = omega (arith, p .few) }
 
 pub put-then : {xs ys : List ℕ} {m n at : ℕ} {old : List ℕ} {a : ℕ} {mid : List ℕ} {b : ℕ} {new : List ℕ} → at + (m + n) ≤ length old
     → Put xs m at old a mid → Put ys n a mid b new → Put (xs ++ ys) (m + n) at old b new
 put-then {xs} {ys} {m} {n} {at} {old} {a} {mid} {b} {new} h p q =
     put-done (xs ++ ys) (m + n) at old b new
-    (chain-next ys (chain-next xs (chain-none at old (omega arith)) (put-next (omega arith) p)) (put-next (omega (arith, p .place, p .few, put-size p)) q))
+    (chain-next ys (chain-next xs (chain-none at old (omega arith)) (put-next (omega arith) p))
+    (put-next (omega (arith, p .place, p .few, put-size p)) q))
     (omega (arith, length-append xs ys, p .few, q .few)) h
 
 -- nothing at all
@@ -94,4 +106,5 @@ put-nothing most at old h =
 -- a text for each number below i, and one more
 pub texts-more : (f : ℕ → List ℕ) (i : ℕ) → collect f (below i) ++ f i ≡ collect f (below (i + 1))
 texts-more f i =
-    sym (ap (collect f) (below-snoc i) ∙ collect-append f (below i) (i ∷ []) ∙ ap (λ (l : List ℕ). collect f (below i) ++ l) (append-nil (f i)))
+    sym (ap (collect f) (below-snoc i) ∙ collect-append f (below i) (i ∷ [])
+    ∙ ap (λ (l : List ℕ). collect f (below i) ++ l) (append-nil (f i)))

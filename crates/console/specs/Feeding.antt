@@ -1,5 +1,5 @@
 -- A program that takes its input byte by byte and prints where a line ends. It holds a value of its own beside the reading of the line
--- under way. proofs/Lines.antt: in all it prints for each line of the input, whatever the pieces that the input comes in. Assumes nothing.
+-- under way. proofs/Lines.antt: in all it prints for each line of the input, whatever the pieces that the input comes in.
 use Prim.Native.Nat.{ℕ, _+_}
 use mathlib.Core.Bool.{Bool, true, false}
 use mathlib.Core.List.{List, [], _∷_, _++_}

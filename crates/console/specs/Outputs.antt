@@ -1,5 +1,4 @@
 -- Lent output: a text at its front, or 10 where the output is too short for the longest such text; a longer one keeps its tail.
--- Assumes nothing.
 use Prim.Native.Nat.{ℕ, _+_, _≤_}
 use mathlib.Core.Bool.{Bool}
 use mathlib.Core.Path.{_≡_}

@@ -1,4 +1,4 @@
--- The file `network.sheet`, as the programs read it. Assumes nothing.
+-- The file `network.sheet`, as the programs read it.
 use Prim.Native.Nat.{ℕ}
 use mathlib.Core.List.{List, [], _∷_, _++_}
 use lib.Dec.{ltb}

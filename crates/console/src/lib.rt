@@ -1,4 +1,4 @@
-// What the programs share, on bytes and values alone: nothing here reads or writes. Running events: crate `running`.
+// What the programs share, on bytes and values alone: nothing here reads or writes. Running events: crate `event_program`.
 // Inner doors: the calls are in docs/CALLS.md.
 ghost use mathlib.Core.Path.{_≡_};
 ghost use lib.Dec.{leb};

@@ -1,4 +1,4 @@
--- Laws of the counter rules. Assumes nothing.
+-- Laws of the counter rules.
 use Prim.Native.Nat.{ℕ, _+_, _%_, _≤_, _<_, max}
 use mathlib.Core.Bool.{true, false}
 use mathlib.Core.Path.{_≡_}

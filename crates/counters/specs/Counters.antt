@@ -1,4 +1,4 @@
--- A link's counter: 1 to 65,535; even = working, odd = unresponsive. The rules that stand alone. Assumes nothing.
+-- A link's counter: 1 to 65,535; even = working, odd = unresponsive. The rules that stand alone.
 use Prim.Native.Nat.{ℕ, _+_, _%_, max}
 use mathlib.Core.Bool.{Bool, not}
 use mathlib.Core.List.{List, [], _∷_}

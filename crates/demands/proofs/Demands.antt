@@ -5,7 +5,7 @@
 -- the promises of the code). The reasons of the numbers are in the words of document 01 (specs/SheetReasons.antt, LetterReasons.antt,
 -- StateReasons.antt). What a claim takes for granted of a value is what its type already says: that bytes are bytes (`areBytes`), that
 -- a network's and a state's arrays have their sizes (`Ends64`, `Sized`), that a tally's counts have 64 bits (`Fits`). `Good s`: such a
--- state that is well formed. The rules themselves are world/specs: a world is what a state means. Assumes nothing.
+-- state that is well formed. The rules themselves are world/specs: a world is what a state means.
 use Prim.Native.Nat.{ℕ, _+_, _*_, _-_, _≤_, _<_, max}
 use mathlib.Core.Bool.{not}
 use mathlib.Core.Path.{_≡_, sym, ap, _∙_}
@@ -239,14 +239,16 @@ demand2 =
       reach-all = λ s a c. Exact.reach-shows s a (c .answer) (c .promise);
       same-bits = λ s a old c d. Exact.bits-same s a old (c .answer) (c .output) (c .promise) (c .promise-output) (d .answer) (d .promise);
       report-after-step = λ s z e c i old d q.
-          report-after-any s (e .kind) (e .a) (e .b) (c .answer) (c .promise) z i old (d .output) (sym (d .promise) ∙ q) (d .promise-output);
+          report-after-any s (e .kind) (e .a) (e .b) (c .answer) (c .promise) z i old (d .output) (sym (d .promise) ∙ q)
+          (d .promise-output);
       sheet-taken = λ bytes a c p. Written.sheet-taken bytes a (c .answer) (c .promise) (ap SheetValues.numberOf p);
       sheet-bytes = λ net old c. Written.sheet-bytes net old (c .answer) (c .promise) (c .output) (c .promise-output);
       sheet-back = λ net z old c n b d.
           Written.sheet-back net old (c .answer) (c .promise) (c .output) (c .promise-output) n b z (d .answer) (d .promise);
       sheet-tail = λ net old c. Written.sheet-tail net old (c .answer) (c .promise) (c .output) (c .promise-output);
       sheet-once = λ xs ys a b c d p q.
-          Written.sheet-once xs ys a b (c .answer) (d .answer) (c .promise) (d .promise) (ap SheetValues.numberOf p) (ap SheetValues.numberOf q);
+          Written.sheet-once xs ys a b (c .answer) (d .answer) (c .promise) (d .promise) (ap SheetValues.numberOf p)
+          (ap SheetValues.numberOf q);
       letter-taken = λ net bytes a c x p. Written.letter-taken net bytes a x (sym (ap lettersOf p) ∙ c .promise);
       letter-bytes = λ net x old c. Written.letter-bytes net x old (c .answer) (c .promise) (c .output) (c .promise-output);
       letter-back = λ net x old c n b d.

@@ -1,5 +1,5 @@
 -- The step is document 01's, for every state value; the fresh state is that of a sheet just read; and a report made after a step shows
--- what the table says that this step leaves. For every answer that the promises allow. Assumes nothing.
+-- what the table says that this step leaves. For every answer that the promises allow.
 use Prim.Native.Nat.{ℕ, _<_}
 use mathlib.Core.Bool.{Bool, true, false}
 use mathlib.Core.Path.{_≡_, refl, sym, ap, _∙_, subst, subst⁻¹}
@@ -83,7 +83,8 @@ module _ (s : State) (z : Sized s) (g : GoodState s) (kind a b : ℕ) (r : Stepp
 
   own-table : (i : ℕ) → Asks (r .state) i → ownTable (r .state) i ≡ holdingAt after i .table
   own-table i k =
-      sym (table-is (r .state) i (omega (arith, stations-are (r .state) (k .good), k .station))) ∙ ap (λ (w : World). holdingAt w i .table) means
+      sym (table-is (r .state) i (omega (arith, stations-are (r .state) (k .good), k .station)))
+      ∙ ap (λ (w : World). holdingAt w i .table) means
 
   -- THE REPORT IS READ FROM THE TABLE THAT THE STEP LEAVES
   report-after : (i : ℕ) (old out : List ℕ) → answerOf (r .state) i old ≡ 0 → out ≡ outputOf (r .state) i old → (t : ℕ)
@@ -91,7 +92,8 @@ module _ (s : State) (z : Sized s) (g : GoodState s) (kind a b : ℕ) (r : Stepp
   report-after i old out q o t h =
       let k = accepted-when (r .state) i old .0 q .0 in
       let w : (getD out t 0 ≡ 1) ↔ PathTo (r .state) i t =
-      subst⁻¹ (λ (l : List ℕ). (getD l t 0 ≡ 1) ↔ PathTo (r .state) i t) o (shown (r .state) i old q .working t (subst⁻¹ (λ (n : Net). t < n .stations) same-net h)) in
+      subst⁻¹ (λ (l : List ℕ). (getD l t 0 ≡ 1) ↔ PathTo (r .state) i t) o
+      (shown (r .state) i old q .working t (subst⁻¹ (λ (n : Net). t < n .stations) same-net h)) in
       subst (λ (l : List ℕ). (getD out t 0 ≡ 1) ↔ Reaches (networkOf (s .net)) (worksIn l) i t) (own-table i k)
       (subst (λ (n : Net). (getD out t 0 ≡ 1) ↔ Reaches (networkOf n) (worksIn (ownTable (r .state) i)) i t) same-net w)
 

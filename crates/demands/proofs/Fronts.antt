@@ -1,4 +1,4 @@
--- The field at the front of bytes, as the definitions cut it, is the field in the words of specs/Given.antt. Assumes nothing.
+-- The field at the front of bytes, as the definitions cut it, is the field in the words of specs/Given.antt.
 use Prim.Native.Nat.{ℕ, _<_}
 use mathlib.Core.Bool.{Bool, true, false}
 use mathlib.Core.Path.{_≡_, refl, ap, _∙_, subst}
@@ -56,4 +56,5 @@ pub field-no : (tag n t : ℕ) (v : List ℕ) → isField tag n t v ≡ false �
 field-no tag n t v e p = no-test (isField tag n t v) e (and-i (eqb t tag) _ (eq→eqb t tag (p .0)) (eq→eqb (length v) n (p .1)))
 
 pub no-field : (tag n t : ℕ) (v : List ℕ) → ((t ≡ tag) × (length v ≡ n) → ⊥) → isField tag n t v ≡ false
-no-field tag n t v f = test-no (isField tag n t v) (λ h. f (eqb→eq t tag (and-l (eqb t tag) _ h), eqb→eq (length v) n (and-r (eqb t tag) _ h)))
+no-field tag n t v f =
+    test-no (isField tag n t v) (λ h. f (eqb→eq t tag (and-l (eqb t tag) _ h), eqb→eq (length v) n (and-r (eqb t tag) _ h)))

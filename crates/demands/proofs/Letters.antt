@@ -1,5 +1,5 @@
 -- A letter's numbers: each when, and only when, its reason of specs/LetterReasons.antt stands; for every answer that the promise of the
--- reading allows. Assumes nothing.
+-- reading allows.
 use Prim.Native.Nat.{ℕ, _/_, _%_, _≤_, _<_}
 use mathlib.Core.Bool.{Bool, true, false, not, _&&_}
 use mathlib.Core.Path.{_≡_, refl, sym, ap, _∙_, subst, subst⁻¹}
@@ -66,11 +66,14 @@ module _ (t : ℕ) (v : List ℕ) where
   form-told : (b : Body) → formOf t v ≡ says b → Here t b
   unfolding formOf
   form-told b e =
-      if-elim P (isField 33 2 t v) (λ h q. subst (Here t) (body q) (subst (λ (n : ℕ). Here n Request) (tag-is 33 2 h) (request-as v (size-is 33 2 h))))
+      if-elim P (isField 33 2 t v) (λ h q. subst (Here t) (body q)
+      (subst (λ (n : ℕ). Here n Request) (tag-is 33 2 h) (request-as v (size-is 33 2 h))))
       (λ _. if-elim P (isField 34 4 t v)
-      (λ h q. subst (Here t) (body q) (subst (λ (n : ℕ). Here n (Reply (wide (getD v 2 0) (getD v 3 0)))) (tag-is 34 4 h) (reply-as v (size-is 34 4 h))))
+      (λ h q. subst (Here t) (body q) (subst (λ (n : ℕ). Here n (Reply (wide (getD v 2 0) (getD v 3 0)))) (tag-is 34 4 h)
+      (reply-as v (size-is 34 4 h))))
       (λ _. if-elim P (isField 35 5 t v)
-      (λ h q. subst (Here t) (body q) (subst (λ (n : ℕ). Here n (Notice (getD v 2 0) (wide (getD v 3 0) (getD v 4 0)))) (tag-is 35 5 h) (notice-as v (size-is 35 5 h))))
+      (λ h q. subst (Here t) (body q) (subst (λ (n : ℕ). Here n (Notice (getD v 2 0) (wide (getD v 3 0) (getD v 4 0)))) (tag-is 35 5 h)
+      (notice-as v (size-is 35 5 h))))
       (λ _ q. let z : _≡_ {A = ℕ} 0 1 = cc in absurd (omega arith)))) e
     where
       P : L.Form → Type 0
@@ -114,7 +117,8 @@ form-when (W.notice {link} {side} {subject} {high} {low}) =
       link = refl;
       side = refl;
       small = λ x.
-          let a = byte-of high (low ∷ []) (byte-of subject (high ∷ low ∷ []) (byte-of side (subject ∷ high ∷ low ∷ []) (byte-of link (side ∷ subject ∷ high ∷ low ∷ []) x .1) .1) .1) in
+          let a = byte-of high (low ∷ []) (byte-of subject (high ∷ low ∷ [])
+          (byte-of side (subject ∷ high ∷ low ∷ []) (byte-of link (side ∷ subject ∷ high ∷ low ∷ []) x .1) .1) .1) in
           let b = byte-of low [] (a .1) in
           omega (arith, a .0, b .0);
     }
@@ -146,7 +150,8 @@ module _ (net : Network) where
 
     range-when : Small b → InRange net k s b → T (valuesHold net k s b)
     range-when z r =
-        and-i (a && leb s 1) _ (and-i a _ (lt→ltb k (length (net .links)) (r .link-exists)) (le→leb s 1 (r .side-is))) (body-when b z (r .body-is))
+        and-i (a && leb s 1) _ (and-i a _ (lt→ltb k (length (net .links)) (r .link-exists)) (le→leb s 1 (r .side-is)))
+        (body-when b z (r .body-is))
 
   -- ---- the field
   value-bytes : (tag : ℕ) (v rest bytes : List ℕ) → T (areBytes bytes) → Front bytes tag v rest → T (areBytes v)
@@ -158,15 +163,18 @@ module _ (net : Network) where
   module _ (bytes : List ℕ) (w : T (areBytes bytes)) where
     fault-told : {n : ℕ} (f : Field) → firstField bytes ≡ f → R.Fault net f n → LetterFault net bytes n
     fault-told f e R.cut-off = W.one (short-ends bytes e)
-    fault-told f e (R.unfit {t} {v} {rest} p q r) = W.two t v rest (cut-front bytes w e) (field-no 33 2 t v p) (field-no 34 4 t v q) (field-no 35 5 t v r)
+    fault-told f e (R.unfit {t} {v} {rest} p q r) =
+        W.two t v rest (cut-front bytes w e) (field-no 33 2 t v p) (field-no 34 4 t v q) (field-no 35 5 t v r)
     fault-told f e (R.no-value {t} {v} {rest} b g h) =
         let i = cut-front bytes w e in
         let c = form-told t v b g in
         W.three t v rest (getD v 0 0) (getD v 1 0) b i c
-        (λ r. no-test (valuesHold net (getD v 0 0) (getD v 1 0) b) h (range-when (getD v 0 0) (getD v 1 0) b (form-when c .small (value-bytes t v rest bytes w i)) r))
+        (λ r. no-test (valuesHold net (getD v 0 0) (getD v 1 0) b) h
+        (range-when (getD v 0 0) (getD v 1 0) b (form-when c .small (value-bytes t v rest bytes w i)) r))
     fault-told f e (R.trailing {t} {v} {rest} b g h m) =
         W.after t v rest (getD v 0 0) (getD v 1 0) b (cut-front bytes w e) (form-told t v b g)
-        (range-told (getD v 0 0) (getD v 1 0) b (is-T (valuesHold net (getD v 0 0) (getD v 1 0) b) h)) (λ q. no-test (isEmpty rest) m (subst⁻¹ (λ (l : List ℕ). T (isEmpty l)) q tt))
+        (range-told (getD v 0 0) (getD v 1 0) b (is-T (valuesHold net (getD v 0 0) (getD v 1 0) b) h))
+        (λ q. no-test (isEmpty rest) m (subst⁻¹ (λ (l : List ℕ). T (isEmpty l)) q tt))
 
     is-empty : (l : List ℕ) → (l ≡ [] → ⊥) → isEmpty l ≡ false
     is-empty [] f = absurd (f refl)
@@ -180,13 +188,15 @@ module _ (net : Network) where
         let f = form-when c in
         subst⁻¹ (λ (f : Field). R.Fault net f 3) (front-cut e)
         (R.no-value b (f .form) (test-no (valuesHold net (getD v 0 0) (getD v 1 0) b)
-        (λ t. n (range-told k s b (subst (λ (y : ℕ). T (valuesHold net k y b)) (f .side) (subst (λ (x : ℕ). T (valuesHold net x (getD v 1 0) b)) (f .link) t))))))
+        (λ t. n (range-told k s b (subst (λ (y : ℕ). T (valuesHold net k y b)) (f .side)
+        (subst (λ (x : ℕ). T (valuesHold net x (getD v 1 0) b)) (f .link) t))))))
     fault-when (W.after t v rest k s b e c r n) =
         let f = form-when c in
         let u = range-when k s b (f .small (value-bytes t v rest bytes w e)) r in
         subst⁻¹ (λ (f : Field). R.Fault net f 2) (front-cut e)
         (R.trailing b (f .form) (T-is (valuesHold net (getD v 0 0) (getD v 1 0) b)
-        (subst⁻¹ (λ (x : ℕ). T (valuesHold net x (getD v 1 0) b)) (f .link) (subst⁻¹ (λ (y : ℕ). T (valuesHold net k y b)) (f .side) u))) (is-empty rest n))
+        (subst⁻¹ (λ (x : ℕ). T (valuesHold net x (getD v 1 0) b)) (f .link) (subst⁻¹ (λ (y : ℕ). T (valuesHold net k y b)) (f .side) u)))
+        (is-empty rest n))
 
 -- ---- the whole letter
 module _ (net : Net) (bytes : List ℕ) (w : T (areBytes bytes)) where
@@ -208,7 +218,8 @@ module _ (net : Net) (bytes : List ℕ) (w : T (areBytes bytes)) where
 
   why-read : {n : ℕ} → LetterRead net bytes n → lettersNumber (reading net bytes) ≡ n
   why-read (W.eleven p) = ap lettersNumber (R.refused-when net bytes 11 (R.bad-network (T-not-is _ p)))
-  why-read {n} (W.at-field p f) = ap lettersNumber (R.refused-when net bytes n (R.at-field (T-is _ p) (fault-when (networkOf net) bytes w f)))
+  why-read {n} (W.at-field p f) =
+      ap lettersNumber (R.refused-when net bytes n (R.at-field (T-is _ p) (fault-when (networkOf net) bytes w f)))
   why-read (W.taken g x h e) = ap (λ (l : List ℕ). lettersNumber (reading net l)) e ∙ ap lettersNumber (written-read net x g h)
 
   -- EACH NUMBER WHEN, AND ONLY WHEN, ITS REASON STANDS: for every answer that the reading's promise allows

@@ -1,6 +1,6 @@
 -- The records of specs/Calls.antt say no more than the code promises: what a caller learns of each call by its contract (the module `Reads`
 -- that the prover makes of the function's clauses; a: the arguments, z: the result, e: the arguments at exit) makes such a record, with
--- that answer and that output. Assumes nothing.
+-- that answer and that output.
 use mathlib.Core.Path.{_≡_, refl}
 use contract.Lifetimes.{Lfts}
 use denote.Ref.{now}
@@ -36,42 +36,50 @@ use Rattle.step_rules.specs.Step.{event, steppedOf}
 use Rattle.demands.specs.Calls.{ReadsSheet, WritesSheet, ReadsLetter, WritesLetter, Begins, Steps, AsksReach, AsksReport}
 
 -- sheet::read(bytes)
-pub sheet-read : (κs : Lfts 1) (a : Dens κs SheetReadKinds.ps) (z : resT SheetReadKinds.r κs .Denot) (e : AtExit (endedOf 1 SheetReadKinds.ps SheetReadKinds.r) κs) → SheetRead.Learnt κs a z e
+pub sheet-read : (κs : Lfts 1) (a : Dens κs SheetReadKinds.ps) (z : resT SheetReadKinds.r κs .Denot)
+    (e : AtExit (endedOf 1 SheetReadKinds.ps SheetReadKinds.r) κs) → SheetRead.Learnt κs a z e
     → (c : ReadsSheet (now (a .0))) × (c .answer ≡ z)
 sheet-read κs a z e p = (record { answer = z; promise = p }, refl)
 
 -- sheet_writing::write(net, out)
-pub sheet-write : (κs : Lfts 1) (a : Dens κs SheetWriteKinds.ps) (z : resT SheetWriteKinds.r κs .Denot) (e : AtExit (endedOf 1 SheetWriteKinds.ps SheetWriteKinds.r) κs) → SheetWrite.Learnt κs a z e
+pub sheet-write : (κs : Lfts 1) (a : Dens κs SheetWriteKinds.ps) (z : resT SheetWriteKinds.r κs .Denot)
+    (e : AtExit (endedOf 1 SheetWriteKinds.ps SheetWriteKinds.r) κs) → SheetWrite.Learnt κs a z e
     → (c : WritesSheet (a .0) (now (a .1 .0))) × ((c .answer ≡ z) × (c .output ≡ now (e .1 .0)))
 sheet-write κs a z e p = (record { answer = z; output = now (e .1 .0); promise = p .0; promise-output = p .1 }, (refl, refl))
 
 -- letters::read(net, bytes)
-pub letter-read : (κs : Lfts 1) (a : Dens κs LetterReadKinds.ps) (z : resT LetterReadKinds.r κs .Denot) (e : AtExit (endedOf 1 LetterReadKinds.ps LetterReadKinds.r) κs) → LetterRead.Learnt κs a z e
+pub letter-read : (κs : Lfts 1) (a : Dens κs LetterReadKinds.ps) (z : resT LetterReadKinds.r κs .Denot)
+    (e : AtExit (endedOf 1 LetterReadKinds.ps LetterReadKinds.r) κs) → LetterRead.Learnt κs a z e
     → (c : ReadsLetter (a .0) (now (a .1 .0))) × (c .answer ≡ z)
 letter-read κs a z e p = (record { answer = z; promise = p }, refl)
 
 -- letter_writing::write(net, letter, out)
-pub letter-write : (κs : Lfts 1) (a : Dens κs LetterWriteKinds.ps) (z : resT LetterWriteKinds.r κs .Denot) (e : AtExit (endedOf 1 LetterWriteKinds.ps LetterWriteKinds.r) κs) → LetterWrite.Learnt κs a z e
+pub letter-write : (κs : Lfts 1) (a : Dens κs LetterWriteKinds.ps) (z : resT LetterWriteKinds.r κs .Denot)
+    (e : AtExit (endedOf 1 LetterWriteKinds.ps LetterWriteKinds.r) κs) → LetterWrite.Learnt κs a z e
     → (c : WritesLetter (a .0) (a .1 .0) (now (a .1 .1 .0))) × ((c .answer ≡ z) × (c .output ≡ now (e .1 .1 .0)))
 letter-write κs a z e p = (record { answer = z; output = now (e .1 .1 .0); promise = p .0; promise-output = p .1 }, (refl, refl))
 
 -- beginning::fresh(net)
-pub fresh : (κs : Lfts 0) (a : Dens κs FreshKinds.ps) (z : resT FreshKinds.r κs .Denot) (e : AtExit (endedOf 0 FreshKinds.ps FreshKinds.r) κs) → Fresh.Learnt κs a z e
+pub fresh : (κs : Lfts 0) (a : Dens κs FreshKinds.ps) (z : resT FreshKinds.r κs .Denot)
+    (e : AtExit (endedOf 0 FreshKinds.ps FreshKinds.r) κs) → Fresh.Learnt κs a z e
     → (c : Begins (a .0)) × (c .answer ≡ z)
 fresh κs a z e p = (record { answer = z; promise = p }, refl)
 
 -- network::step(s, kind, a, b)
-pub step : (κs : Lfts 0) (a : Dens κs StepKinds.ps) (z : resT StepKinds.r κs .Denot) (e : AtExit (endedOf 0 StepKinds.ps StepKinds.r) κs) → Step.Learnt κs a z e
+pub step : (κs : Lfts 0) (a : Dens κs StepKinds.ps) (z : resT StepKinds.r κs .Denot) (e : AtExit (endedOf 0 StepKinds.ps StepKinds.r) κs)
+    → Step.Learnt κs a z e
     → (c : Steps (a .0) (event (a .1 .0) (a .1 .1 .0) (a .1 .1 .1 .0))) × (c .answer ≡ z)
 step κs a z e p = (record { answer = z; promise = p }, refl)
 
 -- reaching::reach(s, a)
-pub reach : (κs : Lfts 0) (a : Dens κs ReachKinds.ps) (z : resT ReachKinds.r κs .Denot) (e : AtExit (endedOf 0 ReachKinds.ps ReachKinds.r) κs) → Reach.Learnt κs a z e
+pub reach : (κs : Lfts 0) (a : Dens κs ReachKinds.ps) (z : resT ReachKinds.r κs .Denot)
+    (e : AtExit (endedOf 0 ReachKinds.ps ReachKinds.r) κs) → Reach.Learnt κs a z e
     → (c : AsksReach (a .0) (a .1 .0)) × (c .answer ≡ z)
 reach κs a z e p = (record { answer = z; promise = p }, refl)
 
 -- reports::report(s, a, out)
-pub report : (κs : Lfts 1) (a : Dens κs ReportKinds.ps) (z : resT ReportKinds.r κs .Denot) (e : AtExit (endedOf 1 ReportKinds.ps ReportKinds.r) κs) → Report.Learnt κs a z e
+pub report : (κs : Lfts 1) (a : Dens κs ReportKinds.ps) (z : resT ReportKinds.r κs .Denot)
+    (e : AtExit (endedOf 1 ReportKinds.ps ReportKinds.r) κs) → Report.Learnt κs a z e
     → (c : AsksReport (a .0) (a .1 .0) (now (a .1 .1 .0))) × ((c .answer ≡ z) × (c .output ≡ now (e .1 .1 .0)))
 report κs a z e p = (record { answer = z; output = now (e .1 .1 .0); promise = p .0; promise-output = p .1 }, (refl, refl))
 

@@ -1,5 +1,5 @@
 -- What one call counts (specs/Counted.antt); and runs of calls: a run of the step that is lent a tally is a run of the step, after any
--- first events of a run there is the state that it comes to, and runs from a freshly read sheet. Assumes nothing.
+-- first events of a run there is the state that it comes to, and runs from a freshly read sheet.
 use Prim.Native.Nat.{ℕ, _+_, _*_, _-_, _≤_, max}
 use mathlib.Core.Bool.{Bool, not, _&&_, _||_}
 use mathlib.Core.Path.{_≡_, refl, sym, ap, _∙_, subst, subst⁻¹}
@@ -77,7 +77,8 @@ module _ (s : State) (e : Event) (r : Stepped) (i : IsStep s e r) (z : r .answer
   rule-counts : comes w e .counts ≡ rule w e .counts
   rule-counts = taken w e (after w e) is-accepted .counts
 
-  dropped-by : rule w e .counts .dropped ≡ bit (loses (kindOf (e .kind)) || (delivers (kindOf (e .kind)) && not (heardAt w (letterOf s e) (concerned w e))))
+  dropped-by : rule w e .counts .dropped ≡ bit (loses
+      (kindOf (e .kind)) || (delivers (kindOf (e .kind)) && not (heardAt w (letterOf s e) (concerned w e))))
   unfolding rule
   dropped-by = rule-drops (concerned w e) (e .b) (letterOf s e) (holdingAt w (concerned w e)) (kindOf (e .kind))
 
@@ -131,7 +132,8 @@ every-moment (e ∷ ds) fs (C.more c r) =
     record { state = m .state; counts = _; comes = C.on (m .comes) }
 
 -- ---- from a freshly read sheet: bytes are read, the fresh state of the network is made, and a run begins there
-module _ (bytes : List ℕ) (a : T (areBytes bytes)) (c : ReadsSheet bytes) (p : c .answer .answer ≡ SheetAnswer.Good) (b : Begins (c .answer .net)) where
+module _ (bytes : List ℕ) (a : T (areBytes bytes)) (c : ReadsSheet bytes) (p : c .answer .answer ≡ SheetAnswer.Good)
+    (b : Begins (c .answer .net)) where
   abbrev net : Net
   net = c .answer .net
 
@@ -151,7 +153,8 @@ module _ (bytes : List ℕ) (a : T (areBytes bytes)) (c : ReadsSheet bytes) (p :
   well-from-sheet {u} {es} {n} r = Joined.well-from-sheet net good sized (subst (λ (x : State). Calls x es n u) begun r)
 
   pub letters-conserved : {u : State} {es : List Event} {n : Tally} → Calls (b .answer .state) es n u
-      → everSent (fresh (networkOf net)) es ≡ everDelivered (fresh (networkOf net)) es + everLost (fresh (networkOf net)) es + length (worldOf u .letters)
+      → everSent (fresh (networkOf net)) es ≡ everDelivered (fresh (networkOf net)) es + everLost (fresh (networkOf net)) es + length
+      (worldOf u .letters)
   letters-conserved {u} {es} {n} r = Joined.letters-conserved net good sized (subst (λ (x : State). Calls x es n u) begun r)
 
 -- ---- the bound, sentence by sentence
@@ -163,11 +166,15 @@ module _ (w : World) where
   pub share-live : (s : ℕ) → T (isLive (holdingAt w s .condition))
       → share w s ≡ (length (neighbours (w .net) s) - 1) * sumOf (λ k. highest w k - counter (holdingAt w s) k) (linkNumbers (w .net))
   unfolding share distance
-  share-live s t = ap (λ (b : Bool). if b then (length (neighbours (w .net) s) - 1) * distance w (holdingAt w s) else 0) (T-is (isLive (holdingAt w s .condition)) t)
+  share-live s t =
+      ap (λ (b : Bool). if b then (length (neighbours (w .net) s) - 1) * distance w (holdingAt w s) else 0)
+      (T-is (isLive (holdingAt w s .condition)) t)
 
   pub share-other : (s : ℕ) → T (not (isLive (holdingAt w s .condition))) → share w s ≡ 0
   unfolding share
-  share-other s t = ap (λ (b : Bool). if b then (length (neighbours (w .net) s) - 1) * distance w (holdingAt w s) else 0) (T-not-is (isLive (holdingAt w s .condition)) t)
+  share-other s t =
+      ap (λ (b : Bool). if b then (length (neighbours (w .net) s) - 1) * distance w (holdingAt w s) else 0)
+      (T-not-is (isLive (holdingAt w s .condition)) t)
 
   pub highest-is : (k : ℕ) → highest w k
       ≡ max (largestOf (λ s. counter (holdingAt w s) k) (below (w .net .stations))) (largestOf (λ x. carried k (x .body)) (w .letters))

@@ -1,5 +1,5 @@
 -- A sheet's numbers: each when, and only when, its reason of specs/SheetReasons.antt stands; for every answer that meets the promise of
--- the two calls. Assumes nothing.
+-- the two calls.
 use Prim.Native.Nat.{ℕ, zero, suc, _≤_, _<_}
 use mathlib.Core.Bool.{Bool, true, false, not, _&&_}
 use mathlib.Core.Path.{_≡_, refl, sym, ap, _∙_, subst, subst⁻¹}
@@ -53,7 +53,8 @@ first-told : (bytes : List ℕ) → T (areBytes bytes) → {k : ℕ} (f : Field)
 first-told bytes b f e R.cut-off = W.one (short-ends bytes e)
 first-told bytes b f e (R.unfit {t} {v} {rest} p) = W.two t v rest (cut-front bytes b e) (field-no 1 1 t v p)
 first-told bytes b f e (R.no-count {t} {v} {rest} p q) =
-    W.three (getD v 0 0) rest (cut-front bytes b (e ∙ (λ i. field (tag-is 1 1 t v p i) (one-byte v (size-is 1 1 t v p) i) rest))) (count-no (getD v 0 0) q)
+    W.three (getD v 0 0) rest (cut-front bytes b (e ∙ (λ i. field (tag-is 1 1 t v p i) (one-byte v (size-is 1 1 t v p) i) rest)))
+    (count-no (getD v 0 0) q)
 
 first-when : {bytes : List ℕ} {k : ℕ} → FirstFault bytes k → R.FirstFault (firstField bytes) k
 first-when (W.one e) = subst⁻¹ (λ (f : Field). R.FirstFault f 1) (ends-short e) R.cut-off
@@ -101,7 +102,9 @@ module _ (es : List Ends) (e : Ends) (h : e .low < e .high) where
     where
       go : (l : List Ends) → es ≡ l → T (precedes (lastOf noLink es) e)
       go [] p = subst⁻¹ (λ (l : List Ends). T (precedes (lastOf noLink l) e)) p (first-after e h)
-      go (y ∷ l) p = let r = snoc y l in subst⁻¹ (λ (z : Ends). T (precedes z e)) (last-is es (r .earlier) (r .final) (p ∙ r .is)) (f (r .earlier) (r .final) (p ∙ r .is))
+      go (y ∷ l) p =
+          let r = snoc y l in subst⁻¹ (λ (z : Ends). T (precedes z e)) (last-is es (r .earlier) (r .final) (p ∙ r .is))
+          (f (r .earlier) (r .final) (p ∙ r .is))
 
   not-after-told : precedes (lastOf noLink es) e ≡ false → NotAfter es e
   not-after-told q = go es refl
@@ -114,11 +117,15 @@ module _ (es : List Ends) (e : Ends) (h : e .low < e .high) where
             earlier = r .earlier;
             before = r .final;
             last = p ∙ r .is;
-            equal-or-before = subst⁻¹ (λ (b : Bool). T (not b)) (ap (λ (z : Ends). precedes z e) (sym (last-is es (r .earlier) (r .final) (p ∙ r .is))) ∙ q) tt;
+            equal-or-before =
+                subst⁻¹ (λ (b : Bool). T (not b)) (ap (λ (z : Ends). precedes z e) (sym (last-is es (r .earlier) (r .final) (p ∙ r .is)))
+                ∙ q) tt;
           }
 
   not-after-when : NotAfter es e → precedes (lastOf noLink es) e ≡ false
-  not-after-when r = ap (λ (z : Ends). precedes z e) (last-is es (r .earlier) (r .before) (r .last)) ∙ T-not-is (precedes (r .before) e) (r .equal-or-before)
+  not-after-when r =
+      ap (λ (z : Ends). precedes z e) (last-is es (r .earlier) (r .before) (r .last))
+      ∙ T-not-is (precedes (r .before) e) (r .equal-or-before)
 
 -- ---- a later field
 module _ (net : Network) where
@@ -128,12 +135,14 @@ module _ (net : Network) where
   last-no : (t : ℕ) (v rest : List ℕ) → (isField 15 0 t v && isEmpty rest) ≡ false → (t ≡ 15) × (length v ≡ 0) × (rest ≡ []) → ⊥
   last-no t v rest e p =
       no-test (isField 15 0 t v && isEmpty rest) e
-      (and-i (isField 15 0 t v) _ (and-i (eqb t 15) _ (eq→eqb t 15 (p .0)) (eq→eqb (length v) 0 (p .1))) (subst⁻¹ (λ (l : List ℕ). T (isEmpty l)) (p .2) tt))
+      (and-i (isField 15 0 t v) _ (and-i (eqb t 15) _ (eq→eqb t 15 (p .0)) (eq→eqb (length v) 0 (p .1)))
+      (subst⁻¹ (λ (l : List ℕ). T (isEmpty l)) (p .2) tt))
 
   no-last : (t : ℕ) (v rest : List ℕ) → ((t ≡ 15) × (length v ≡ 0) × (rest ≡ []) → ⊥) → (isField 15 0 t v && isEmpty rest) ≡ false
   no-last t v rest f =
       test-no (isField 15 0 t v && isEmpty rest)
-      (λ h. let i = T-is (isField 15 0 t v) (and-l (isField 15 0 t v) _ h) in f (tag-is 15 0 t v i, size-is 15 0 t v i, empty rest (and-r (isField 15 0 t v) _ h)))
+      (λ h. let i = T-is (isField 15 0 t v) (and-l (isField 15 0 t v) _ h) in f
+      (tag-is 15 0 t v i, size-is 15 0 t v i, empty rest (and-r (isField 15 0 t v) _ h)))
     where
       empty : (l : List ℕ) → T (isEmpty l) → l ≡ []
       empty [] t = refl
@@ -149,7 +158,8 @@ module _ (net : Network) where
   later-told bytes b f e R.cut-short = W.one (short-ends bytes e)
   later-told bytes b f e (R.misplaced {t} {v} {rest} p q) = W.two t v rest (cut-front bytes b e) (field-no 2 2 t v p) (last-no t v rest q)
   later-told bytes b f e (R.no-ends {t} {v} {rest} p q) =
-      W.three (linkOf v) rest (link-front bytes b t v rest e p) (λ g. no-test (endsHold (net .stations) (linkOf v)) q (good-ends (net .stations) (linkOf v) g))
+      W.three (linkOf v) rest (link-front bytes b t v rest e p)
+      (λ g. no-test (endsHold (net .stations) (linkOf v)) q (good-ends (net .stations) (linkOf v) g))
   later-told bytes b f e (R.no-order {t} {v} {rest} p q r) =
       let g = ends-good (net .stations) (linkOf v) (is-T (endsHold (net .stations) (linkOf v)) q) in
       W.four (linkOf v) rest (link-front bytes b t v rest e p) g (not-after-told (net .links) (linkOf v) (g .0) r)
@@ -159,18 +169,22 @@ module _ (net : Network) where
   full-told bytes b e more q l =
       let w = is-link (net .stations) prev (firstField bytes) e more q in
       let g = ends-good (net .stations) e (w .good) in
-      W.five e more (cut-front bytes b (w .cut ∙ ap (λ (v : List ℕ). field 2 v more) (two-bytes (w .value) (w .size) ∙ ap {B = List ℕ} (λ (x : Ends). x .low ∷ x .high ∷ []) (w .ends)))) g
+      W.five e more (cut-front bytes b (w .cut ∙ ap (λ (v : List ℕ). field 2 v more)
+      (two-bytes (w .value) (w .size) ∙ ap {B = List ℕ} (λ (x : Ends). x .low ∷ x .high ∷ []) (w .ends)))) g
       (after-told (net .links) e (g .0) (w .after)) l
 
   judged-link : (bytes : List ℕ) (e : Ends) (rest : List ℕ) → LinkFront bytes e rest → T (endsHold (net .stations) e)
       → T (precedes prev e) → judged (net .stations) prev (firstField bytes) ≡ link e rest
   unfolding judged
-  judged-link bytes e rest p t u = ap (judged (net .stations) prev) (front-cut p) ∙ rw (T-is (endsHold (net .stations) e) t, T-is (precedes prev e) u)
+  judged-link bytes e rest p t u =
+      ap (judged (net .stations) prev) (front-cut p) ∙ rw (T-is (endsHold (net .stations) e) t, T-is (precedes prev e) u)
 
   later-when : (all bytes : List ℕ) → R.Begun all net bytes → {k : ℕ} → LaterFault net bytes k → R.Refused all k
-  later-when all bytes b (W.one e) = R.later net bytes b (subst⁻¹ (λ (f : Field). R.Fault (net .stations) prev f 1) (ends-short e) R.cut-short)
+  later-when all bytes b (W.one e) =
+      R.later net bytes b (subst⁻¹ (λ (f : Field). R.Fault (net .stations) prev f 1) (ends-short e) R.cut-short)
   later-when all bytes b (W.two t v rest e n m) =
-      R.later net bytes b (subst⁻¹ (λ (f : Field). R.Fault (net .stations) prev f 2) (front-cut e) (R.misplaced (no-field 2 2 t v n) (no-last t v rest m)))
+      R.later net bytes b (subst⁻¹ (λ (f : Field). R.Fault (net .stations) prev f 2) (front-cut e)
+      (R.misplaced (no-field 2 2 t v n) (no-last t v rest m)))
   later-when all bytes b (W.three x rest e n) =
       R.later net bytes b (subst⁻¹ (λ (f : Field). R.Fault (net .stations) prev f 3) (front-cut e)
       (R.no-ends refl (test-no (endsHold (net .stations) x) (λ h. n (ends-good (net .stations) x h)))))
@@ -187,8 +201,10 @@ module _ (bytes : List ℕ) where
 
   refused-told : T (areBytes bytes) → {k : ℕ} → R.Refused bytes k → SheetRead bytes k
   refused-told b (R.at-first f) = W.at-first (first-told bytes b (firstField bytes) refl f)
-  refused-told b (R.later net rest g f) = W.later net rest (g .holds) (g .front) (later-told net rest (behind b net rest g) (firstField rest) refl f)
-  refused-told b (R.full net rest e more g l q) = W.later net rest (g .holds) (g .front) (full-told net rest (behind b net rest g) e more q l)
+  refused-told b (R.later net rest g f) =
+      W.later net rest (g .holds) (g .front) (later-told net rest (behind b net rest g) (firstField rest) refl f)
+  refused-told b (R.full net rest e more g l q) =
+      W.later net rest (g .holds) (g .front) (full-told net rest (behind b net rest g) e more q l)
 
   read-why : T (areBytes bytes) → (s : Sheet) → readSheet bytes ≡ s → SheetRead bytes (sheetNumber s)
   read-why b (refused k) e = refused-told b (R.refused-only bytes k b e)
@@ -197,12 +213,14 @@ module _ (bytes : List ℕ) where
   why-read : {k : ℕ} → SheetRead bytes k → sheetNumber (readSheet bytes) ≡ k
   why-read (W.taken net g e) = ap (λ (l : List ℕ). sheetNumber (readSheet l)) e ∙ ap sheetNumber (reads-back net g)
   why-read {k} (W.at-first f) = ap sheetNumber (R.refused-when bytes k (R.at-first (first-when f)))
-  why-read {k} (W.later net rest g e f) = ap sheetNumber (R.refused-when bytes k (later-when net bytes rest (record { holds = g; front = e }) f))
+  why-read {k} (W.later net rest g e f) =
+      ap sheetNumber (R.refused-when bytes k (later-when net bytes rest (record { holds = g; front = e }) f))
 
   -- EACH NUMBER WHEN, AND ONLY WHEN, ITS REASON STANDS: for every answer that the reading's promise allows
   pub sheet-numbers : T (areBytes bytes) → (r : Reading) → Says r (readSheet bytes) → (n : ℕ)
       → (numberOf (r .answer) ≡ n) ↔ SheetRead bytes n
-  sheet-numbers b r p n = ((λ e. subst (SheetRead bytes) (sym (p .number) ∙ e) (read-why b (readSheet bytes) refl)), (λ w. p .number ∙ why-read w))
+  sheet-numbers b r p n =
+      ((λ e. subst (SheetRead bytes) (sym (p .number) ∙ e) (read-why b (readSheet bytes) refl)), (λ w. p .number ∙ why-read w))
 
   -- a sheet that is taken, by its network
   taken-net : T (areBytes bytes) → {n : ℕ} → SheetRead bytes n → n ≡ 0 → (net : Network) × (readSheet bytes ≡ sheet net)
@@ -226,5 +244,6 @@ module _ (bytes : List ℕ) where
   refused-none b r p h = go (readSheet bytes) refl
     where
       go : (s : Sheet) → readSheet bytes ≡ s → (r .net ≡ zeroNet) × BadNet (r .net)
-      go (refused k) e = let z : r .net ≡ zeroNet = p .net ∙ ap sheetNet e in (z, subst⁻¹ BadNet z (subst (λ (b : Bool). T (not b)) zero-bad tt))
+      go (refused k) e =
+          let z : r .net ≡ zeroNet = p .net ∙ ap sheetNet e in (z, subst⁻¹ BadNet z (subst (λ (b : Bool). T (not b)) zero-bad tt))
       go (sheet net) e = absurd (h (p .number ∙ ap sheetNumber e))

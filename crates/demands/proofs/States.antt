@@ -1,5 +1,5 @@
 -- The calls over a state, and the fresh state: each number when, and only when, its reason of specs/StateReasons.antt stands, and a
--- refusal keeps the state, the tally and the output. For every answer that the promises allow. Assumes nothing.
+-- refusal keeps the state, the tally and the output. For every answer that the promises allow.
 use Prim.Native.Nat.{ℕ}
 use mathlib.Core.Bool.{Bool, true, false, not, _&&_}
 use mathlib.Core.Path.{_≡_, refl, sym, ap, _∙_, subst, subst⁻¹}
@@ -69,7 +69,8 @@ module _ (net : Net) where
     -- a bad network gives no state: the one beside 11 is not well formed, so that every call refuses it with 11
     unread-bad : BadNet net → BadState (unread net)
     unfolding stateHolds unread
-    unread-bad q = bad (ap (λ (b : Bool). (b && leb 0 4096) && (stationsHold (unread net) && lettersHold (unread net))) (T-not-is (netHolds net) q))
+    unread-bad q =
+        bad (ap (λ (b : Bool). (b && leb 0 4096) && (stationsHold (unread net) && lettersHold (unread net))) (T-not-is (netHolds net) q))
 
     pub fresh-none : (r .answer ≡ 0 → ⊥) → BadState (r .state)
     fresh-none h = go fresh-why (λ z. h (ap (λ (b : Begun). b .answer) p ∙ z))
@@ -185,7 +186,11 @@ module _ (s : State) (a : ℕ) where
 
     module _ (r : ℕ) (p : r ≡ answerOf s a old) where
       pub report-numbers : (n : ℕ) → (r ≡ n) ↔ Report s a old n
-      report-numbers n = ((λ q. subst (Report s a old) (sym p ∙ q) (report-told (Told.report-why s a old))), (λ w. p ∙ Told.why-report s a old (told-report w)))
+      report-numbers n = (
+        (λ q. subst (Report s a old) (sym p ∙ q) (report-told (Told.report-why s a old))),
+        (λ w. p
+            ∙ Told.why-report s a old (told-report w)),
+      )
 
       pub report-keeps : (out : List ℕ) → out ≡ outputOf s a old → (r ≡ 0 → ⊥) → out ≡ old
       report-keeps out o h = o ∙ Told.refused-keeps s a old (λ z. h (p ∙ z))

@@ -1,6 +1,5 @@
 -- Sheets and letters written to lent output: each number when, and only when, its reason stands, a refusal touches no byte, what was
 -- written reads back from the output's first bytes, and each meaning has one writing. For every answer that the promises allow.
--- Assumes nothing.
 use Prim.Native.Nat.{ℕ, _≤_, _<_}
 use mathlib.Core.Bool.{Bool, true, false, not}
 use mathlib.Core.Path.{_≡_, refl, sym, ap, _∙_, subst, subst⁻¹}
@@ -79,8 +78,10 @@ module _ (net : Net) (old : List ℕ) where
   sheet-writes g h = let a = T-is (netHolds net) g in let l = le-ltb (length old) (length sheetBytes) h in simp (a, l)
 
   why-sheet : {n : ℕ} → SheetWritten net old n → sheetNumber ≡ n
-  why-sheet (S.eleven p) = ap (λ (w : Writing). getD (writingNumbers w) 0 0) (SheetRefusals.denied-when net old 11 (SheetRefusals.bad-network (T-not-is _ p)))
-  why-sheet (S.ten g h) = ap (λ (w : Writing). getD (writingNumbers w) 0 0) (SheetRefusals.denied-when net old 10 (SheetRefusals.too-short (T-is _ g) h))
+  why-sheet (S.eleven p) =
+      ap (λ (w : Writing). getD (writingNumbers w) 0 0) (SheetRefusals.denied-when net old 11 (SheetRefusals.bad-network (T-not-is _ p)))
+  why-sheet (S.ten g h) =
+      ap (λ (w : Writing). getD (writingNumbers w) 0 0) (SheetRefusals.denied-when net old 10 (SheetRefusals.too-short (T-is _ g) h))
   why-sheet (S.taken g h) = ap (λ (w : Writing). getD (writingNumbers w) 0 0) (sheet-writes g h)
 
   sheet-why : SheetWritten net old sheetNumber
@@ -116,7 +117,8 @@ module _ (net : Net) (old : List ℕ) where
         accepted = taken-as (sheet-write-numbers 0 .0 (ap S.wroteNumber b)) refl
 
         sheet-parts : (take n out ≡ sheetBytes) × (drop n out ≡ drop n old)
-        sheet-parts = written-bytes old out (SheetValues.writing net old) sheetBytes n (accepted .1) (sym (ap SheetValues.wroteNumbers b) ∙ p) o
+        sheet-parts =
+            written-bytes old out (SheetValues.writing net old) sheetBytes n (accepted .1) (sym (ap SheetValues.wroteNumbers b) ∙ p) o
 
         -- WHAT IS WRITTEN, and the old tail
         pub sheet-bytes : take n out ≡ sheetBytes
@@ -127,7 +129,8 @@ module _ (net : Net) (old : List ℕ) where
 
         -- READ BACK: the first n bytes of the output read to the network that was given
         pub sheet-back : Ends64 net → (q : Reading) → Says q (readSheet (take n out)) → (q .answer ≡ SheetAnswer.Good) × (q .net ≡ net)
-        sheet-back d q w = value-read q net (accepted .0) (d .low) (d .high) (subst (λ (l : List ℕ). Says q (readSheet l)) (sheet-parts .0) w)
+        sheet-back d q w =
+            value-read q net (accepted .0) (d .low) (d .high) (subst (λ (l : List ℕ). Says q (readSheet l)) (sheet-parts .0) w)
 
 -- TAKEN: the network beside the answer is a good one, and the bytes are its sheet
 pub sheet-taken : (bytes : List ℕ) → T (areBytes bytes) → (r : Reading) → Says r (readSheet bytes) → SheetValues.numberOf (r .answer) ≡ 0
@@ -163,9 +166,15 @@ module _ (net : Net) (x : Letter) (old : List ℕ) where
       simp (a, b, l)
 
   why-letter : {n : ℕ} → LetterWritten net x old n → letterNumber ≡ n
-  why-letter (L.eleven p) = ap (λ (w : Writing). getD (writingNumbers w) 0 0) (LetterRefusals.denied-when net x old 11 (LetterRefusals.bad-network (T-not-is _ p)))
-  why-letter (L.three g b) = ap (λ (w : Writing). getD (writingNumbers w) 0 0) (LetterRefusals.denied-when net x old 3 (LetterRefusals.no-letter (T-is _ g) (T-not-is _ b)))
-  why-letter (L.ten g t h) = ap (λ (w : Writing). getD (writingNumbers w) 0 0) (LetterRefusals.denied-when net x old 10 (LetterRefusals.too-short (T-is _ g) (T-is _ t) h))
+  why-letter (L.eleven p) =
+      ap (λ (w : Writing). getD (writingNumbers w) 0 0)
+      (LetterRefusals.denied-when net x old 11 (LetterRefusals.bad-network (T-not-is _ p)))
+  why-letter (L.three g b) =
+      ap (λ (w : Writing). getD (writingNumbers w) 0 0)
+      (LetterRefusals.denied-when net x old 3 (LetterRefusals.no-letter (T-is _ g) (T-not-is _ b)))
+  why-letter (L.ten g t h) =
+      ap (λ (w : Writing). getD (writingNumbers w) 0 0)
+      (LetterRefusals.denied-when net x old 10 (LetterRefusals.too-short (T-is _ g) (T-is _ t) h))
   why-letter (L.taken g t h) = ap (λ (w : Writing). getD (writingNumbers w) 0 0) (letter-writes g t h)
 
   letter-why : LetterWritten net x old letterNumber
@@ -205,7 +214,9 @@ module _ (net : Net) (x : Letter) (old : List ℕ) where
         letter-accepted = letter-as (letter-write-numbers 0 .0 (ap L.wroteNumber b)) refl
 
         letter-parts : (take n out ≡ letterBytes) × (drop n out ≡ drop n old)
-        letter-parts = written-bytes old out (LetterValues.writing net x old) letterBytes n (letter-accepted .1 .1) (sym (ap LetterValues.wroteNumbers b) ∙ p) o
+        letter-parts =
+            written-bytes old out (LetterValues.writing net x old) letterBytes n (letter-accepted .1 .1)
+            (sym (ap LetterValues.wroteNumbers b) ∙ p) o
 
         -- WHAT IS WRITTEN, and the old tail
         pub letter-bytes : take n out ≡ letterBytes

@@ -1,6 +1,6 @@
 -- The calls of which the demands are claimed. One record for each: what the call is given, what it hands back, and what its promise says
 -- of that (the `ensures` of the function in src/lib.rt of its crate), and nothing else. What is lent with `&mut` has two values: one
--- before the call, which is given, and one after it. Assumes nothing.
+-- before the call, which is given, and one after it.
 use Prim.Native.Nat.{ℕ}
 use mathlib.Core.Path.{_≡_}
 use mathlib.Core.List.{List}

@@ -1,5 +1,5 @@
 -- What an accepted step counts, over what the state before it and the state after it mean, in the words of document 01's "The event
--- program". Assumes nothing.
+-- program".
 use mathlib.Core.Bool.{Bool, not, _&&_, _||_}
 use mathlib.Core.Path.{_≡_}
 use lib.Dec.{ltb}

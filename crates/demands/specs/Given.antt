@@ -1,4 +1,4 @@
--- What a call may be given, and what stands at the front of bytes, in the words of document 01. Assumes nothing.
+-- What a call may be given, and what stands at the front of bytes, in the words of document 01.
 use Prim.Native.Nat.{ℕ, _<_}
 use mathlib.Core.Bool.{not}
 use mathlib.Core.Path.{_≡_}

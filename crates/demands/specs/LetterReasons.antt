@@ -1,4 +1,4 @@
--- The numbers of a letter's bytes, each with its reason. Nothing here speaks of how a letter is read. Assumes nothing.
+-- The numbers of a letter's bytes, each with its reason. Nothing here speaks of how a letter is read.
 use Prim.Native.Nat.{ℕ, _≤_, _<_}
 use mathlib.Core.Bool.{not}
 use mathlib.Core.Path.{_≡_}

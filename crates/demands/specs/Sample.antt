@@ -1,4 +1,4 @@
--- Document 01's own example, as it is printed there. Assumes nothing.
+-- Document 01's own example, as it is printed there.
 use Prim.Native.Nat.{ℕ, _+_}
 use mathlib.Core.List.{List, [], _∷_, _++_}
 

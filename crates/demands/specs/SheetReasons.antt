@@ -1,5 +1,5 @@
 -- The numbers of a sheet's bytes, each with its reason: "Bytes go field by field: 1, 2, 3, 4, 5 in each". Nothing here speaks of how a
--- sheet is read. Assumes nothing.
+-- sheet is read.
 use Prim.Native.Nat.{ℕ, _≤_, _<_}
 use mathlib.Core.Bool.{not}
 use mathlib.Core.Path.{_≡_}

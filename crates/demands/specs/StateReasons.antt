@@ -1,4 +1,4 @@
--- The numbers of the calls over a state, each with its reason: "Calls over a state go 11, 6, 7, 8, 9, 10". Assumes nothing.
+-- The numbers of the calls over a state, each with its reason: "Calls over a state go 11, 6, 7, 8, 9, 10".
 use Prim.Native.Nat.{ℕ, _+_, _≤_, _<_}
 use mathlib.Core.Bool.{not}
 use mathlib.Core.List.{List}

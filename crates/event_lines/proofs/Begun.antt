@@ -26,12 +26,15 @@ unfolding withDigit
 digit-begins r d =
     if-elim Begun (ltb (r .digits) 9)
     (λ t. if-elim Begun (ltb (r .value) 100000000)
-    (λ u. ap (λ (b : Bool). not (eqb (r .place) 0) || not b) (ne-eqb (r .digits + 1) 0 (λ e. omega arith)) ∙ or-yes (not (eqb (r .place) 0))) (λ u. refl))
+    (λ u. ap (λ (b : Bool). not (eqb (r .place) 0) || not b) (ne-eqb (r .digits + 1) 0 (λ e. omega arith))
+    ∙ or-yes (not (eqb (r .place) 0))) (λ u. refl))
     (λ t. refl)
 
 space-begins : (r : Reading) → Begun (nextNumber r)
 unfolding nextNumber
-space-begins r = if-elim Begun (eqb (r .digits) 0) (λ t. refl) (λ t. if-elim Begun (eqb (r .place) 0) (λ u. refl) (λ u. if-elim Begun (eqb (r .place) 1) (λ w. refl) (λ w. refl)))
+space-begins r =
+    if-elim Begun (eqb (r .digits) 0) (λ t. refl) (λ t. if-elim Begun (eqb (r .place) 0) (λ u. refl)
+    (λ u. if-elim Begun (eqb (r .place) 1) (λ w. refl) (λ w. refl)))
 
 pub byte-begins : (r : Reading) (b : ℕ) → isBegun (readOn r b) ≡ true
 unfolding readOn

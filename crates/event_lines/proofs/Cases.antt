@@ -1,4 +1,4 @@
--- Lines on both sides of each edge, computed from the definitions. Assumes nothing.
+-- Lines on both sides of each edge, computed from the definitions.
 use mathlib.Core.Path.{_≡_, refl}
 use mathlib.Core.List.{[], _∷_, map}
 use Rattle.event_lines.specs.Events.{pieces, isEvent, eventLine}
@@ -17,7 +17,8 @@ pub event-cases : map eventLine (
     ∷ (48 ∷ 48 ∷ 48 ∷ 48 ∷ 48 ∷ 48 ∷ 48 ∷ 48 ∷ 48 ∷ 49 ∷ 32 ∷ 48 ∷ 32 ∷ 48 ∷ [])
     ∷ (49 ∷ 32 ∷ 48 ∷ 32 ∷ 97 ∷ [])
     ∷ [])
-    ≡ (0 ∷ 7 ∷ 0 ∷ 0 ∷ []) ∷ (0 ∷ 7 ∷ 1 ∷ 999999999 ∷ []) ∷ (6 ∷ []) ∷ (6 ∷ []) ∷ (6 ∷ []) ∷ (6 ∷ []) ∷ (6 ∷ []) ∷ (6 ∷ []) ∷ (6 ∷ []) ∷ (6 ∷ []) ∷ []
+    ≡ (0 ∷ 7 ∷ 0 ∷ 0 ∷ []) ∷ (0 ∷ 7 ∷ 1 ∷ 999999999 ∷ []) ∷ (6 ∷ []) ∷ (6 ∷ []) ∷ (6 ∷ []) ∷ (6 ∷ []) ∷ (6 ∷ []) ∷ (6 ∷ []) ∷ (6 ∷ []) ∷
+    (6 ∷ []) ∷ []
 unfolding pieces isEvent eventLine
 event-cases = refl
 

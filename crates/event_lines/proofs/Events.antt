@@ -1,4 +1,4 @@
--- The bytes of a line, one after the other, give what specs/Events.antt says of the whole line. Assumes nothing.
+-- The bytes of a line, one after the other, give what specs/Events.antt says of the whole line.
 use Prim.Native.Nat.{ℕ, zero, suc, _+_, _-_, _*_, _^_, _≤_, _<_}
 use mathlib.Core.Bool.{Bool, true, false, _&&_}
 use mathlib.Core.Path.{_≡_, refl, sym, ap, _∙_}
@@ -28,7 +28,8 @@ spoilt-on r b h =
     (λ u. if-elim Beyond (eqb (r .place) 0) (λ w. absurd (omega (arith, eqb→eq (r .place) 0 w)))
     (λ w. if-elim Beyond (eqb (r .place) 1) (λ x. absurd (omega (arith, eqb→eq (r .place) 1 x))) (λ x. omega arith))))
     (λ t. if-elim Beyond (isDigit b)
-    (λ u. if-elim Beyond (leb (suc (r .digits)) 9) (λ w. if-elim Beyond (leb (suc (r .value)) 100000000) (λ x. h) (λ x. omega arith)) (λ w. omega arith))
+    (λ u. if-elim Beyond (leb (suc (r .digits)) 9) (λ w. if-elim Beyond (leb (suc (r .value)) 100000000) (λ x. h) (λ x. omega arith))
+    (λ w. omega arith))
     (λ u. omega arith))
 
 spoilt-end : (bytes : List ℕ) (r : Reading) → Beyond r → lineEnd (fed r bytes) ≡ 6 ∷ []
@@ -80,7 +81,8 @@ module _ (n : ℕ) (done : List ℕ) (k v : ℕ) (p : List ℕ) (ps : List (List
   ahead-fourth h = simp (ne-eqb (n + suc (suc (length ps))) 3 (λ e. omega arith))
 
 -- the number that ended, and the next one
-ahead-space : (n : ℕ) (k v : ℕ) (p : List ℕ) (ps : List (List ℕ)) → 1 ≤ k → k ≤ 9 → (done next : List ℕ) → ((l : List ℕ) → next ++ l ≡ done ++ (v ∷ l))
+ahead-space : (n : ℕ) (k v : ℕ) (p : List ℕ) (ps : List (List ℕ)) → 1 ≤ k → k ≤ 9 → (done next : List ℕ)
+    → ((l : List ℕ) → next ++ l ≡ done ++ (v ∷ l))
     → ahead (n + 1) next 0 0 (p ∷ ps) ≡ ahead n done k v ([] ∷ p ∷ ps)
 unfolding ahead
 ahead-space n k v p ps h l done next e =
@@ -139,7 +141,8 @@ next-none : (n k v f s : ℕ) → k ≡ 0 → nextNumber (at n k v f s) ≡ spoi
 unfolding nextNumber
 next-none n k v f s e = simp (eq-eqb k 0 e)
 
-next-some : (n k v f s : ℕ) → (k ≡ 0 → ⊥) → nextNumber (at n k v f s) ≡ (if eqb n 0 then at 1 0 0 v 0 else if eqb n 1 then at 2 0 0 f v else spoilt)
+next-some : (n k v f s : ℕ) → (k ≡ 0 → ⊥) → nextNumber
+    (at n k v f s) ≡ (if eqb n 0 then at 1 0 0 v 0 else if eqb n 1 then at 2 0 0 f v else spoilt)
 unfolding nextNumber
 next-some n k v f s h = simp (ne-eqb k 0 h)
 
@@ -148,7 +151,8 @@ end-is : (n k v f s : ℕ) → n ≤ 2 → k ≤ 9 → lineEnd (at n k v f s) �
 unfolding lineEnd pieces ahead
 end-is n k v f s l h = go (ℕ-discrete k 0)
   where
-    ends : (n : ℕ) → n ≤ 2 → (if eqb n 2 then 0 ∷ f ∷ s ∷ v ∷ [] else 6 ∷ []) ≡ (if eqb (n + 1) 3 then 0 ∷ (take n (f ∷ s ∷ []) ++ (v ∷ [])) else 6 ∷ [])
+    ends : (n : ℕ) → n ≤ 2 → (if eqb n 2 then 0 ∷ f ∷ s ∷ v ∷ [] else 6 ∷ []) ≡ (if eqb (n + 1) 3 then 0 ∷ (take n (f ∷ s ∷ []) ++ (v ∷ []))
+        else 6 ∷ [])
     ends zero l = refl
     ends (suc zero) l = refl
     ends (suc (suc zero)) l = refl
@@ -185,14 +189,16 @@ module _ (b : ℕ) (bytes : List ℕ) (behind : Rest bytes) (n k v f s : ℕ) (l
   there : b ≡ 32 → pieces (b ∷ bytes) ≡ [] ∷ more .head ∷ more .tail
   there e = pieces-space b bytes e ∙ ap {B = List (List ℕ)} (λ x. [] ∷ x) (more .same)
 
-  next : (n : ℕ) → n ≤ 2 → (k ≡ 0 → ⊥) → lineEnd (fed (if eqb n 0 then at 1 0 0 v 0 else if eqb n 1 then at 2 0 0 f v else spoilt) bytes) ≡ given n k v f s ([] ∷ more .head ∷ more .tail)
+  next : (n : ℕ) → n ≤ 2 → (k ≡ 0 → ⊥) → lineEnd (fed (if eqb n 0 then at 1 0 0 v 0 else if eqb n 1 then at 2 0 0 f v else spoilt)
+      bytes) ≡ given n k v f s ([] ∷ more .head ∷ more .tail)
   next zero m j =
       behind 1 0 0 v 0 (omega arith) (omega arith) (omega arith) ∙ ap (given 1 0 0 v 0) (more .same)
       ∙ ahead-space 0 k v (more .head) (more .tail) (omega arith) h [] (v ∷ []) (λ x. refl)
   next (suc zero) m j =
       behind 2 0 0 f v (omega arith) (omega arith) (omega arith) ∙ ap (given 2 0 0 f v) (more .same)
       ∙ ahead-space 1 k v (more .head) (more .tail) (omega arith) h (f ∷ []) (f ∷ v ∷ []) (λ x. refl)
-  next (suc (suc zero)) m j = spoilt-end bytes spoilt (omega arith) ∙ sym (ahead-fourth 2 (f ∷ s ∷ []) k v (more .head) (more .tail) (omega arith))
+  next (suc (suc zero)) m j =
+      spoilt-end bytes spoilt (omega arith) ∙ sym (ahead-fourth 2 (f ∷ s ∷ []) k v (more .head) (more .tail) (omega arith))
   next (suc (suc (suc n))) m j = absurd (omega arith)
 
   space : b ≡ 32 → Dec (k ≡ 0) → Now

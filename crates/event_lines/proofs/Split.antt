@@ -1,5 +1,5 @@
 -- A reader that takes the bytes of a text one by one answers for each of its lines, in order: the law of specs/Split.antt, for any
--- reader and for that of this crate. Assumes nothing.
+-- reader and for that of this crate.
 use Prim.Native.Nat.{ℕ}
 use mathlib.Core.Bool.{Bool, true, false}
 use mathlib.Core.Path.{_≡_, refl, sym, ap, ap₂, _∙_}
@@ -50,11 +50,13 @@ module _ {R A : Type 0} (fresh : R) (on : R → ℕ → R) (ends : R → A) (rea
   from (b ∷ bytes) xs = go (ℕ-discrete b 10) (from bytes []) (from bytes (xs ++ (b ∷ [])))
     where
       go : Dec (b ≡ 10) → answers fresh on ends (read fresh []) false bytes ≡ map whole (after [] (linesOf bytes))
-          → answers fresh on ends (read fresh (xs ++ (b ∷ []))) (some (xs ++ (b ∷ []))) bytes ≡ map whole (after (xs ++ (b ∷ [])) (linesOf bytes))
+          → answers fresh on ends (read fresh (xs ++ (b ∷ []))) (some (xs ++ (b ∷ []))) bytes ≡ map whole
+          (after (xs ++ (b ∷ [])) (linesOf bytes))
           → answers fresh on ends (read fresh xs) (some xs) (b ∷ bytes) ≡ map whole (after xs (linesOf (b ∷ bytes)))
       go (yes e) p q =
           simp (eq-eqb b 10 e)
-          (ap₂ {C = List A} (λ a l. a ∷ l) (law xs) (ap (λ (r : R). answers fresh on ends r false bytes) (sym none) ∙ p ∙ ap (map whole) (after-none (linesOf bytes)))
+          (ap₂ {C = List A} (λ a l. a ∷ l) (law xs) (ap (λ (r : R). answers fresh on ends r false bytes) (sym none) ∙ p
+          ∙ ap (map whole) (after-none (linesOf bytes)))
           ∙ ap (map whole) (sym (after-end xs (linesOf bytes))))
       go (no e) p q =
           simp (ne-eqb b 10 e)
@@ -62,7 +64,8 @@ module _ {R A : Type 0} (fresh : R) (on : R → ℕ → R) (ends : R → A) (rea
           ∙ q ∙ ap (map whole) (after-byte xs b (linesOf bytes)))
 
   pub each-line : (bytes : List ℕ) → answers fresh on ends fresh false bytes ≡ map whole (linesOf bytes)
-  each-line bytes = ap (λ (r : R). answers fresh on ends r false bytes) (sym none) ∙ from bytes [] ∙ ap (map whole) (after-none (linesOf bytes))
+  each-line bytes =
+      ap (λ (r : R). answers fresh on ends r false bytes) (sym none) ∙ from bytes [] ∙ ap (map whole) (after-none (linesOf bytes))
 
 pub event-lines : (bytes : List ℕ) → answers start readOn lineEnd start false bytes ≡ map eventLine (linesOf bytes)
 event-lines = each-line start readOn lineEnd fed eventLine (λ r xs b. fed-append xs (b ∷ []) r) refl read-line

@@ -1,4 +1,4 @@
--- Two answers that are allowed for a line's end are equal: the numbers tell the cases apart. Assumes nothing.
+-- Two answers that are allowed for a line's end are equal: the numbers tell the cases apart.
 use Prim.Native.Nat.{ℕ}
 use mathlib.Core.Path.{_≡_, refl, sym, ap, _∙_}
 use mathlib.Core.List.{List, [], _∷_}

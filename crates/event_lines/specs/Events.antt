@@ -1,15 +1,12 @@
 -- The lines of the event program: "three decimal numbers with one space between, each of 1 to 9 digits". A line is the list of
--- its bytes, without its newline. Assumes nothing.
+-- its bytes, without its newline.
 use Prim.Native.Nat.{ℕ, _+_, _-_, _*_}
 use mathlib.Core.Bool.{Bool, _&&_}
 use mathlib.Core.List.{List, [], _∷_, map}
 use lib.Dec.{eqb, leb}
 use lib.ListN.{length}
 use Rattle.lists.specs.Lists.{if_then_else_, every}
-
--- the byte of a decimal digit
-abbrev pub isDigit : ℕ → Bool
-isDigit b = leb 48 b && leb b 57
+pub use Rattle.lists.specs.Digits.{isDigit, valueFrom}
 
 -- one byte more at the front of the first piece
 abbrev pub onFirst : ℕ → List (List ℕ) → List (List ℕ)
@@ -25,11 +22,7 @@ pieces (b ∷ bytes) = if eqb b 32 then [] ∷ pieces bytes else onFirst b (piec
 abbrev pub isNumber : List ℕ → Bool
 isNumber piece = leb 1 (length piece) && leb (length piece) 9 && every isDigit piece
 
--- the number that digits make, behind those that make v
-abbrev pub valueFrom : ℕ → List ℕ → ℕ
-valueFrom v [] = v
-valueFrom v (b ∷ piece) = valueFrom (v * 10 + (b - 48)) piece
-
+-- the number that digits make
 abbrev pub value : List ℕ → ℕ
 value piece = valueFrom 0 piece
 

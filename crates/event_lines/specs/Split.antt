@@ -1,5 +1,5 @@
 -- The lines of a text: each ends with a newline, "the last newline may be missing". No bytes are no line; a lone newline is one
--- empty line. proofs/Split.antt: a reader that takes the bytes one by one answers for each of them. Assumes nothing.
+-- empty line. proofs/Split.antt: a reader that takes the bytes one by one answers for each of them.
 use Prim.Native.Nat.{ℕ}
 use mathlib.Core.Bool.{Bool, true, false}
 use mathlib.Core.List.{List, [], _∷_}

@@ -1,6 +1,5 @@
 -- What the code answers, byte by byte: a line that is being read as a value of its own, for every such value.
 -- proofs/Events.antt says that the bytes of a line, one after the other, give what specs/Events.antt says of the whole line.
--- Assumes nothing.
 use Prim.Native.Nat.{ℕ, _+_, _-_, _*_}
 use mathlib.Core.List.{List, [], _∷_}
 use lib.Dec.{eqb, ltb}

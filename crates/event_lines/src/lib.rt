@@ -98,7 +98,7 @@ fn next_number(r: Reading) -> Reading
 
 // One byte more of the line; its newline is not one of them.
 // Promise: equals `Steps.readOn`: one byte more. Fed the bytes of a line one by one, the three give exactly `Events.eventLine` of the
-// whole line (`lines.Events.read-line`).
+// whole line (`event_lines.Events.read-line`).
 pub fn read_on(r: Reading, byte: u8) -> Reading
     ensures { λ n. ⌜ n ≡ readOn r byte ⌝ }
 {

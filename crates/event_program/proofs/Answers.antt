@@ -1,4 +1,4 @@
--- The line that answers an event, put in six parts. Assumes nothing.
+-- The line that answers an event, put in six parts.
 use Prim.Native.Nat.{ℕ, _≤_, _<_, _^_}
 use mathlib.Core.Path.{_≡_}
 use mathlib.Core.List.{List, [], _∷_, _++_, append-assoc}
@@ -15,6 +15,7 @@ pub answer-whole : (answer flying settled : ℕ) → answerParts answer flying s
 unfolding answerText
 answer-whole answer flying settled = simp append-assoc
 
-pub answer-few : (answer flying settled : ℕ) → answer < 256 → flying < 65536 → settled < 2 ^ 64 → length (answerParts answer flying settled) ≤ 32
+pub answer-few : (answer flying settled : ℕ) → answer < 256 → flying < 65536 → settled < 2 ^ 64
+    → length (answerParts answer flying settled) ≤ 32
 answer-few answer flying settled a b c =
     simp length-append (omega (arith, byte-digits answer a, counter-digits flying b, count-digits settled c))

@@ -1,5 +1,5 @@
 -- THE EVENT PROGRAM: whatever the pieces that standard input comes in, its calls print, in all, exactly what document 01 says of the file and
--- of the whole input. Assumes nothing.
+-- of the whole input.
 use Prim.Native.Nat.{ℕ}
 use mathlib.Core.Bool.{Bool, true}
 use mathlib.Core.Path.{_≡_, refl, sym, ap, ap₂, _∙_}
@@ -69,29 +69,36 @@ module _ (net : Network) (t : T (sheetHolds net)) where
   fresh-net = refl
 
   first-carried : Carried v (fresh net)
-  first-carried = record { good = value-holds net t; ends = value-ends net t; net = value-means net t ∙ sym fresh-net; formed = fresh-formed net t }
+  first-carried =
+      record { good = value-holds net t; ends = value-ends net t; net = value-means net t ∙ sym fresh-net; formed = fresh-formed net t }
 
-  run-prints : (pieces : List (List ℕ)) → runText (stateOf v (fresh net)) pieces ≡ outputBy (sheet net) (map eventLine (linesOf (joined pieces)))
+  run-prints : (pieces : List (List ℕ)) → runText (stateOf v (fresh net)) pieces ≡ outputBy (sheet net)
+      (map eventLine (linesOf (joined pieces)))
   unfolding runText
   run-prints pieces =
       let y = deskOf (stateOf v (fresh net)) noTally in
       let said = map eventLine (linesOf (joined pieces)) in
       let ends = lines-end v (fresh net) noTally first-carried no-fits said in
       ap₂ (λ (a b : List ℕ). a ++ b)
-      (whole-text start readOn lineEnd acted spoken isBegun not-first byte-begins eventLine event-lines y pieces ∙ lines-print v (fresh net) noTally first-carried no-fits said)
-      (ap (λ (d : Desk). stationsText (d .state)) (whole-held start readOn lineEnd acted spoken isBegun not-first byte-begins eventLine event-lines y pieces)
+      (whole-text start readOn lineEnd acted spoken isBegun not-first byte-begins eventLine event-lines y pieces
+      ∙ lines-print v (fresh net) noTally first-carried no-fits said)
+      (ap (λ (d : Desk). stationsText (d .state)) (whole-held start readOn lineEnd acted spoken isBegun not-first byte-begins eventLine
+      event-lines y pieces)
       ∙ ap stationsText (ends .state) ∙ end-prints v (doneAll (begins net) said .world) (ends .carried))
 
 pub event-program : (file : List ℕ) (pieces : List (List ℕ)) → callsText file pieces ≡ eventProgram file (joined pieces)
 unfolding callsText eventProgram
 event-program file pieces = go (fileSheet file) refl
   where
-    go : (s : Sheet) → fileSheet file ≡ s → openedText (openedBy (fileSheet file)) pieces ≡ outputBy (fileSheet file) (map eventLine (linesOf (joined pieces)))
+    go : (s : Sheet) → fileSheet file ≡ s → openedText (openedBy (fileSheet file)) pieces ≡ outputBy (fileSheet file)
+        (map eventLine (linesOf (joined pieces)))
     go (refused k) e =
         ap (λ (x : Sheet). openedText (openedBy x) pieces) e
-        ∙ ap (λ (b : Bool). if b then runText (begunOf (openedBy (refused k) .net) .state) pieces else refusalText k) (ne-eqb k 0 (refusal-counts file k e))
+        ∙ ap (λ (b : Bool). if b then runText (begunOf (openedBy (refused k) .net) .state) pieces else refusalText k)
+        (ne-eqb k 0 (refusal-counts file k e))
         ∙ sym (ap (λ (x : Sheet). outputBy x (map eventLine (linesOf (joined pieces)))) e)
     go (sheet net) e =
         let t = file-holds file net e in
-        ap (λ (x : Sheet). openedText (openedBy x) pieces) e ∙ ap (λ (s : State). runText s pieces) (first-is net t) ∙ run-prints net t pieces
+        ap (λ (x : Sheet). openedText (openedBy x) pieces) e ∙ ap (λ (s : State). runText s pieces) (first-is net t)
+        ∙ run-prints net t pieces
         ∙ sym (ap (λ (x : Sheet). outputBy x (map eventLine (linesOf (joined pieces)))) e)

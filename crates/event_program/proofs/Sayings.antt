@@ -1,4 +1,4 @@
--- What is printed for a line, in other words of document 01: a malformed line, and the notices settled so far. Assumes nothing.
+-- What is printed for a line, in other words of document 01: a malformed line, and the notices settled so far.
 use Prim.Native.Nat.{ℕ, _/_, _≤_}
 use mathlib.Core.Bool.{true}
 use mathlib.Core.Path.{_≡_, refl, ap, ap₂, _∙_}
@@ -39,7 +39,8 @@ malformed-stays st =
 pub malformed : (st : Standing) → printedFor st (eventBy (6 ∷ [])) ≡ answerText 6 (length (st .world .letters)) (st .tally .settled)
 unfolding printedFor
 malformed st =
-    ap₂ (λ (n : ℕ) (x : Standing). answerText n (length (x .world .letters)) (x .tally .settled)) (step-number (st .world) (eventBy (6 ∷ [])) ∙ no-kind (st .world)) (malformed-stays st)
+    ap₂ (λ (n : ℕ) (x : Standing). answerText n (length (x .world .letters)) (x .tally .settled))
+    (step-number (st .world) (eventBy (6 ∷ [])) ∙ no-kind (st .world)) (malformed-stays st)
 
 -- ---- lines are a history
 pub world-after : (said : List (List ℕ)) (st : Standing) → doneAll st said .world ≡ run (st .world) (map eventBy said)
@@ -53,8 +54,10 @@ tally-after [] st = refl
 tally-after (x ∷ said) st = tally-after said (done st (eventBy x))
 
 -- THE SETTLED NUMBER is the history's count of notices taken off by events 7 and 8, and stays at its largest value once there
-pub settled-so-far : (said : List (List ℕ)) (st : Standing) → Fits (st .tally) → doneAll st said .tally .settled ≡ counted (st .tally .settled) (everSettled (st .world) (map eventBy said))
-settled-so-far said st f = ap (λ (t : Tally). t .settled) (tally-after said st ∙ tally-is-history (st .tally) (st .world) (map eventBy said) f)
+pub settled-so-far : (said : List (List ℕ)) (st : Standing) → Fits (st .tally)
+    → doneAll st said .tally .settled ≡ counted (st .tally .settled) (everSettled (st .world) (map eventBy said))
+settled-so-far said st f =
+    ap (λ (t : Tally). t .settled) (tally-after said st ∙ tally-is-history (st .tally) (st .world) (map eventBy said) f)
 
 -- the event program lends 32,768 bytes for a piece of at most 1,024: it is never refused with 10
 pub room-suffices : (bytes out : List ℕ) → length bytes ≤ 1024 → length out ≡ 32768 → enough bytes out ≡ true

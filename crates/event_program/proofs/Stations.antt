@@ -1,4 +1,4 @@
--- The lines at the end: a station's counters one after the other, and the stations. Assumes nothing.
+-- The lines at the end: a station's counters one after the other, and the stations.
 use Prim.Native.Nat.{ℕ, zero, suc, _+_, _*_, _≤_, _<_, min}
 use mathlib.Core.Path.{_≡_, refl, sym, ap, _∙_}
 use mathlib.Core.List.{List, [], _∷_, _++_, append-assoc, append-nil}
@@ -26,13 +26,16 @@ pub counters-more : (xs cs : List ℕ) (k : ℕ) → k < length cs
     → ((xs ++ collect counterText (take k cs)) ++ (32 ∷ [])) ++ digits (getD cs k 0) ≡ xs ++ collect counterText (take (k + 1) cs)
 counters-more xs cs k h =
     rw (add-one, take-suc cs k 0 h)
-    (simp append-assoc (ap (λ (l : List ℕ). xs ++ l) (sym (collect-append counterText (take k cs) (getD cs k 0 ∷ []) ∙ ap (λ (l : List ℕ). collect counterText (take k cs) ++ l) (append-nil (32 ∷ digits (getD cs k 0)))))))
+    (simp append-assoc (ap (λ (l : List ℕ). xs ++ l)
+    (sym (collect-append counterText (take k cs) (getD cs k 0 ∷ [])
+    ∙ ap (λ (l : List ℕ). collect counterText (take k cs) ++ l) (append-nil (32 ∷ digits (getD cs k 0)))))))
 
 pub station-whole : (s : ℕ) (table : List ℕ) → (([] ++ digits s) ++ collect counterText table) ++ (10 ∷ []) ≡ stationText s table
 unfolding stationText
 station-whole s table = refl
 
-pub station-done : (s : ℕ) (cs : List ℕ) (k n : ℕ) → k ≡ n → (([] ++ digits s) ++ collect counterText (take k cs)) ++ (10 ∷ []) ≡ stationText s (take n cs)
+pub station-done : (s : ℕ) (cs : List ℕ) (k n : ℕ) → k ≡ n
+    → (([] ++ digits s) ++ collect counterText (take k cs)) ++ (10 ∷ []) ≡ stationText s (take n cs)
 station-done s cs k n e = station-whole s (take k cs) ∙ ap (λ (j : ℕ). stationText s (take j cs)) e
 
 -- how long the line is
@@ -49,7 +52,8 @@ taken-small [] (suc n) f k = omega arith
 taken-small (c ∷ cs) (suc n) f zero = f 0
 taken-small (c ∷ cs) (suc n) f (suc k) = taken-small cs n (λ j. f (suc j)) k
 
-pub station-few : (s n : ℕ) (cs : List ℕ) → s < 256 → n ≤ 64 → length cs ≡ 64 → ((k : ℕ) → getD cs k 0 < 65536) → length (stationText s (take n cs)) ≤ 400
+pub station-few : (s n : ℕ) (cs : List ℕ) → s < 256 → n ≤ 64 → length cs ≡ 64 → ((k : ℕ) → getD cs k 0 < 65536)
+    → length (stationText s (take n cs)) ≤ 400
 unfolding stationText
 station-few s n cs h l e f =
     let size : length (take n cs) ≡ n = length-take-le n cs (omega arith) in
@@ -64,9 +68,16 @@ stations-whole s n i e h = ap (λ (k : ℕ). collect (stationLine s) (below k)) 
 -- the code's table of one station
 pub same-table : (s : State) (i m : ℕ) → m ≡ min (s .net .links) 64
     → collect (stationLine s) (below i) ++ stationText i (take m (stationIn s i .counters)) ≡ collect (stationLine s) (below (i + 1))
-same-table s i m e = ap (λ (k : ℕ). collect (stationLine s) (below i) ++ stationText i (take k (stationIn s i .counters))) e ∙ texts-more (stationLine s) i
+same-table s i m e =
+    ap (λ (k : ℕ). collect (stationLine s) (below i) ++ stationText i (take k (stationIn s i .counters))) e ∙ texts-more (stationLine s) i
 
 -- what fits is no longer than the place behind it
-pub stations-few : (text : List ℕ) (most : ℕ) (old : List ℕ) (r : ℕ) (new : List ℕ) → Chain text 0 old r new → r ≤ most → most ≤ length old → length text ≤ most
+pub stations-few : (text : List ℕ) (most : ℕ) (old : List ℕ) (r : ℕ) (new : List ℕ) → Chain text 0 old r new → r ≤ most → most ≤ length old
+    → length text ≤ most
 stations-few text most old r new c h l =
-    omega (arith, chain-fits text 0 old r new c (omega arith), c .place ∙ place-fits text 0 old (chain-fits text 0 old r new c (omega arith)))
+    omega (
+      arith,
+      chain-fits text 0 old r new c (omega arith),
+      c .place
+          ∙ place-fits text 0 old (chain-fits text 0 old r new c (omega arith)),
+    )

@@ -1,5 +1,5 @@
 -- From states to worlds: in a run from a freshly read sheet each state is a world laid out, each line does and prints what document 01 says
--- of that world, and the stations' lines are those of its tables. Assumes nothing.
+-- of that world, and the stations' lines are those of its tables.
 use Prim.Native.Nat.{ℕ, zero, suc, _+_, _≤_, _<_}
 use mathlib.Core.Bool.{Bool, true}
 use mathlib.Core.Path.{_≡_, refl, sym, ap, ap₂, _∙_, subst, subst⁻¹}
@@ -90,7 +90,13 @@ abbrev standing : World → Tally → Standing
 standing w t = record { world = w; tally = t }
 
 nothing-more : (t : Tally) → Fits t → tallied t noCounts ≡ t
-nothing-more t f = λ i. record { settled = same (t .settled) (f .settled) i; raised = same (t .raised) (f .raised) i; dropped = same (t .dropped) (f .dropped) i }
+nothing-more t f =
+    λ i. record {
+      settled = same (t .settled) (f .settled) i;
+      raised = same (t .raised) (f .raised) i;
+      dropped = same (t .dropped)
+          (f .dropped) i;
+    }
   where
     same : (n : ℕ) → n ≤ largest → counted n 0 ≡ n
     same n h = omega arith
@@ -99,7 +105,8 @@ nothing-more t f = λ i. record { settled = same (t .settled) (f .settled) i; ra
 pub record Line (v : Net) (w : World) (t : Tally) (said : List ℕ) : Type 0 where
   pub carried : Carried v (done (standing w t) (eventBy said) .world)
   pub fits : Fits (done (standing w t) (eventBy said) .tally)
-  pub acts : acted (deskOf (stateOf v w) t) said ≡ deskOf (stateOf v (done (standing w t) (eventBy said) .world)) (done (standing w t) (eventBy said) .tally)
+  pub acts : acted (deskOf (stateOf v w) t) said ≡ deskOf (stateOf v (done (standing w t) (eventBy said) .world))
+      (done (standing w t) (eventBy said) .tally)
   pub says : spoken (deskOf (stateOf v w) t) said ≡ printedFor (standing w t) (eventBy said)
 
 module _ (v : Net) (w : World) (c : Carried v w) (t : Tally) (f : Fits t) (said : List ℕ) where
@@ -116,16 +123,33 @@ module _ (v : Net) (w : World) (c : Carried v w) (t : Tally) (f : Fits t) (said 
       let o : step w ev ≡ accepted (after w ev) = step-accepts w ev z in
       let d = stepped-taken v w c (getD said 1 0) (getD said 2 0) (getD said 3 0) z in
       let world : next w ev ≡ after w ev = ap (orElse w) o in
-      let tally : tallyBy (step w ev) t (acceptedCounts w ev) ≡ tallied t (acceptedCounts w ev) = ap (λ (x : Outcome). tallyBy x t (acceptedCounts w ev)) o in
+      let tally : tallyBy (step w ev) t (acceptedCounts w ev) ≡ tallied t (acceptedCounts w ev) = ap
+      (λ (x : Outcome). tallyBy x t (acceptedCounts w ev)) o in
       record {
-        carried = subst⁻¹ (Carried v) world (record { good = c .good; ends = c .ends; net = c .net ∙ sym (after-net w ev); formed = step-formed w ev (after w ev) (c .formed) o });
-        fits = subst⁻¹ Fits tally (record { settled = counted-fits (t .settled) (settled w ev); raised = counted-fits (t .raised) (raised w ev); dropped = counted-fits (t .dropped) (dropped w ev) });
-        acts = ap (λ (x : Stepped). deskOf (x .state) (tallied t (x .counts))) d ∙ sym (ap₂ (λ (x : World) (u : Tally). deskOf (stateOf v x) u) world tally);
+        carried =
+            subst⁻¹ (Carried v) world (record {
+              good = c .good;
+              ends = c .ends;
+              net = c .net
+                  ∙ sym (after-net w ev);
+              formed = step-formed w ev (after w ev) (c .formed) o;
+            });
+        fits =
+            subst⁻¹ Fits tally (record {
+              settled = counted-fits (t .settled) (settled w ev);
+              raised = counted-fits (t .raised)
+                  (raised w ev);
+              dropped = counted-fits (t .dropped) (dropped w ev);
+            });
+        acts =
+            ap (λ (x : Stepped). deskOf (x .state) (tallied t (x .counts))) d
+            ∙ sym (ap₂ (λ (x : World) (u : Tally). deskOf (stateOf v x) u) world tally);
         says =
             ap (λ (x : Stepped). answerText (x .answer) (x .state .flying) (tallied t (x .counts) .settled)) d
             ∙ ap (λ (n : ℕ). answerText 0 n (tallied t (acceptedCounts w ev) .settled)) (flying-is (after w ev))
             ∙ sym (ap₂ (λ (x : World) (u : Tally). answerText (numberOf (step w ev)) (length (x .letters)) (u .settled)) world tally
-            ∙ ap (λ (n : ℕ). answerText n (length (after w ev .letters)) (tallied t (acceptedCounts w ev) .settled)) (step-number w ev ∙ z));
+            ∙ ap (λ (n : ℕ). answerText n (length (after w ev .letters)) (tallied t (acceptedCounts w ev) .settled))
+            (step-number w ev ∙ z));
       }
 
   line-refused : (n : ℕ) → refusal w ev ≡ n → (n ≡ 0 → ⊥) → Line v w t said
@@ -163,7 +187,8 @@ lines-print v w t c f [] = refl
 lines-print v w t c f (x ∷ said) =
     let l = line v w c t f x in
     ap₂ (λ (a b : List ℕ). a ++ b) (l .says)
-    (ap (λ (d : Desk). Feeding.printed start readOn lineEnd acted spoken d said) (l .acts) ∙ lines-print v (done (standing w t) (eventBy x) .world) (done (standing w t) (eventBy x) .tally) (l .carried) (l .fits) said)
+    (ap (λ (d : Desk). Feeding.printed start readOn lineEnd acted spoken d said) (l .acts)
+    ∙ lines-print v (done (standing w t) (eventBy x) .world) (done (standing w t) (eventBy x) .tally) (l .carried) (l .fits) said)
 
 -- where they end
 pub record Ends (v : Net) (st : Standing) (d : Desk) : Type 0 where
@@ -183,7 +208,8 @@ lines-end v w t c f (x ∷ said) =
 -- ---- the stations' lines
 collect-same : (f g : ℕ → List ℕ) (n i : ℕ) → ((k : ℕ) → i ≤ k → k < i + n → f k ≡ g k) → collect f (from i n) ≡ collect g (from i n)
 collect-same f g zero i h = refl
-collect-same f g (suc n) i h = ap₂ (λ (a b : List ℕ). a ++ b) (h i (omega arith) (omega arith)) (collect-same f g n (suc i) (λ k l m. h k (omega arith) (omega arith)))
+collect-same f g (suc n) i h =
+    ap₂ (λ (a b : List ℕ). a ++ b) (h i (omega arith) (omega arith)) (collect-same f g n (suc i) (λ k l m. h k (omega arith) (omega arith)))
 
 table-is : (net : Net) (st : Station) → tableOf net (st .counters) ≡ holdingOf net st .table
 unfolding holdingOf
@@ -202,5 +228,6 @@ end-prints v w c =
     let m = laid-means v w (c .good) (c .net) (c .formed) in
     let count : networkOf (s .net) .stations ≡ s .net .stations = count-is s z t in
     collect-same (stationLine s) (λ i. stationText i (holdingAt w i .table)) (networkOf (s .net) .stations) 0
-    (λ k l h. ap (stationText k) (table-is (s .net) (stationIn s k) ∙ ap (λ (x : Holding). x .table) (sym (world-holding s z t k (omega arith))) ∙ ap (λ (x : World). holdingAt x k .table) m))
+    (λ k l h. ap (stationText k) (table-is (s .net) (stationIn s k)
+    ∙ ap (λ (x : Holding). x .table) (sym (world-holding s z t k (omega arith))) ∙ ap (λ (x : World). holdingAt x k .table) m))
     ∙ ap (λ (n : ℕ). collect (λ i. stationText i (holdingAt w i .table)) (below n)) (stations-same v w (c .net))

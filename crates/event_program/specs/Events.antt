@@ -1,4 +1,4 @@
--- Document 01, "The event program": what is printed for a line, for lines one after the other, at the end, and in all. Assumes nothing.
+-- Document 01, "The event program": what is printed for a line, for lines one after the other, at the end, and in all.
 use Prim.Native.Nat.{ℕ}
 use mathlib.Core.List.{List, [], _∷_, _++_, map}
 use lib.ListN.{length, getD}
@@ -21,7 +21,7 @@ pub record Standing : Type 0 where
   pub world : World
   pub tally : Tally
 
--- the event that a line's numbers name (crate `lines`, eventLine); a malformed line names none: there is no kind 0, so that it is
+-- the event that a line's numbers name (crate `event_lines`, eventLine); a malformed line names none: there is no kind 0, so that it is
 -- answered by 6 and changes nothing (proofs/Sayings.antt, malformed)
 abbrev pub eventBy : List ℕ → Event
 eventBy said = record { kind = getD said 1 0; a = getD said 2 0; b = getD said 3 0 }
@@ -50,7 +50,7 @@ unfoldable pub doneAll : Standing → List (List ℕ) → Standing
 doneAll st [] = st
 doneAll st (said ∷ others) = doneAll (done st (eventBy said)) others
 
--- at the end, a line for each station (crate `standing`, stationText)
+-- at the end, a line for each station (Stations.antt)
 unfoldable pub endText : World → List ℕ
 endText w = collect (λ s. stationText s (holdingAt w s .table)) (below (w .net .stations))
 

@@ -1,5 +1,5 @@
 -- What the code answers for a piece of the input, byte by byte and for every state. proofs/Program.antt: from a fresh state the pieces of
--- an input give what specs/Events.antt says of the whole of it. Assumes nothing.
+-- an input give what specs/Events.antt says of the whole of it.
 use Prim.Native.Nat.{ℕ, _/_}
 use mathlib.Core.Bool.{Bool}
 use mathlib.Core.List.{List}

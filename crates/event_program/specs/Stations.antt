@@ -1,4 +1,4 @@
--- The stations' lines at the end of the event program, for every state. Assumes nothing.
+-- The stations' lines at the end of the event program, for every state.
 use Prim.Native.Nat.{ℕ}
 use mathlib.Core.List.{List, [], _∷_, _++_}
 use Rattle.lists.specs.Lists.{below}

@@ -1,6 +1,6 @@
-// Running events, on bytes and values alone: the lines of a piece of the input. Nothing here reads or writes. The stations' lines at
-// the end: crate `standing`.
-// An inner door: the calls are in docs/CALLS.md.
+// The event program, on bytes and values alone: the lines of a piece of the input, and the stations' lines at the end. Nothing here reads
+// or writes.
+// Inner doors: the calls are in docs/CALLS.md.
 ghost use mathlib.Core.Path.{_≡_};
 ghost use Prim.Native.Nat.{_+_, _≤_};
 ghost use lib.ListN.{length, drop, take};

@@ -1,5 +1,4 @@
 -- The law of fields, for sheets and letters alike: what is written is cut back, and what is cut was written so.
--- Assumes nothing.
 use Prim.Native.Nat.{ℕ, _/_, _%_, _≤_, _<_}
 use mathlib.Core.Bool.{Bool, true, false}
 use mathlib.Core.Path.{_≡_, refl, sym, ap, ap₂, _∙_, subst, subst⁻¹}
@@ -19,13 +18,20 @@ pub cut-written : (tag : ℕ) (value rest : List ℕ) → firstField (writeField
 unfolding firstField writeField
 cut-written tag value rest =
     ap (λ (n : ℕ). cutValue tag n (value ++ rest)) (div-add-mod' (length value) 256)
-    ∙ simp (le-ltb (length (value ++ rest)) (length value) (omega (arith, length-append value rest)), take-append-seam value rest, drop-append-seam value rest)
+    ∙ simp (
+      le-ltb (length (value ++ rest)) (length value) (omega (arith, length-append value rest)),
+      take-append-seam value
+          rest,
+      drop-append-seam value rest,
+    )
 
 -- what a value that was cut says of the bytes
-pub value-cut : (tag n : ℕ) (bytes : List ℕ) (t : ℕ) (v r : List ℕ) → cutValue tag n bytes ≡ field t v r → (tag ≡ t) × (length v ≡ n) × (bytes ≡ v ++ r)
+pub value-cut : (tag n : ℕ) (bytes : List ℕ) (t : ℕ) (v r : List ℕ) → cutValue tag n bytes ≡ field t v r
+    → (tag ≡ t) × (length v ≡ n) × (bytes ≡ v ++ r)
 value-cut tag n bytes t v r e = go (ltb (length bytes) n) refl e
   where
-    go : (b : Bool) → ltb (length bytes) n ≡ b → (if b then short else field tag (take n bytes) (drop n bytes)) ≡ field t v r → (tag ≡ t) × (length v ≡ n) × (bytes ≡ v ++ r)
+    go : (b : Bool) → ltb (length bytes) n ≡ b → (if b then short else field tag (take n bytes) (drop n bytes)) ≡ field t v r
+        → (tag ≡ t) × (length v ≡ n) × (bytes ≡ v ++ r)
     go true p q = let z : _≡_ {A = ℕ} 0 1 = cc in absurd (omega arith)
     go false p q =
         let tags : tag ≡ t = cc in
@@ -37,7 +43,8 @@ value-cut tag n bytes t v r e = go (ltb (length bytes) n) refl e
         )
 
 -- a field that was cut is exactly the bytes written, followed by the rest
-pub written-cut : (bytes : List ℕ) (tag : ℕ) (value rest : List ℕ) → T (areBytes bytes) → firstField bytes ≡ field tag value rest → bytes ≡ writeField tag value ++ rest
+pub written-cut : (bytes : List ℕ) (tag : ℕ) (value rest : List ℕ) → T (areBytes bytes) → firstField bytes ≡ field tag value rest
+    → bytes ≡ writeField tag value ++ rest
 unfolding firstField writeField
 written-cut [] tag value rest t e = let z : _≡_ {A = ℕ} 0 1 = cc in absurd (omega arith)
 written-cut (x ∷ []) tag value rest t e = let z : _≡_ {A = ℕ} 0 1 = cc in absurd (omega arith)

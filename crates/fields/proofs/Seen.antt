@@ -1,4 +1,4 @@
--- For callers: what an answer of `cut_first` says of the bytes, and what `put` leaves where the field fits. Assumes nothing.
+-- For callers: what an answer of `cut_first` says of the bytes, and what `put` leaves where the field fits.
 use Prim.Native.Nat.{ℕ, _+_, _-_, _≤_, _<_}
 use mathlib.Core.Path.{_≡_, refl, sym, ap, ap₂, _∙_}
 use mathlib.Core.List.{List, [], _++_, append-assoc, append-nil}
@@ -44,7 +44,8 @@ whole-seen bytes tag n e = go (decLt (length bytes) 3)
         value (yes l) = not-short (firstField bytes) (head ∙ simp (lt-ltb (length (drop 3 bytes)) m l)) e
         value (no l) =
             let g : m ≤ length (drop 3 bytes) = omega arith in
-            let f : firstField bytes ≡ field (getD bytes 0 0) (take m (drop 3 bytes)) (drop m (drop 3 bytes)) = head ∙ simp (le-ltb (length (drop 3 bytes)) m g) in
+            let f : firstField bytes ≡ field (getD bytes 0 0) (take m (drop 3 bytes)) (drop m (drop 3 bytes)) = head
+            ∙ simp (le-ltb (length (drop 3 bytes)) m g) in
             let w : Whole tag n ≡ Whole (getD bytes 0 0) (length (take m (drop 3 bytes))) = e ∙ ap cutOf f in
             let tags : getD bytes 0 0 ≡ tag = cc in
             let sizes : n ≡ length (take m (drop 3 bytes)) = cc in
@@ -65,7 +66,8 @@ field-size bytes t v r e = go (decLt (length bytes) 3)
     go (yes h) = let s = head-short bytes h in let z : _≡_ {A = ℕ} 0 1 = cc in absurd (omega arith)
     go (no h) =
         let g : 3 ≤ length bytes = omega arith in
-        let parts = value-cut (getD bytes 0 0) (wide (getD bytes 1 0) (getD bytes 2 0)) (drop 3 bytes) t v r (sym (head-whole bytes g) ∙ e) in
+        let parts = value-cut (getD bytes 0 0) (wide (getD bytes 1 0) (getD bytes 2 0)) (drop 3 bytes) t v r
+        (sym (head-whole bytes g) ∙ e) in
         omega (arith, ap length (parts .2), length-append v r, length-drop 3 bytes)
 
 -- a byte of the value
@@ -100,8 +102,10 @@ length-onto xs old h = length-append xs (drop (length xs) old) ∙ omega (arith,
 pub lent-more : (xs ys old out part : List ℕ) (n : ℕ) → out ≡ onto xs old → length xs ≡ n
     → part ≡ onto ys (take (length out - n) (drop n out)) → take n out ++ (part ++ drop (length out - n) (drop n out)) ≡ onto (xs ++ ys) old
 lent-more xs ys old out part n e l p =
-    let whole : take (length out - n) (drop n out) ≡ drop n out = take-all (length out - n) (drop n out) (omega (arith, length-drop n out)) in
-    let none : drop (length out - n) (drop n out) ≡ [] = drop-of-length-le (drop n out) {i = length out - n} (omega (arith, length-drop n out)) in
+    let whole : take (length out - n) (drop n out) ≡ drop n out = take-all (length out - n) (drop n out)
+    (omega (arith, length-drop n out)) in
+    let none : drop (length out - n) (drop n out) ≡ [] = drop-of-length-le (drop n out) {i = length out - n}
+    (omega (arith, length-drop n out)) in
     ap₂ (λ (x y : List ℕ). take n out ++ (x ++ y)) (p ∙ ap (onto ys) whole) none
     ∙ ap (λ (x : List ℕ). take n out ++ x) (append-nil (onto ys (drop n out)))
     ∙ ap (λ (x : List ℕ). take n x ++ onto ys (drop n x)) e

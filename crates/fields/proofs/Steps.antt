@@ -1,4 +1,4 @@
--- What the code sees of the field at the front, and what its stores leave. Assumes nothing.
+-- What the code sees of the field at the front, and what its stores leave.
 use Prim.Native.Nat.{ℕ, suc, _+_, _-_, _/_, _%_, _≤_, _<_}
 use mathlib.Core.Path.{_≡_, refl, sym, ap, _∙_}
 use mathlib.Core.List.{List, [], _∷_}
@@ -19,7 +19,8 @@ head-short (t ∷ []) h = refl
 head-short (t ∷ a ∷ []) h = refl
 head-short (t ∷ a ∷ b ∷ bytes) h = absurd (omega arith)
 
-pub head-whole : (bytes : List ℕ) → 3 ≤ length bytes → firstField bytes ≡ cutValue (getD bytes 0 0) (wide (getD bytes 1 0) (getD bytes 2 0)) (drop 3 bytes)
+pub head-whole : (bytes : List ℕ) → 3 ≤ length bytes
+    → firstField bytes ≡ cutValue (getD bytes 0 0) (wide (getD bytes 1 0) (getD bytes 2 0)) (drop 3 bytes)
 unfolding firstField
 head-whole [] h = absurd (omega arith)
 head-whole (t ∷ []) h = absurd (omega arith)
@@ -30,12 +31,14 @@ module _ (bytes : List ℕ) where
   pub cut-head : length bytes < 3 → Short ≡ cutOf (firstField bytes)
   cut-head h = ap cutOf (sym (head-short bytes h))
 
-  pub cut-short : (n : ℕ) → 3 ≤ length bytes → n ≡ wide (getD bytes 1 0) (getD bytes 2 0) → length bytes - 3 < n → Short ≡ cutOf (firstField bytes)
+  pub cut-short : (n : ℕ) → 3 ≤ length bytes → n ≡ wide (getD bytes 1 0) (getD bytes 2 0) → length bytes - 3 < n
+      → Short ≡ cutOf (firstField bytes)
   cut-short n h e l =
       sym (ap cutOf (head-whole bytes h ∙ ap (λ (k : ℕ). cutValue (getD bytes 0 0) k (drop 3 bytes)) (sym e))
       ∙ simp (lt-ltb (length (drop 3 bytes)) n (omega (arith, length-drop 3 bytes))))
 
-  pub cut-whole : (n : ℕ) → 3 ≤ length bytes → n ≡ wide (getD bytes 1 0) (getD bytes 2 0) → n ≤ length bytes - 3 → Whole (getD bytes 0 0) n ≡ cutOf (firstField bytes)
+  pub cut-whole : (n : ℕ) → 3 ≤ length bytes → n ≡ wide (getD bytes 1 0) (getD bytes 2 0) → n ≤ length bytes - 3
+      → Whole (getD bytes 0 0) n ≡ cutOf (firstField bytes)
   cut-whole n h e l =
       let m : n ≤ length (drop 3 bytes) = omega (arith, length-drop 3 bytes) in
       sym (ap cutOf (head-whole bytes h ∙ ap (λ (k : ℕ). cutValue (getD bytes 0 0) k (drop 3 bytes)) (sym e))
@@ -61,11 +64,17 @@ module _ (tag : ℕ) (value old : List ℕ) where
   pub length-headed : length headed ≡ length old
   length-headed = length-sets old 0 (tag ∷ length value / 256 ∷ length value % 256 ∷ [])
 
-  pub put-all : length value ≤ 65535 → length value + 3 ≤ length old → (length value + 3 ≡ putSize value old) × (paste headed 3 value (length value) ≡ putField tag value old)
+  pub put-all : length value ≤ 65535 → length value + 3 ≤ length old
+      → (length value + 3 ≡ putSize value old) × (paste headed 3 value (length value) ≡ putField tag value old)
   unfolding putSize putField writeField
-  put-all h l = (simp (le-leb (length value) 65535 h, le-leb (length value + 3) (length old) l), simp (le-leb (length value) 65535 h, le-leb (length value + 3) (length old) l) (whole old (omega arith)))
+  put-all h l = (
+    simp (le-leb (length value) 65535 h, le-leb (length value + 3) (length old) l),
+    simp
+        (le-leb (length value) 65535 h, le-leb (length value + 3) (length old) l) (whole old (omega arith)),
+  )
     where
-      whole : (l : List ℕ) → 3 ≤ length l → paste (sets l 0 (tag ∷ length value / 256 ∷ length value % 256 ∷ [])) 3 value (length value) ≡ onto (tag ∷ length value / 256 ∷ length value % 256 ∷ value) l
+      whole : (l : List ℕ) → 3 ≤ length l → paste (sets l 0 (tag ∷ length value / 256 ∷ length value % 256 ∷ [])) 3 value
+          (length value) ≡ onto (tag ∷ length value / 256 ∷ length value % 256 ∷ value) l
       whole [] h = absurd (omega arith)
       whole (x ∷ []) h = absurd (omega arith)
       whole (x ∷ y ∷ []) h = absurd (omega arith)

@@ -1,5 +1,5 @@
 -- A field: a one-byte tag, a two-byte length with the high byte first, the value. It is cut off the front of the bytes and
--- written so for sheets and letters alike; proofs/Law.antt has the one law of both. Assumes nothing.
+-- written so for sheets and letters alike; proofs/Law.antt has the one law of both.
 use Prim.Native.Nat.{ℕ, _+_, _*_, _/_, _%_}
 use mathlib.Core.Bool.{Bool, true, false, _&&_}
 use mathlib.Core.List.{List, [], _∷_, _++_}

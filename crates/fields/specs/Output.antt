@@ -1,4 +1,4 @@
--- What writing to lent output gives, for sheets and letters alike. Assumes nothing.
+-- What writing to lent output gives, for sheets and letters alike.
 use Prim.Native.Nat.{ℕ}
 use mathlib.Core.List.{List, [], _∷_}
 use lib.Dec.{ltb}

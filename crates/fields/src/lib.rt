@@ -10,10 +10,12 @@ pub enum Cut {
     Whole { tag: u8, length: usize },
 }
 
-fn two_bytes(high: u8, low: u8) -> usize
+// A number of two bytes, the high one first.
+// Promise: equals `Fields.wide`: 256 times the high byte and the low one.
+pub fn two_bytes(high: u8, low: u8) -> u16
     ensures { λ r. ⌜ r ≡ wide high low ⌝ }
 {
-    (high as usize) * 256 + (low as usize)
+    (high as u16) * 256 + (low as u16)
 }
 
 // Cuts one field off the front.
@@ -24,7 +26,7 @@ pub fn cut_first(bytes: &[u8]) -> Cut
     if bytes.len() < 3 {
         return Cut::Short;
     }
-    let length = two_bytes(bytes[1], bytes[2]);
+    let length = two_bytes(bytes[1], bytes[2]) as usize;
     if bytes.len() - 3 < length {
         return Cut::Short;
     }

@@ -1,4 +1,4 @@
--- Hexadecimal lines on both sides of each edge, computed from the definitions. Assumes nothing.
+-- Hexadecimal lines on both sides of each edge, computed from the definitions.
 use mathlib.Core.Path.{_≡_, refl}
 use mathlib.Core.List.{[], _∷_, map}
 use lib.ListN.{replicate}

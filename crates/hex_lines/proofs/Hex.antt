@@ -1,4 +1,4 @@
--- The bytes of a hexadecimal line, one after the other, give what specs/Hex.antt says of the whole line. Assumes nothing.
+-- The bytes of a hexadecimal line, one after the other, give what specs/Hex.antt says of the whole line.
 use Prim.Native.Nat.{ℕ, suc, _+_, _*_, _/_, _%_, _≤_, _<_}
 use mathlib.Core.Bool.{Bool, true, false, _&&_}
 use mathlib.Core.Path.{_≡_, refl, sym, ap, _∙_}
@@ -58,7 +58,8 @@ given n h room bytes =
 abbrev at : ℕ → ℕ → List ℕ → HexReading
 at n h room = record { count = n; high = h; bytes = room }
 
-says-if : (t : Bool) (k : ℕ) (room : List ℕ) → hexSays (if t then Bytes k else NotHex) room ≡ (if t then octets (take k room) else malformed)
+says-if : (t : Bool) (k : ℕ) (room : List ℕ)
+    → hexSays (if t then Bytes k else NotHex) room ≡ (if t then octets (take k room) else malformed)
 says-if true k room = refl
 says-if false k room = refl
 
@@ -114,7 +115,8 @@ module _ (n h : ℕ) (room : List ℕ) (b : ℕ) where
   unfolding readHex withHex
   on-first l m e = simp (lt-ltb (hexValue b) 16 l, lt-ltb n 64 m, eq-eqb (n % 2) 0 e)
 
-  on-second : hexValue b < 16 → n < 64 → (n % 2 ≡ 0 → ⊥) → readHex (at n h room) b ≡ at (n + 1) 0 (set room (n / 2) (h % 16 * 16 + hexValue b))
+  on-second : hexValue b < 16 → n < 64 → (n % 2 ≡ 0 → ⊥)
+      → readHex (at n h room) b ≡ at (n + 1) 0 (set room (n / 2) (h % 16 * 16 + hexValue b))
   unfolding readHex withHex
   on-second l m e = simp (lt-ltb (hexValue b) 16 l, lt-ltb n 64 m, ne-eqb (n % 2) 0 e)
 
@@ -122,28 +124,31 @@ module _ (n h : ℕ) (room : List ℕ) (b : ℕ) where
 abbrev Rest : List ℕ → Type 0
 Rest bytes = (n h : ℕ) (room : List ℕ) → n ≤ 64 → h < 16 → length room ≡ 32 → says (fedHex (at n h room) bytes) ≡ given n h room bytes
 
-module _ (b : ℕ) (bytes : List ℕ) (behind : Rest bytes) (n h : ℕ) (room : List ℕ) (l : n ≤ 64) (small : h < 16) (full : length room ≡ 32) where
-  abbrev Now : Type 0
-  Now = says (fedHex (readHex (at n h room) b) bytes) ≡ given n h room (b ∷ bytes)
+module _ (b : ℕ) (bytes : List ℕ) (behind : Rest bytes) (n h : ℕ) (room : List ℕ) (l : n ≤ 64) (small : h < 16) (full : length room ≡ 32)
+  where
+    abbrev Now : Type 0
+    Now = says (fedHex (readHex (at n h room) b) bytes) ≡ given n h room (b ∷ bytes)
 
-  -- a byte that spoils the line
-  over : readHex (at n h room) b ≡ at 65 0 room → given n h room (b ∷ bytes) ≡ malformed → Now
-  over e w = ap (λ (x : HexReading). says (fedHex x bytes)) e ∙ beyond-end bytes (at 65 0 room) (omega arith) ∙ sym w
+    -- a byte that spoils the line
+    over : readHex (at n h room) b ≡ at 65 0 room → given n h room (b ∷ bytes) ≡ malformed → Now
+    over e w = ap (λ (x : HexReading). says (fedHex x bytes)) e ∙ beyond-end bytes (at 65 0 room) (omega arith) ∙ sym w
 
-  byte : Dec (hexValue b < 16) → Dec (n < 64) → Dec (n % 2 ≡ 0) → Now
-  byte (no x) y z = over (on-no n h room b (omega arith)) (given-no n h room b bytes (omega arith))
-  byte (yes x) (no y) z = over (on-long n h room b x (omega arith)) (given-long n h room b bytes (omega arith))
-  byte (yes x) (yes y) (yes z) =
-      ap (λ (r : HexReading). says (fedHex r bytes)) (on-first n h room b x y z)
-      ∙ behind (n + 1) (hexValue b) room (omega arith) x full ∙ given-first n h room b bytes x z
-  byte (yes x) (yes y) (no z) =
-      ap (λ (r : HexReading). says (fedHex r bytes)) (on-second n h room b x y z)
-      ∙ behind (n + 1) 0 (set room (n / 2) (h % 16 * 16 + hexValue b)) (omega arith) (omega arith) (length-set room (n / 2) (h % 16 * 16 + hexValue b) ∙ full)
-      ∙ given-second n h room b bytes x small full y (omega arith)
+    byte : Dec (hexValue b < 16) → Dec (n < 64) → Dec (n % 2 ≡ 0) → Now
+    byte (no x) y z = over (on-no n h room b (omega arith)) (given-no n h room b bytes (omega arith))
+    byte (yes x) (no y) z = over (on-long n h room b x (omega arith)) (given-long n h room b bytes (omega arith))
+    byte (yes x) (yes y) (yes z) =
+        ap (λ (r : HexReading). says (fedHex r bytes)) (on-first n h room b x y z)
+        ∙ behind (n + 1) (hexValue b) room (omega arith) x full ∙ given-first n h room b bytes x z
+    byte (yes x) (yes y) (no z) =
+        ap (λ (r : HexReading). says (fedHex r bytes)) (on-second n h room b x y z)
+        ∙ behind (n + 1) 0 (set room (n / 2) (h % 16 * 16 + hexValue b)) (omega arith) (omega arith)
+        (length-set room (n / 2) (h % 16 * 16 + hexValue b) ∙ full)
+        ∙ given-second n h room b bytes x small full y (omega arith)
 
 rest : (bytes : List ℕ) → Rest bytes
 rest [] n h room l small full = given-end n h room l
-rest (b ∷ bytes) n h room l small full = byte b bytes (rest bytes) n h room l small full (decLt (hexValue b) 16) (decLt n 64) (ℕ-discrete (n % 2) 0)
+rest (b ∷ bytes) n h room l small full =
+    byte b bytes (rest bytes) n h room l small full (decLt (hexValue b) 16) (decLt n 64) (ℕ-discrete (n % 2) 0)
 
 -- the law: all bytes of a line from the start, and its end
 pub read-hex-line : (bytes : List ℕ) → hexSays (hexEnd (fedHex hexStart bytes)) (fedHex hexStart bytes .bytes) ≡ hexLine bytes

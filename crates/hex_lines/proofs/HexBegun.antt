@@ -26,4 +26,5 @@ hex-digit-begins r d =
 
 pub hex-begins : (r : HexReading) (b : ℕ) → isHexBegun (readHex r b) ≡ true
 unfolding readHex
-hex-begins r b = if-elim HexBegun (isHex b) (λ t. if-elim HexBegun (ltb (r .count) 64) (λ u. hex-digit-begins r (hexValue b)) (λ u. refl)) (λ t. refl)
+hex-begins r b =
+    if-elim HexBegun (isHex b) (λ t. if-elim HexBegun (ltb (r .count) 64) (λ u. hex-digit-begins r (hexValue b)) (λ u. refl)) (λ t. refl)

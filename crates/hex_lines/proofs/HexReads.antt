@@ -1,4 +1,4 @@
--- What each way out of the functions on hexadecimal lines gives. Assumes nothing.
+-- What each way out of the functions on hexadecimal lines gives.
 use Prim.Native.Nat.{ℕ, _-_, _≤_, _<_}
 use mathlib.Core.Path.{_≡_, ap, _∙_}
 use native.Mathlib.Omega.{arith}

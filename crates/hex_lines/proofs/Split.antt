@@ -1,4 +1,4 @@
--- The reader of hexadecimal lines takes the bytes of a text one by one and answers for each of its lines, in order. Assumes nothing.
+-- The reader of hexadecimal lines takes the bytes of a text one by one and answers for each of its lines, in order.
 use Prim.Native.Nat.{ℕ}
 use mathlib.Core.Bool.{false}
 use mathlib.Core.Path.{_≡_, refl}

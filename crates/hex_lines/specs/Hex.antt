@@ -1,5 +1,5 @@
 -- Lines of hexadecimal digits: digits of either case, an even number of them, at most 64; the empty line is no bytes. A line is the
--- list of its bytes, without its newline. Assumes nothing.
+-- list of its bytes, without its newline.
 use Prim.Native.Nat.{ℕ, _+_, _-_, _*_, _%_}
 use mathlib.Core.Bool.{Bool, _&&_}
 use mathlib.Core.List.{List, [], _∷_}

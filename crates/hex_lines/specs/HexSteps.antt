@@ -1,5 +1,5 @@
 -- What the code answers of hexadecimal lines, byte by byte, for every reading. proofs/Hex.antt says that the bytes of a line, one
--- after the other, give what specs/Hex.antt says of the whole line. Assumes nothing.
+-- after the other, give what specs/Hex.antt says of the whole line.
 use Prim.Native.Nat.{ℕ, _+_, _*_, _/_, _%_}
 use mathlib.Core.List.{List, [], _∷_}
 use lib.Dec.{leb, ltb}

@@ -1,7 +1,7 @@
 -- From the definitions to a run of calls. Whatever the state of the calls is, if each call is one step of the world that its state
 -- means, and the three counts that it answers are the step's, then what holds of histories holds of runs of calls: the counts added
 -- up are the history's, and the settled ones meet the bound, at every state on the way. Calls that are lent a tally instead: the
--- tally after them is the one lent with the history's counts added. Assumes nothing.
+-- tally after them is the one lent with the history's counts added.
 use Prim.Native.Nat.{ℕ, _+_, _≤_, _<_}
 use mathlib.Core.Path.{_≡_, refl, sym, ap, ap₂, _∙_, subst⁻¹}
 use mathlib.Core.List.{List, [], _∷_, _++_}
@@ -88,22 +88,35 @@ module _ {S : Type 0} (worldOf : S → World) (Call : S → Event → S → Tall
       pub none-passes : {t : S} {ds : List Event} {m : Tally} → Comes r ds m t
           → (i j : ℕ) → i < worldOf s .net .stations → counter (holdingAt (worldOf t) i) j ≤ highest (worldOf s) j
 
-    pub calls-die-out : {s u : S} {es : List Event} {n : Tally} → Fit s → T (wellFormed (worldOf s)) → T (onlyNotices (worldOf s) es) → (r : Calls s es n u) → CallsDieOut r
+    pub calls-die-out : {s u : S} {es : List Event} {n : Tally} → Fit s → T (wellFormed (worldOf s)) → T (onlyNotices (worldOf s) es)
+        → (r : Calls s es n u) → CallsDieOut r
     calls-die-out {s} {u} {es} {n} f t o r =
         let d = flood-of-notices-dies-out (worldOf s) es t o in
         record {
-          settled = λ {ds = ds} p. omega (arith, d .settled ds (comes-begins p), ap (λ (x : Tally). x .settled) (calls-counts f (comes-by-calls p)));
-          no-counter-falls = λ {v = v} ds fs p q i j. subst⁻¹ (λ (w : World). counter (holdingAt w i) j ≤ counter (holdingAt (worldOf v) i) j) (calls-world f (comes-by-calls p))
-              (subst⁻¹ (λ (w : World). counter (holdingAt (run (worldOf s) ds) i) j ≤ counter (holdingAt w i) j) (calls-world f (comes-by-calls q))
+          settled =
+              λ {ds = ds} p. omega (
+                arith,
+                d .settled ds (comes-begins p),
+                ap (λ (x : Tally). x .settled)
+                    (calls-counts f (comes-by-calls p)),
+              );
+          no-counter-falls =
+              λ {v = v} ds fs p q i j. subst⁻¹ (λ (w : World). counter (holdingAt w i) j ≤ counter (holdingAt (worldOf v) i) j)
+              (calls-world f (comes-by-calls p))
+              (subst⁻¹ (λ (w : World). counter (holdingAt (run (worldOf s) ds) i) j ≤ counter (holdingAt w i) j)
+              (calls-world f (comes-by-calls q))
               (d .no-counter-falls ds fs (comes-begins q) i j));
-          none-passes = λ {ds = ds} p i j h. subst⁻¹ (λ (w : World). counter (holdingAt w i) j ≤ highest (worldOf s) j) (calls-world f (comes-by-calls p)) (d .none-passes ds (comes-begins p) i j h);
+          none-passes =
+              λ {ds = ds} p i j h. subst⁻¹ (λ (w : World). counter (holdingAt w i) j ≤ highest (worldOf s) j)
+              (calls-world f (comes-by-calls p)) (d .none-passes ds (comes-begins p) i j h);
         }
 
     -- conservation for a run of calls from a freshly read sheet
     pub calls-conserve : {s u : S} {es : List Event} {n : Tally} (net : Network) → Fit s → worldOf s ≡ fresh net → Calls s es n u
         → everSent (fresh net) es ≡ everDelivered (fresh net) es + everLost (fresh net) es + length (worldOf u .letters)
     calls-conserve {es = es} net f e r =
-        letters-conserved net es ∙ ap (λ (w : World). everDelivered (fresh net) es + everLost (fresh net) es + length (w .letters)) (sym (calls-world f r ∙ ap (λ (w : World). run w es) e))
+        letters-conserved net es ∙ ap (λ (w : World). everDelivered (fresh net) es + everLost (fresh net) es + length (w .letters))
+        (sym (calls-world f r ∙ ap (λ (w : World). run w es) e))
 
 -- one call from the state s for the event e, lent the tally x, handed back the state t and left y in the tally
 module _ {S : Type 0} (worldOf : S → World) (Lent : S → Tally → Event → S → Tally → Type 0) where
@@ -117,7 +130,8 @@ module _ {S : Type 0} (worldOf : S → World) (Lent : S → Tally → Event → 
     pub world : worldOf t ≡ next (worldOf s) e
     pub tally : y ≡ tallyBy (step (worldOf s) e) x (acceptedCounts (worldOf s) e)
 
-  module _ (Fit : S → Type 0) (promise : (s : S) (x : Tally) (e : Event) (t : S) (y : Tally) → Fit s → Lent s x e t y → IsLentStep Fit s x e t y) where
+  module _ (Fit : S → Type 0) (promise : (s : S) (x : Tally) (e : Event) (t : S) (y : Tally) → Fit s → Lent s x e t y
+      → IsLentStep Fit s x e t y) where
     lent-after : {s u : S} {x y : Tally} {es : List Event} → Fit s → LentCalls s x es u y → y ≡ tallyAfter x (worldOf s) es
     unfolding tallyAfter
     lent-after f none = refl

@@ -1,6 +1,6 @@
 -- P1 to P13 of document 01, and its own sample run, as one table with a single claim: each row has its number, what was got and what
 -- was wanted. From P6 on every world is the line 0-1-2 with link 0 between 0 and 1 and link 1 between 1 and 2. antt computes both
--- sides. Assumes nothing.
+-- sides.
 use Prim.Native.Nat.{ℕ, _+_}
 use mathlib.Core.Bool.{Bool, true, false}
 use mathlib.Core.Path.{_≡_, refl, ap₂}
@@ -111,7 +111,8 @@ flood = event 7 0 0 ∷ event 7 0 0 ∷ []
 floods : List ℕ
 unfolding flooded flood line live event wellFormed holdingHolds letterHolds refusal exists concerned rule comes comesTo dueOf left after fits step answer doneBy ownLinks run total onlyNotices highest distance share bound
 floods =
-    bit (wellFormed flooded) ∷ bit (onlyNotices flooded flood) ∷ bound flooded ∷ everSettled flooded flood ∷ length (run flooded flood .letters)
+    bit (wellFormed flooded) ∷ bit (onlyNotices flooded flood) ∷ bound flooded ∷ everSettled flooded flood ∷ length
+    (run flooded flood .letters)
     ∷ collect (λ s. holdingAt (run flooded flood) s .table) (below 3)
 
 -- ---- document 01's own run: for each event the answer, letters in flight, notices settled so far; at the end each station's
@@ -136,7 +137,9 @@ reading =
     record {
       number = 0;
       got = sampleRun;
-      want = (0 ∷ 0 ∷ 0 ∷ []) ++ (0 ∷ 0 ∷ 0 ∷ []) ++ (0 ∷ 1 ∷ 0 ∷ []) ++ (0 ∷ 2 ∷ 0 ∷ []) ++ (0 ∷ 1 ∷ 0 ∷ []) ++ (0 ∷ 1 ∷ 0 ∷ []) ++ (0 ∷ 1 ∷ 0 ∷ [])
+      want =
+          (0 ∷ 0 ∷ 0 ∷ []) ++ (0 ∷ 0 ∷ 0 ∷ []) ++ (0 ∷ 1 ∷ 0 ∷ []) ++ (0 ∷ 2 ∷ 0 ∷ []) ++ (0 ∷ 1 ∷ 0 ∷ []) ++ (0 ∷ 1 ∷ 0 ∷ []) ++ (0 ∷ 1 ∷
+          0 ∷ [])
           ++ (0 ∷ 0 ∷ 1 ∷ []) ++ (6 ∷ 0 ∷ 1 ∷ []) ++ (0 ∷ 2 ∷ []) ++ (1 ∷ 2 ∷ []);
     }
     -- P1 the sheet of 01 gives 2 stations, 1 link
@@ -162,10 +165,16 @@ standing =
     ∷ record {
       number = 7;
       got = gets true 7 4 (Reply 1);
-      want = (1 ∷ 0 ∷ 8 ∷ 4 ∷ []) ++ (0 ∷ 1 ∷ 35 ∷ 0 ∷ 8 ∷ []) ++ (1 ∷ 1 ∷ 35 ∷ 0 ∷ 8 ∷ []) ++ (0 ∷ 1 ∷ 35 ∷ 1 ∷ 4 ∷ []) ++ (1 ∷ 1 ∷ 35 ∷ 1 ∷ 4 ∷ []);
+      want =
+          (1 ∷ 0 ∷ 8 ∷ 4 ∷ []) ++ (0 ∷ 1 ∷ 35 ∷ 0 ∷ 8 ∷ []) ++ (1 ∷ 1 ∷ 35 ∷ 0 ∷ 8 ∷ []) ++ (0 ∷ 1 ∷ 35 ∷ 1 ∷ 4 ∷ []) ++ (1 ∷ 1 ∷ 35 ∷ 1 ∷
+          4 ∷ []);
     }
     -- P8 own 6, carried 8: 8, this link alone sent
-    ∷ record { number = 8; got = gets true 6 4 (Reply 8); want = (1 ∷ 0 ∷ 8 ∷ 4 ∷ []) ++ (0 ∷ 1 ∷ 35 ∷ 0 ∷ 8 ∷ []) ++ (1 ∷ 1 ∷ 35 ∷ 0 ∷ 8 ∷ []) }
+    ∷ record {
+      number = 8;
+      got = gets true 6 4 (Reply 8);
+      want = (1 ∷ 0 ∷ 8 ∷ 4 ∷ []) ++ (0 ∷ 1 ∷ 35 ∷ 0 ∷ 8 ∷ []) ++ (1 ∷ 1 ∷ 35 ∷ 0 ∷ 8 ∷ []);
+    }
     -- P9 own 65,533, carried 1: 65,534; own 65,535: refusal 8, and the reply is still there
     ∷ record {
       number = 9;
@@ -218,7 +227,14 @@ bound-is-met = refl
 -- ---- the edge of 9: with 4,095 letters in flight a request may still be sent, with 4,096 no more
 crowded : ℕ → World
 unfolding line live
-crowded n = record { net = line; holdings = live false 1 1 ∷ record { condition = Live; table = 1 ∷ 1 ∷ []; marks = setToken true noMarks ∷ noMarks ∷ [] } ∷ live false 1 1 ∷ []; letters = replicate n (letter 0 0 Request) }
+crowded n =
+    record {
+      net = line;
+      holdings = live false 1 1 ∷ record
+          { condition = Live; table = 1 ∷ 1 ∷ []; marks = setToken true noMarks ∷ noMarks ∷ [] } ∷ live false 1 1 ∷ [];
+      letters = replicate n
+          (letter 0 0 Request);
+    }
 
 pub edge : ℕ → List ℕ
 unfolding crowded line live event wellFormed holdingHolds letterHolds refusal exists concerned rule comes comesTo dueOf left after fits step doneBy

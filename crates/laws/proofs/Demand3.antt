@@ -1,4 +1,4 @@
--- DEMAND 3. A FLOOD OF NOTICES DIES OUT, for document 01's machine. Assumes nothing.
+-- DEMAND 3. A FLOOD OF NOTICES DIES OUT, for document 01's machine.
 use Prim.Native.Nat.{ℕ, _+_, _*_, _-_, _≤_, _<_, max}
 use mathlib.Core.Bool.{Bool, true, false, _&&_}
 use mathlib.Core.Path.{_≡_, refl, sym, ap, ap₂, _∙_, subst, subst⁻¹}
@@ -111,12 +111,14 @@ notices-count net (x ∷ xs) = go (x .body) (notices-count net xs)
     go (Reply c) e = omega arith
     go (Notice j c) e = omega arith
 
-notices-highest : (net : Network) (k : ℕ) (xs : List Letter) → largestOf (B.carried k) (collect (notice net) xs) ≡ largestOf (λ x. carried k (x .body)) xs
+notices-highest : (net : Network) (k : ℕ) (xs : List Letter)
+    → largestOf (B.carried k) (collect (notice net) xs) ≡ largestOf (λ x. carried k (x .body)) xs
 notices-highest net k [] = refl
 notices-highest net k (x ∷ xs) = go (x .body) (notices-highest net k xs)
   where
     go : (b : Body) → largestOf (B.carried k) (collect (notice net) xs) ≡ largestOf (λ x. carried k (x .body)) xs
-        → largestOf (B.carried k) (noticeOf net (x .link) (x .sender) b ++ collect (notice net) xs) ≡ max (carried k b) (largestOf (λ x. carried k (x .body)) xs)
+        → largestOf (B.carried k) (noticeOf net (x .link) (x .sender) b ++ collect (notice net) xs) ≡ max (carried k b)
+        (largestOf (λ x. carried k (x .body)) xs)
     go Request e = omega arith
     go (Reply c) e = omega arith
     go (Notice j c) e = ap (λ (n : ℕ). max (if eqb j k then c else 0) n) e
@@ -124,17 +126,22 @@ notices-highest net k (x ∷ xs) = go (x .body) (notices-highest net k xs)
 module _ (w : World) where
   highest-is : (k : ℕ) → B.highest (siteOf w) (floodOf w) k ≡ highest w k
   unfolding highest B.highest
-  highest-is k = ap (λ (n : ℕ). max (largestOf (λ s. counter (holdingAt w s) k) (below (w .net .stations))) n) (notices-highest (w .net) k (w .letters))
+  highest-is k =
+      ap (λ (n : ℕ). max (largestOf (λ s. counter (holdingAt w s) k) (below (w .net .stations))) n)
+      (notices-highest (w .net) k (w .letters))
 
   distance-is : (s : ℕ) → B.distance (siteOf w) (B.highest (siteOf w) (floodOf w)) (floodOf w) s ≡ distance w (holdingAt w s)
   unfolding distance B.distance
   distance-is s =
-      sum-same (λ k. B.highest (siteOf w) (floodOf w) k - counter (holdingAt w s) k) (λ k. highest w k - counter (holdingAt w s) k) (below (length (w .net .links)))
+      sum-same (λ k. B.highest (siteOf w) (floodOf w) k - counter (holdingAt w s) k) (λ k. highest w k - counter (holdingAt w s) k)
+      (below (length (w .net .links)))
       (λ k. ap (λ (n : ℕ). n - counter (holdingAt w s) k) (highest-is k))
 
   share-is : (s : ℕ) → B.share (siteOf w) (B.highest (siteOf w) (floodOf w)) (floodOf w) s ≡ share w s
   unfolding share B.share
-  share-is s = ap (λ (n : ℕ). weightIn w s * n) (distance-is s) ∙ by-condition (isLive (holdingAt w s .condition)) (length (neighbours (w .net) s) - 1) (distance w (holdingAt w s))
+  share-is s =
+      ap (λ (n : ℕ). weightIn w s * n) (distance-is s)
+      ∙ by-condition (isLive (holdingAt w s .condition)) (length (neighbours (w .net) s) - 1) (distance w (holdingAt w s))
     where
       by-condition : (b : Bool) (d x : ℕ) → (if b then d else 0) * x ≡ (if b then d * x else 0)
       by-condition true d x = refl
@@ -147,13 +154,15 @@ module _ (w : World) where
       (sum-same (B.share (siteOf w) (B.highest (siteOf w) (floodOf w)) (floodOf w)) (share w) (below (w .net .stations)) share-is)
 
   at-start : Formed w → Fits (siteOf w) w
-  at-start ok = record { ok = ok; stations = refl; links = refl; heavy = λ s t. rw (T-is (isLive (holdingAt w s .condition)) t) (le-refl _) }
+  at-start ok =
+      record { ok = ok; stations = refl; links = refl; heavy = λ s t. rw (T-is (isLive (holdingAt w s .condition)) t) (le-refl _) }
 
 -- A live station without neighbours adds nothing.
 pub alone-adds-nothing : (w : World) (s : ℕ) → T (isLive (holdingAt w s .condition)) → neighbours (w .net) s ≡ [] → share w s ≡ 0
 unfolding share
 alone-adds-nothing w s t e =
-    ap₂ (λ (b : Bool) (ns : List ℕ). if b then (length ns - 1) * distance w (holdingAt w s) else 0) (T-is (isLive (holdingAt w s .condition)) t) e
+    ap₂ (λ (b : Bool) (ns : List ℕ). if b then (length ns - 1) * distance w (holdingAt w s) else 0)
+    (T-is (isLive (holdingAt w s .condition)) t) e
     ∙ zero-mul (distance w (holdingAt w s))
 
 -- What is claimed of a history es from the world w, at every moment of it: after its first events ds, however many they are.
@@ -162,7 +171,8 @@ pub record DiesOut (w : World) (es : List Event) : Type 0 where
   -- neighbours less one, times the sum over all links of how far its counter lies below the highest one for that link
   pub settled : (ds : List Event) → Begins ds es → everSettled w ds ≤ bound w
   -- from any moment to any later one
-  pub no-counter-falls : (ds fs : List Event) → Begins (ds ++ fs) es → (s k : ℕ) → counter (holdingAt (run w ds) s) k ≤ counter (holdingAt (run w (ds ++ fs)) s) k
+  pub no-counter-falls : (ds fs : List Event) → Begins (ds ++ fs) es → (s k : ℕ)
+      → counter (holdingAt (run w ds) s) k ≤ counter (holdingAt (run w (ds ++ fs)) s) k
   -- the highest one in any table or notice in flight at the start
   pub none-passes : (ds : List Event) → Begins ds es → (s k : ℕ) → s < w .net .stations → counter (holdingAt (run w ds) s) k ≤ highest w k
 
@@ -182,18 +192,25 @@ pub flood-of-notices-dies-out : (w : World) (es : List Event) → T (wellFormed 
 flood-of-notices-dies-out w es t o =
     record {
       settled = λ ds b. omega (arith, so-far ds (only ds b) .settled, settled-is-length w ds (only ds b), bound-is w);
-      no-counter-falls = λ ds fs b s k. subst⁻¹ (λ (v : World). counter (holdingAt (run w ds) s) k ≤ counter (holdingAt v s) k) (run-append w ds fs) (later ds fs (only (ds ++ fs) b) .no-rank-falls s k);
-      none-passes = λ ds b s k h. subst (λ (n : ℕ). counter (holdingAt (run w ds) s) k ≤ n) (highest-is w k) (so-far ds (only ds b) .none-passes s k h);
+      no-counter-falls =
+          λ ds fs b s k. subst⁻¹ (λ (v : World). counter (holdingAt (run w ds) s) k ≤ counter (holdingAt v s) k) (run-append w ds fs)
+          (later ds fs (only (ds ++ fs) b) .no-rank-falls s k);
+      none-passes =
+          λ ds b s k h. subst (λ (n : ℕ). counter (holdingAt (run w ds) s) k ≤ n) (highest-is w k)
+          (so-far ds (only ds b) .none-passes s k h);
     }
   where
     only : (ds : List Event) → Begins ds es → T (onlyNotices w ds)
     only ds b = begins-only w ds (b .rest) (subst⁻¹ (λ (l : List Event). T (onlyNotices w l)) (b .whole) o)
 
-    from-start : (ds : List Event) → T (onlyNotices w ds) → Run (siteOf w) (floodOf w) (length ds) (floodOf (run w ds)) × Fits (siteOf w) (run w ds)
+    from-start : (ds : List Event) → T (onlyNotices w ds)
+        → Run (siteOf w) (floodOf w) (length ds) (floodOf (run w ds)) × Fits (siteOf w) (run w ds)
     from-start ds p = runs (siteOf w) w ds (at-start w (formed w t)) p
 
     so-far : (ds : List Event) → T (onlyNotices w ds) → B.DiesOut (siteOf w) (floodOf w) (length ds) (floodOf (run w ds))
     so-far ds p = flood-dies-out (siteOf w) (from-start ds p .0)
 
-    later : (ds fs : List Event) → T (onlyNotices w (ds ++ fs)) → B.DiesOut (siteOf w) (floodOf (run w ds)) (length fs) (floodOf (run (run w ds) fs))
-    later ds fs p = flood-dies-out (siteOf w) (runs (siteOf w) (run w ds) fs (from-start ds (begins-only w ds fs p) .1) (follows-only w ds fs p) .0)
+    later : (ds fs : List Event) → T (onlyNotices w (ds ++ fs))
+        → B.DiesOut (siteOf w) (floodOf (run w ds)) (length fs) (floodOf (run (run w ds) fs))
+    later ds fs p =
+        flood-dies-out (siteOf w) (runs (siteOf w) (run w ds) fs (from-start ds (begins-only w ds fs p) .1) (follows-only w ds fs p) .0)

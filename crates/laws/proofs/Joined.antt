@@ -1,5 +1,5 @@
 -- The demands of the code: a run of calls of the network's step, from a state that is well formed or from a freshly read sheet.
--- One call is what the step promises and nothing else: its answer is `steppedOf` of what it was given. Assumes nothing.
+-- One call is what the step promises and nothing else: its answer is `steppedOf` of what it was given.
 use Prim.Native.Nat.{_+_}
 use mathlib.Core.Path.{_≡_, sym, ap, _∙_, subst, subst⁻¹}
 use mathlib.Core.List.{List}
@@ -90,7 +90,8 @@ module _ (net : Net) (h : T (netHolds net)) (d : Ends64 net) where
 
   -- CONSERVATION OF THE CODE: letters ever sent, counted from the events, equal those delivered, lost and in flight.
   pub letters-conserved : {u : State} {es : List Event} {n : Tally} → Calls first es n u
-      → everSent (fresh (networkOf net)) es ≡ everDelivered (fresh (networkOf net)) es + everLost (fresh (networkOf net)) es + length (worldOf u .letters)
+      → everSent (fresh (networkOf net)) es ≡ everDelivered (fresh (networkOf net)) es + everLost (fresh (networkOf net)) es + length
+      (worldOf u .letters)
   letters-conserved r = C.calls-conserve worldOf Call Good one-step (networkOf net) first-good (first-means net h) r
 
 -- ---- a well-formed state is determined by what it means

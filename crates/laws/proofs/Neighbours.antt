@@ -1,6 +1,6 @@
 -- A station has as many neighbours, counted as stations, as own links: in a network that keeps the sheet rules each own link joins it
 -- to one station, and no two of them to the same. The pairs of a link and a station that it joins to s are counted by links and by
--- stations. Assumes nothing.
+-- stations.
 use Prim.Native.Nat.{ℕ, _+_, _<_}
 use mathlib.Core.Bool.{Bool, true, false, _&&_, _||_}
 use mathlib.Core.Path.{_≡_, refl, sym, ap, _∙_, subst, subst⁻¹}
@@ -27,7 +27,8 @@ module _ {A : Type 0} where
   kept-sum p [] = refl
   kept-sum p (x ∷ xs) = go (p x) (kept-sum p xs)
     where
-      go : (b : Bool) → length (keep p xs) ≡ sumOf (λ y. bit (p y)) xs → length (if b then (x ∷ keep p xs) else keep p xs) ≡ bit b + sumOf (λ y. bit (p y)) xs
+      go : (b : Bool) → length (keep p xs) ≡ sumOf (λ y. bit (p y)) xs
+          → length (if b then (x ∷ keep p xs) else keep p xs) ≡ bit b + sumOf (λ y. bit (p y)) xs
       go true e = omega arith
       go false e = omega arith
 
@@ -52,7 +53,8 @@ no-bit true h = absurd (h tt)
 no-bit false h = refl
 
 -- at most one of the numbers below n passes the test: their sum says whether one does
-bit-sum : (p : ℕ → Bool) (n : ℕ) → ((i j : ℕ) → i < n → j < n → T (p i) → T (p j) → i ≡ j) → sumOf (λ j. bit (p j)) (below n) ≡ bit (any p (below n))
+bit-sum : (p : ℕ → Bool) (n : ℕ) → ((i j : ℕ) → i < n → j < n → T (p i) → T (p j) → i ≡ j)
+    → sumOf (λ j. bit (p j)) (below n) ≡ bit (any p (below n))
 bit-sum p n one = go (any p (below n)) refl
   where
     go : (b : Bool) → any p (below n) ≡ b → sumOf (λ j. bit (p j)) (below n) ≡ bit b
@@ -60,7 +62,8 @@ bit-sum p n one = go (any p (below n)) refl
         let a = any-out p n 0 (subst⁻¹ T e tt) in
         let l : a .0 < n = omega (arith, a .2) in
         sum-only (λ j. bit (p j)) n (a .0) l (λ j h z. no-bit (p j) (λ t. z (one j (a .0) h l t (a .3)))) ∙ ap bit (T-is (p (a .0)) (a .3))
-    go false e = sum-none (λ j. bit (p j)) n (λ j h. no-bit (p j) (λ t. subst T e (any-in p n 0 j h (subst⁻¹ (λ (x : ℕ). T (p x)) (omega arith) t))))
+    go false e =
+        sum-none (λ j. bit (p j)) n (λ j h. no-bit (p j) (λ t. subst T e (any-in p n 0 j h (subst⁻¹ (λ (x : ℕ). T (p x)) (omega arith) t))))
 
 -- ---- the link k joins s to one station: to its other end
 module _ (net : Network) (ok : T (sheetHolds net)) (s : ℕ) where
@@ -114,10 +117,12 @@ module _ (net : Network) (ok : T (sheetHolds net)) (s : ℕ) where
       bit-sum (ties net k s) (net .stations) (λ i j p q a b. ties-joins k i l a .to ∙ sym (ties-joins k j l b .to))
       ∙ ap bit (same-test (any (ties net k s) (below (net .stations))) (isEnd net k s)
       (λ t. let a = any-out (ties net k s) (net .stations) 0 t in ties-joins k (a .0) l (a .3) .own)
-      (λ t. any-in (ties net k s) (net .stations) 0 (other net k s) (other-real net ok k l s) (subst⁻¹ (λ (x : ℕ). T (ties net k s x)) (omega arith) (other-ties k t))))
+      (λ t. any-in (ties net k s) (net .stations) 0 (other net k s) (other-real net ok k l s)
+      (subst⁻¹ (λ (x : ℕ). T (ties net k s x)) (omega arith) (other-ties k t))))
 
   -- and a neighbour gives one pair, since no two links lead to the same
-  by-station : (t : ℕ) → sumOf (λ k. bit (ties net k s t)) (below (length (net .links))) ≡ bit (any (λ k. ties net k s t) (below (length (net .links))))
+  by-station : (t : ℕ) → sumOf (λ k. bit (ties net k s t)) (below (length (net .links))) ≡ bit
+      (any (λ k. ties net k s t) (below (length (net .links))))
   by-station t =
       bit-sum (λ k. ties net k s t) (length (net .links)) (λ i j p q a b.
       let x = ties-joins i t p a in
@@ -128,7 +133,8 @@ module _ (net : Network) (ok : T (sheetHolds net)) (s : ℕ) where
   pub neighbours-count : length (neighbours net s) ≡ length (own net s)
   neighbours-count =
       kept-sum (λ t. any (λ k. ties net k s t) (below (length (net .links)))) (below (net .stations))
-      ∙ sum-alike (λ t. bit (any (λ k. ties net k s t) (below (length (net .links))))) (λ t. sumOf (λ k. bit (ties net k s t)) (below (length (net .links)))) (net .stations) (λ t p. sym (by-station t))
+      ∙ sum-alike (λ t. bit (any (λ k. ties net k s t) (below (length (net .links)))))
+      (λ t. sumOf (λ k. bit (ties net k s t)) (below (length (net .links)))) (net .stations) (λ t p. sym (by-station t))
       ∙ sym (sum-swap (λ k t. bit (ties net k s t)) (below (length (net .links))) (below (net .stations)))
       ∙ sum-alike (λ k. sumOf (λ t. bit (ties net k s t)) (below (net .stations))) (λ k. bit (isEnd net k s)) (length (net .links)) by-link
       ∙ sym (kept-sum (λ k. isEnd net k s) (below (length (net .links))))

@@ -1,5 +1,5 @@
 -- The world as a flood over ranks: an accepted delivery or loss of a notice settles one there, and no station changes its
--- condition. What the receiver does is known by the station's laws alone. The theorem over runs: Demand3. Assumes nothing.
+-- condition. What the receiver does is known by the station's laws alone. The theorem over runs: Demand3.
 use Prim.Native.Nat.{ℕ, suc, _-_, _≤_, _<_}
 use mathlib.Core.Bool.{Bool, true, false, not}
 use mathlib.Core.Path.{_≡_, refl, ap, _∙_, subst, subst⁻¹}
@@ -66,14 +66,16 @@ module _ (net : Network) (j c : ℕ) where
   copies-length : (xs : List Letter) → T (every says xs) → length (collect (notice net) xs) ≡ length xs
   copies-length [] t = refl
   copies-length (x ∷ xs) t =
-      ap (λ (b : Body). length (noticeOf net (x .link) (x .sender) b ++ collect (notice net) xs)) (is-notice j c (x .body) (and-l (says x) _ t))
+      ap (λ (b : Body). length (noticeOf net (x .link) (x .sender) b ++ collect (notice net) xs))
+      (is-notice j c (x .body) (and-l (says x) _ t))
       ∙ ap suc (copies-length xs (and-r (says x) _ t))
 
   copies-alike : (xs : List Letter) → T (every says xs) → (y : R.Notice) → y ∈ collect (notice net) xs → (y .subject ≡ j) × (y .rank ≡ c)
   copies-alike [] t y m = absurd (List·Memᴰ·not-nil m)
   copies-alike (x ∷ xs) t y m =
       ⊎-elim (λ e. (ap (λ (z : R.Notice). z .subject) e, ap (λ (z : R.Notice). z .rank) e)) (λ n. copies-alike xs (and-r (says x) _ t) y n)
-      (List·Memᴰ·cases-cons (subst (λ (b : Body). y ∈ (noticeOf net (x .link) (x .sender) b ++ collect (notice net) xs)) (is-notice j c (x .body) (and-l (says x) _ t)) m))
+      (List·Memᴰ·cases-cons (subst (λ (b : Body). y ∈ (noticeOf net (x .link) (x .sender) b ++ collect (notice net) xs))
+      (is-notice j c (x .body) (and-l (says x) _ t)) m))
 
 -- ---- one event
 -- what stays in such a run: the network, and which stations are live
@@ -83,111 +85,119 @@ pub record Fits (site : Site) (w : World) : Type 0 where
   pub links : length (w .net .links) ≡ site .links
   pub heavy : (s : ℕ) → T (isLive (holdingAt w s .condition)) → length (neighbours (w .net) s) - 1 ≤ site .weight s
 
-module _ (site : Site) (w : World) (f : Fits site w) (a : ℕ) (h : a < length (w .letters)) (j c : ℕ) (q : letterAt w a .body ≡ Notice j c) where
-  abbrev k : ℕ
-  k = letterAt w a .link
+module _ (site : Site) (w : World) (f : Fits site w) (a : ℕ) (h : a < length (w .letters)) (j c : ℕ) (q : letterAt w a .body ≡ Notice j c)
+  where
+    abbrev k : ℕ
+    k = letterAt w a .link
 
-  abbrev r : ℕ
-  r = receiverIn (w .net) (letterAt w a)
+    abbrev r : ℕ
+    r = receiverIn (w .net) (letterAt w a)
 
-  abbrev here : Holding
-  here = holdingAt w r
+    abbrev here : Holding
+    here = holdingAt w r
 
-  abbrev it : R.Notice
-  it = record { over = k; sender = letterAt w a .sender; receiver = r; subject = j; rank = c }
+    abbrev it : R.Notice
+    it = record { over = k; sender = letterAt w a .sender; receiver = r; subject = j; rank = c }
 
-  abbrev before : List R.Notice
-  before = collect (notice (w .net)) (take a (w .letters))
+    abbrev before : List R.Notice
+    before = collect (notice (w .net)) (take a (w .letters))
 
-  abbrev behind : List R.Notice
-  behind = collect (notice (w .net)) (drop (suc a) (w .letters))
+    abbrev behind : List R.Notice
+    behind = collect (notice (w .net)) (drop (suc a) (w .letters))
 
-  was : collect (notice (w .net)) (w .letters) ≡ before ++ it ∷ behind
-  was = collect-at (notice (w .net)) (w .letters) a noLetter it h (ap (noticeOf (w .net) k (letterAt w a .sender)) q)
+    was : collect (notice (w .net)) (w .letters) ≡ before ++ it ∷ behind
+    was = collect-at (notice (w .net)) (w .letters) a noLetter it h (ap (noticeOf (w .net) k (letterAt w a .sender)) q)
 
-  now : (xs : List Letter) → collect (notice (w .net)) (without a (w .letters) ++ xs) ≡ (before ++ behind) ++ collect (notice (w .net)) xs
-  now xs = collect-without (notice (w .net)) (w .letters) a xs
+    now : (xs : List Letter) → collect (notice (w .net)) (without a (w .letters) ++ xs) ≡ (before ++ behind) ++ collect (notice (w .net)) xs
+    now xs = collect-without (notice (w .net)) (w .letters) a xs
 
-  posted : Posted w (letterAt w a)
-  posted = at-posted w (f .ok) a h
+    posted : Posted w (letterAt w a)
+    posted = at-posted w (f .ok) a h
 
-  subject-real : j < length (w .net .links)
-  subject-real = ltb→lt j _ (and-l (ltb j (length (w .net .links))) _ (subst (λ (b : Body). T (bodyHolds (w .net) b)) q (posted .body)))
+    subject-real : j < length (w .net .links)
+    subject-real = ltb→lt j _ (and-l (ltb j (length (w .net .links))) _ (subst (λ (b : Body). T (bodyHolds (w .net) b)) q (posted .body)))
 
-  in-holdings : r < length (w .holdings)
-  in-holdings = subst⁻¹ (λ (n : ℕ). receiverIn (w .net) (letterAt w a) < n) (f .ok .count) (posted .real)
+    in-holdings : r < length (w .holdings)
+    in-holdings = subst⁻¹ (λ (n : ℕ). receiverIn (w .net) (letterAt w a) < n) (f .ok .count) (posted .real)
 
-  -- the notice is taken off, and no holding changes
-  gone : (hs : List Holding) → hs ≡ w .holdings → Gone (floodOf w) (floodOf (record { net = w .net; holdings = hs; letters = without a (w .letters) ++ [] }))
-  gone hs e =
-      record {
+    -- the notice is taken off, and no holding changes
+    gone : (hs : List Holding) → hs ≡ w .holdings
+        → Gone (floodOf w) (floodOf (record { net = w .net; holdings = hs; letters = without a (w .letters) ++ [] }))
+    gone hs e =
+        record {
+          before = before;
+          it = it;
+          after = behind;
+          was = was;
+          now = now [] ∙ append-nil (before ++ behind);
+          same = λ s i. ap (λ (xs : List Holding). counter (getD xs s nobody) i) e;
+        }
+
+    -- the world after its receiver has done so: the notice is settled, and the receiver stays in its condition
+    abbrev Goal : Done → Type 0
+    Goal d =
+        let v : World = record { net = w .net; holdings = set (w .holdings) r (d .holding); letters = without a (w .letters) ++ d .sent } in
+        Settles site (floodOf w) (floodOf v) × (d .holding .condition ≡ here .condition)
+
+    dropped : Goal (unchanged here)
+    dropped = (inl (gone (set (w .holdings) r here) (set-getD (w .holdings) r nobody)), refl)
+
+    kept : (d : Done) → T (isLive (here .condition)) → Took (w .net) r j c here (d .holding) → Spreads (w .net) r k j c here (d .sent)
+        → Goal d
+    kept d live t sp = (
+      inr (record {
         before = before;
         it = it;
         after = behind;
+        copies = collect (notice (w .net)) (d .sent);
         was = was;
-        now = now [] ∙ append-nil (before ++ behind);
-        same = λ s i. ap (λ (xs : List Holding). counter (getD xs s nobody) i) e;
-      }
+        now = now (d .sent);
+        station = subst (λ (n : ℕ). receiverIn (w .net) (letterAt w a) < n) (f .stations) (posted .real);
+        link = subst (λ (n : ℕ). j < n) (f .links) subject-real;
+        newer = t .newer;
+        takes = ap (λ (g : Holding). counter g j) (getD-set-same (w .holdings) r (d .holding) nobody in-holdings) ∙ t .takes;
+        others = λ s i z. others s i z (ℕ-discrete s r);
+        few = subst⁻¹ (λ (n : ℕ). n ≤ site .weight r) (copies-length (w .net) j c (d .sent) (sp .alike))
+            (le-trans (subst⁻¹ (λ (n : ℕ). length (d .sent) ≤ n - 1) (neighbours-count (w .net) (f .ok .sheet) r) (sp .few))
+            (f .heavy r live));
+        alike = copies-alike (w .net) j c (d .sent) (sp .alike);
+      }),
+      t .condition,
+    )
+      where
+        others : (s i : ℕ) → ((s ≡ r) × (i ≡ j) → ⊥) → Dec (s ≡ r)
+            → counter (getD (set (w .holdings) r (d .holding)) s nobody) i ≡ counter (holdingAt w s) i
+        others s i z (yes e) =
+            rw e (ap (λ (g : Holding). counter g i) (getD-set-same (w .holdings) r (d .holding) nobody in-holdings)
+            ∙ t .others i (λ p. z (e, p)))
+        others s i z (no e) = ap (λ (g : Holding). counter g i) (getD-set-other (w .holdings) r s (d .holding) nobody e)
 
-  -- the world after its receiver has done so: the notice is settled, and the receiver stays in its condition
-  abbrev Goal : Done → Type 0
-  Goal d =
-      let v : World = record { net = w .net; holdings = set (w .holdings) r (d .holding); letters = without a (w .letters) ++ d .sent } in
-      Settles site (floodOf w) (floodOf v) × (d .holding .condition ≡ here .condition)
+    delivered : Goal (received (w .net) r (letterAt w a) here)
+    delivered = go (heard (letterAt w a) here) (newer (counter here j) c) refl refl
+      where
+        passed : (x : Bool) → x ≡ true → T x
+        passed x e = subst⁻¹ T e tt
 
-  dropped : Goal (unchanged here)
-  dropped = (inl (gone (set (w .holdings) r here) (set-getD (w .holdings) r nobody)), refl)
+        failed : (x : Bool) → x ≡ false → T (not x)
+        failed x e = subst⁻¹ (λ (b : Bool). T (not b)) e tt
 
-  kept : (d : Done) → T (isLive (here .condition)) → Took (w .net) r j c here (d .holding) → Spreads (w .net) r k j c here (d .sent) → Goal d
-  kept d live t sp = (
-    inr (record {
-      before = before;
-      it = it;
-      after = behind;
-      copies = collect (notice (w .net)) (d .sent);
-      was = was;
-      now = now (d .sent);
-      station = subst (λ (n : ℕ). receiverIn (w .net) (letterAt w a) < n) (f .stations) (posted .real);
-      link = subst (λ (n : ℕ). j < n) (f .links) subject-real;
-      newer = t .newer;
-      takes = ap (λ (g : Holding). counter g j) (getD-set-same (w .holdings) r (d .holding) nobody in-holdings) ∙ t .takes;
-      others = λ s i z. others s i z (ℕ-discrete s r);
-      few = subst⁻¹ (λ (n : ℕ). n ≤ site .weight r) (copies-length (w .net) j c (d .sent) (sp .alike))
-          (le-trans (subst⁻¹ (λ (n : ℕ). length (d .sent) ≤ n - 1) (neighbours-count (w .net) (f .ok .sheet) r) (sp .few)) (f .heavy r live));
-      alike = copies-alike (w .net) j c (d .sent) (sp .alike);
-    }),
-    t .condition,
-  )
-    where
-      others : (s i : ℕ) → ((s ≡ r) × (i ≡ j) → ⊥) → Dec (s ≡ r) → counter (getD (set (w .holdings) r (d .holding)) s nobody) i ≡ counter (holdingAt w s) i
-      others s i z (yes e) = rw e (ap (λ (g : Holding). counter g i) (getD-set-same (w .holdings) r (d .holding) nobody in-holdings) ∙ t .others i (λ p. z (e, p)))
-      others s i z (no e) = ap (λ (g : Holding). counter g i) (getD-set-other (w .holdings) r s (d .holding) nobody e)
+        go : (x y : Bool) → heard (letterAt w a) here ≡ x → newer (counter here j) c ≡ y → Goal (received (w .net) r (letterAt w a) here)
+        go false y p u = subst⁻¹ Goal (received-gone (w .net) r here (letterAt w a) (failed _ p)) dropped
+        go true false p u = subst⁻¹ Goal (notice-drops (w .net) r here (letterAt w a) j c q (passed _ p) (failed _ u)) dropped
+        go true true p u =
+            let t = passed (heard (letterAt w a) here) p in
+            kept (received (w .net) r (letterAt w a) here) (and-l (isLive (here .condition)) _ t)
+            (notice-takes (w .net) r here (letterAt w a) (f .ok .each r (posted .real)) j c q subject-real t (passed _ u))
+            (notice-spreads (w .net) r here (letterAt w a) (posted .link) (posted .end) j c q)
 
-  delivered : Goal (received (w .net) r (letterAt w a) here)
-  delivered = go (heard (letterAt w a) here) (newer (counter here j) c) refl refl
-    where
-      passed : (x : Bool) → x ≡ true → T x
-      passed x e = subst⁻¹ T e tt
-
-      failed : (x : Bool) → x ≡ false → T (not x)
-      failed x e = subst⁻¹ (λ (b : Bool). T (not b)) e tt
-
-      go : (x y : Bool) → heard (letterAt w a) here ≡ x → newer (counter here j) c ≡ y → Goal (received (w .net) r (letterAt w a) here)
-      go false y p u = subst⁻¹ Goal (received-gone (w .net) r here (letterAt w a) (failed _ p)) dropped
-      go true false p u = subst⁻¹ Goal (notice-drops (w .net) r here (letterAt w a) j c q (passed _ p) (failed _ u)) dropped
-      go true true p u =
-          let t = passed (heard (letterAt w a) here) p in
-          kept (received (w .net) r (letterAt w a) here) (and-l (isLive (here .condition)) _ t)
-          (notice-takes (w .net) r here (letterAt w a) (f .ok .each r (posted .real)) j c q subject-real t (passed _ u))
-          (notice-spreads (w .net) r here (letterAt w a) (posted .link) (posted .end) j c q)
-
-  -- the other stations stay as they are
-  conditions : (d : Done) → d .holding .condition ≡ here .condition → (s : ℕ) → getD (set (w .holdings) r (d .holding)) s nobody .condition ≡ holdingAt w s .condition
-  conditions d e s = go (ℕ-discrete s r)
-    where
-      go : Dec (s ≡ r) → getD (set (w .holdings) r (d .holding)) s nobody .condition ≡ holdingAt w s .condition
-      go (yes p) = rw (p, getD-set-same (w .holdings) r (d .holding) nobody in-holdings) e
-      go (no p) = ap (λ (g : Holding). g .condition) (getD-set-other (w .holdings) r s (d .holding) nobody p)
+    -- the other stations stay as they are
+    conditions : (d : Done) → d .holding .condition ≡ here .condition → (s : ℕ)
+        → getD (set (w .holdings) r (d .holding)) s nobody .condition ≡ holdingAt w s .condition
+    conditions d e s = go (ℕ-discrete s r)
+      where
+        go : Dec (s ≡ r) → getD (set (w .holdings) r (d .holding)) s nobody .condition ≡ holdingAt w s .condition
+        go (yes p) = rw (p, getD-set-same (w .holdings) r (d .holding) nobody in-holdings) e
+        go (no p) = ap (λ (g : Holding). g .condition) (getD-set-other (w .holdings) r s (d .holding) nobody p)
 
 -- ---- an accepted event that takes off a notice
 notice-is : (b : Body) → T (isNotice b) → (j : ℕ) × (c : ℕ) × (b ≡ Notice j c)
@@ -196,7 +206,8 @@ notice-is (Reply c) t = absurd t
 notice-is (Notice j c) t = (j, c, refl)
 
 module _ (site : Site) where
-  fits-still : (u v : World) → v .net ≡ u .net → ((s : ℕ) → holdingAt v s .condition ≡ holdingAt u s .condition) → Formed v → Fits site u → Fits site v
+  fits-still : (u v : World) → v .net ≡ u .net → ((s : ℕ) → holdingAt v s .condition ≡ holdingAt u s .condition) → Formed v → Fits site u
+      → Fits site v
   fits-still u v n e ok f =
       record {
         ok = ok;

@@ -1,4 +1,4 @@
--- The tally after a history has the history's three counts added to it, each staying at its largest value. Assumes nothing.
+-- The tally after a history has the history's three counts added to it, each staying at its largest value.
 use Prim.Native.Nat.{ℕ, _+_, _≤_}
 use mathlib.Core.Path.{_≡_, ap, _∙_}
 use mathlib.Core.List.{List, [], _∷_}
@@ -19,7 +19,13 @@ pub record Fits (t : Tally) : Type 0 where
   pub dropped : t .dropped ≤ largest
 
 nothing-more : (t : Tally) → Fits t → t ≡ tallied t noCounts
-nothing-more t f = λ i. record { settled = same (t .settled) (f .settled) i; raised = same (t .raised) (f .raised) i; dropped = same (t .dropped) (f .dropped) i }
+nothing-more t f =
+    λ i. record {
+      settled = same (t .settled) (f .settled) i;
+      raised = same (t .raised) (f .raised) i;
+      dropped = same (t .dropped)
+          (f .dropped) i;
+    }
   where
     same : (c : ℕ) → c ≤ largest → c ≡ counted c 0
     same c h = omega arith

@@ -1,4 +1,4 @@
--- Demand 3 in definitions: a run of notices, and the bound on how many are settled in it. Assumes nothing.
+-- Demand 3 in definitions: a run of notices, and the bound on how many are settled in it.
 use Prim.Native.Nat.{ℕ, _+_, _*_, _-_, max}
 use mathlib.Core.Bool.{Bool, true, _&&_}
 use mathlib.Core.Path.{_≡_}
@@ -37,7 +37,8 @@ carried k (Reply c) = 0
 carried k (Notice j c) = if eqb j k then c else 0
 
 unfoldable pub highest : World → ℕ → ℕ
-highest w k = max (largestOf (λ s. counter (holdingAt w s) k) (below (w .net .stations))) (largestOf (λ x. carried k (x .body)) (w .letters))
+highest w k =
+    max (largestOf (λ s. counter (holdingAt w s) k) (below (w .net .stations))) (largestOf (λ x. carried k (x .body)) (w .letters))
 
 -- ---- the bound
 -- the stations that some link joins to s

@@ -1,5 +1,5 @@
 -- The counts of an event and of a history as one record, and the tally lent to each call of a history: an accepted event is added to
--- it, a refused one leaves it untouched. Assumes nothing.
+-- it, a refused one leaves it untouched.
 use mathlib.Core.List.{List, [], _∷_}
 use Rattle.tally.specs.declared.Tally.{Tally}
 use Rattle.tally.specs.Sums.{tallied}

@@ -1,4 +1,4 @@
--- What the returns of `read` say, against a network. Assumes nothing.
+-- What the returns of `read` say, against a network.
 use Prim.Native.Nat.{ℕ, _+_, _≤_, _<_}
 use mathlib.Core.Bool.{Bool, true, false, not, _&&_}
 use mathlib.Core.Path.{_≡_, refl, sym, ap, ap₂, _∙_}
@@ -24,7 +24,8 @@ use Rattle.letters.proofs.Forms.{IsForm, is-form}
 use Rattle.letters.specs.Steps.{formIn, valuesTest, senderIn}
 
 -- ---- the values, as the meaning of a good network has them
-values-are : (net : Net) → netHolds net ≡ true → (k side : ℕ) (b : Body) → valuesHold (networkOf net) k side b ≡ valuesTest (net .links) k side b
+values-are : (net : Net) → netHolds net ≡ true → (k side : ℕ) (b : Body)
+    → valuesHold (networkOf net) k side b ≡ valuesTest (net .links) k side b
 values-are net good k side b =
     let t = is-T (netHolds net) good in
     ap₂ (λ (m : ℕ) (x : Bool). ltb k m && leb side 1 && x) (links-are net t) (bodies-are net t b)
@@ -60,7 +61,8 @@ module _ (net : Net) (bytes : List ℕ) where
       unfolding judged
       read-unknown u =
           sym (reads ∙ ap (letterFrom N) (s .cut)
-          ∙ ap (λ (x : Form). judged N (getD (take n (drop 3 bytes)) 0 0) (getD (take n (drop 3 bytes)) 1 0) x (drop (3 + n) bytes)) (sym q ∙ ap formIn u))
+          ∙ ap (λ (x : Form). judged N (getD (take n (drop 3 bytes)) 0 0) (getD (take n (drop 3 bytes)) 1 0) x (drop (3 + n) bytes))
+          (sym q ∙ ap formIn u))
 
       module _ (body : Body) (u : f ≡ Says body) where
         form : IsForm tag (take n (drop 3 bytes)) body
@@ -73,7 +75,8 @@ module _ (net : Net) (bytes : List ℕ) where
         judges : reading net bytes ≡ judged N k side (says body) (drop (3 + n) bytes)
         judges =
             reads ∙ ap (letterFrom N) (s .cut)
-            ∙ ap (λ (x : Form). judged N (getD (take n (drop 3 bytes)) 0 0) (getD (take n (drop 3 bytes)) 1 0) x (drop (3 + n) bytes)) (sym q ∙ ap formIn u)
+            ∙ ap (λ (x : Form). judged N (getD (take n (drop 3 bytes)) 0 0) (getD (take n (drop 3 bytes)) 1 0) x (drop (3 + n) bytes))
+            (sym q ∙ ap formIn u)
             ∙ ap₂ (λ (x y : ℕ). judged N x y (says body) (drop (3 + n) bytes))
             (value-at bytes n 0 (omega (arith, s .size, form .size))) (value-at bytes n 1 (omega (arith, s .size, form .size)))
 
@@ -99,16 +102,21 @@ module _ (net : Net) (bytes : List ℕ) where
 
             pub read-more : (length bytes ≡ n + 3 → ⊥) → refused 2 ≡ reading net bytes
             unfolding judged
-            read-more m = let b = inside in let x : isEmpty (drop (3 + n) bytes) ≡ false = full (drop (3 + n) bytes) (λ z. m (omega (arith, s .fits, length-drop (3 + n) bytes))) in sym (judges ∙ simp (b, x))
+            read-more m =
+                let b = inside in let x : isEmpty (drop (3 + n) bytes) ≡ false = full (drop (3 + n) bytes)
+                (λ z. m (omega (arith, s .fits, length-drop (3 + n) bytes))) in sym (judges ∙ simp (b, x))
               where
                 full : (xs : List ℕ) → (length xs ≡ 0 → ⊥) → isEmpty xs ≡ false
                 full [] o = absurd (o refl)
                 full (y ∷ xs) o = refl
 
-            pub read-good : (sender : ℕ) → length bytes ≡ n + 3 → sender ≡ senderIn (getD (net .low) k 0) (getD (net .high) k 0) side → letter (record { link = k; sender = sender; body = body }) ≡ reading net bytes
+            pub read-good : (sender : ℕ) → length bytes ≡ n + 3 → sender ≡ senderIn (getD (net .low) k 0) (getD (net .high) k 0) side
+                → letter (record { link = k; sender = sender; body = body }) ≡ reading net bytes
             unfolding judged
             read-good sender m o =
                 let b = inside in
                 let x : drop (3 + n) bytes ≡ [] = drop-of-length-le bytes {i = 3 + n} (omega arith) in
-                let y : senderOf N k side ≡ sender = ap (λ (z : Ends). senderIn (z .low) (z .high) side) (ends-are net (is-T (netHolds net) good) k link-inside) ∙ sym o in
-                sym (judges ∙ ap (judged N k side (says body)) x ∙ simp b (ap (λ (z : ℕ). letter (record { link = k; sender = z; body = body })) y))
+                let y : senderOf N k side ≡ sender = ap (λ (z : Ends). senderIn (z .low) (z .high) side)
+                (ends-are net (is-T (netHolds net) good) k link-inside) ∙ sym o in
+                sym (judges ∙ ap (judged N k side (says body)) x
+                ∙ simp b (ap (λ (z : ℕ). letter (record { link = k; sender = z; body = body })) y))

@@ -1,4 +1,4 @@
--- What a known form says of the field: read backwards. Assumes nothing.
+-- What a known form says of the field: read backwards.
 use Prim.Native.Nat.{ℕ, _/_, _%_, _≤_, _<_}
 use mathlib.Core.Path.{_≡_, refl, sym, ap, ap₂, _∙_, subst}
 use mathlib.Core.List.{List, [], _∷_}
@@ -93,7 +93,8 @@ module _ (t : ℕ) (v : List ℕ) where
         value =
             λ w. let c = high-low v 3 4 w (omega arith) (omega arith) in
             more-than-two v (omega arith)
-            ∙ ap (λ (l : List ℕ). getD v 0 0 ∷ getD v 1 0 ∷ l) (five v n ∙ ap₂ (λ (x y : ℕ). getD v 2 0 ∷ x ∷ y ∷ []) (sym (c .0)) (sym (c .1)));
+            ∙ ap (λ (l : List ℕ). getD v 0 0 ∷ getD v 1 0 ∷ l)
+            (five v n ∙ ap₂ (λ (x y : ℕ). getD v 2 0 ∷ x ∷ y ∷ []) (sym (c .0)) (sym (c .1)));
       }
 
   pub is-form : (b : Body) → formOf t v ≡ says b → IsForm t v b

@@ -1,5 +1,5 @@
 -- The letter's format: what is written reads back; bytes that read to a letter are exactly what writing it gives; what is
--- read may travel in the network. Assumes nothing.
+-- read may travel in the network.
 use Prim.Native.Nat.{ℕ, zero, suc, _/_, _%_, _≤_, _<_}
 use mathlib.Core.Bool.{Bool, true, false, not, _&&_, _||_}
 use mathlib.Core.Path.{_≡_, refl, sym, ap, ap₂, _∙_, subst, subst⁻¹}
@@ -109,7 +109,8 @@ whole net bytes x e = go (firstField bytes) refl e
         formed (says b) g q = tested (valuesHold net (getD v 0 0) (getD v 1 0) b) rest refl p q
           where
             tested : (w : Bool) (r : List ℕ) → valuesHold net (getD v 0 0) (getD v 1 0) b ≡ w → firstField bytes ≡ field t v r
-                → (if not w then refused 3 else (if not (isEmpty r) then refused 2 else letter (record { link = getD v 0 0; sender = senderOf net (getD v 0 0) (getD v 1 0); body = b }))) ≡ letter x → Whole net bytes x
+                → (if not w then refused 3 else (if not (isEmpty r) then refused 2 else letter
+                (record { link = getD v 0 0; sender = senderOf net (getD v 0 0) (getD v 1 0); body = b }))) ≡ letter x → Whole net bytes x
             tested false r h p q = let z : _≡_ {A = ℕ} 0 1 = cc in absurd (omega arith)
             tested true (y ∷ r) h p q = let z : _≡_ {A = ℕ} 0 1 = cc in absurd (omega arith)
             tested true [] h p q =
@@ -122,7 +123,9 @@ whole net bytes x e = go (firstField bytes) refl e
                   form = g ∙ ap says c;
                   link = sym (ap (λ (y : Letter). y .link) l);
                   sender = sym (ap (λ (y : Letter). y .sender) l);
-                  holds = subst (λ (y : Body). T (valuesHold net (getD v 0 0) (getD v 1 0) y)) c (is-T (valuesHold net (getD v 0 0) (getD v 1 0) b) h);
+                  holds =
+                      subst (λ (y : Body). T (valuesHold net (getD v 0 0) (getD v 1 0) y)) c
+                      (is-T (valuesHold net (getD v 0 0) (getD v 1 0) b) h);
                 }
 
 -- what is read may travel: its link, sender, subject and counter are in range
@@ -144,7 +147,8 @@ unfolding writeField
 value-bytes tag v h = parts-bytes (tag ∷ length v / 256 ∷ length v % 256 ∷ []) v h .1
 
 -- one writing: against a good network, bytes that read to a letter are exactly what writing that letter gives
-pub one-writing : (net : Network) (bytes : List ℕ) (x : Letter) → T (sheetHolds net) → T (areBytes bytes) → readLetter net bytes ≡ letter x → bytes ≡ writeLetter net x
+pub one-writing : (net : Network) (bytes : List ℕ) (x : Letter) → T (sheetHolds net) → T (areBytes bytes) → readLetter net bytes ≡ letter x
+    → bytes ≡ writeLetter net x
 unfolding writeLetter
 one-writing net bytes x good t e =
     let w = whole net bytes x e in
@@ -158,13 +162,15 @@ one-writing net bytes x good t e =
     let ends-differ = ends-rise net good k (ltb→lt k (length (net .links)) (and-l a _ u)) in
     let sides : side ≡ sideOf net k (x .sender) = sym (ap (sideOf net k) (w .sender) ∙ side-back net k side (and-r a _ u) ends-differ) in
     split ∙ append-nil (writeField (w .tag) v)
-    ∙ ap₂ writeField (f .tag) (f .value (value-bytes (w .tag) v (subst (λ (l : List ℕ). T (areBytes l)) (split ∙ append-nil (writeField (w .tag) v)) t)))
+    ∙ ap₂ writeField (f .tag) (f .value (value-bytes (w .tag) v
+    (subst (λ (l : List ℕ). T (areBytes l)) (split ∙ append-nil (writeField (w .tag) v)) t)))
     ∙ sym (bytes-are k side (x .body))
     ∙ ap (λ (z : ℕ). bodyBytes k z (x .body)) sides
     ∙ ap (λ (z : ℕ). bodyBytes z (sideOf net z (x .sender)) (x .body)) (sym (w .link))
 
 -- so two byte strings never read to one letter
-pub same-bytes : (net : Network) (xs ys : List ℕ) (x : Letter) → T (sheetHolds net) → T (areBytes xs) → T (areBytes ys) → readLetter net xs ≡ letter x → readLetter net ys ≡ letter x → xs ≡ ys
+pub same-bytes : (net : Network) (xs ys : List ℕ) (x : Letter) → T (sheetHolds net) → T (areBytes xs) → T (areBytes ys)
+    → readLetter net xs ≡ letter x → readLetter net ys ≡ letter x → xs ≡ ys
 same-bytes net xs ys x good t u p q = one-writing net xs x good t p ∙ sym (one-writing net ys x good u q)
 
 -- and what is written is bytes: so a letter that may travel in a good network has exactly one writing
@@ -211,7 +217,8 @@ writes-bytes net x good t =
     two-bytes : (c : ℕ) → T (isCounter c) → T (areBytes (c / 256 ∷ c % 256 ∷ []))
     two-bytes c h =
         let l = leb→le c 65535 (and-r (leb 1 c) _ h) in
-        and-i (ltb (c / 256) 256) _ (lt→ltb (c / 256) 256 (omega arith)) (and-i (ltb (c % 256) 256) _ (lt→ltb (c % 256) 256 (omega arith)) tt)
+        and-i (ltb (c / 256) 256) _ (lt→ltb (c / 256) 256 (omega arith))
+        (and-i (ltb (c % 256) 256) _ (lt→ltb (c % 256) 256 (omega arith)) tt)
 
     payload-bytes : (b : Body) → T (bodyHolds net b) → T (areBytes (payload b))
     payload-bytes Request h = tt
@@ -230,7 +237,8 @@ module _ (net : Net) (x : Letter) where
   unfolding reading
   was-good bytes e = go (netHolds net) refl e
     where
-      go : (b : Bool) → netHolds net ≡ b → (if not b then refused 11 else readLetter (networkOf net) bytes) ≡ letter x → T (netHolds net) × (readLetter (networkOf net) bytes ≡ letter x)
+      go : (b : Bool) → netHolds net ≡ b → (if not b then refused 11 else readLetter (networkOf net) bytes) ≡ letter x
+          → T (netHolds net) × (readLetter (networkOf net) bytes ≡ letter x)
       go false p q = let z : _≡_ {A = ℕ} 0 1 = cc in absurd (omega arith)
       go true p q = (is-T (netHolds net) p, q)
 

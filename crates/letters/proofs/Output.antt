@@ -1,4 +1,4 @@
--- What each return of the private steps and of `write` says, in the order in which the code asks. Assumes nothing.
+-- What each return of the private steps and of `write` says, in the order in which the code asks.
 use Prim.Native.Nat.{ℕ, _+_, _≤_, _<_}
 use mathlib.Core.Bool.{Bool, true, false, not}
 use mathlib.Core.Path.{_≡_, sym, ap, _∙_, subst}
@@ -41,7 +41,8 @@ module _ (low high x : ℕ) where
   side-high h = simp (ne-eqb low x h)
 
 -- ---- a value written
-module _ (tag : ℕ) (value old : List ℕ) (small : length value ≤ 5) (n : ℕ) (s : n ≡ putSize value old) (out : List ℕ) (o : out ≡ putField tag value old) where
+module _ (tag : ℕ) (value old : List ℕ) (small : length value ≤ 5) (n : ℕ) (s : n ≡ putSize value old) (out : List ℕ)
+    (o : out ≡ putField tag value old) where
   abbrev want : Writing
   want = fitting (writeField tag value) old
 
@@ -63,7 +64,8 @@ module _ (tag : ℕ) (value old : List ℕ) (small : length value ≤ 5) (n : �
       go (yes h) = absurd (z (s ∙ sym (put-short tag value old h .0)))
       go (no h) =
           let t = le-ltb (length old) (length (writeField tag value)) (omega (arith, length-field tag value)) in
-          let e : n ≡ length (writeField tag value) = omega (arith, s, size-written tag value old (omega arith) (omega arith), length-field tag value) in (
+          let e : n ≡ length (writeField tag value) = omega
+          (arith, s, size-written tag value old (omega arith) (omega arith), length-field tag value) in (
             ap (λ (m : ℕ). 0 ∷ m ∷ []) e ∙ simp t,
             o ∙ put-written tag value old (omega arith) (omega arith) ∙ simp t,
           )
@@ -73,7 +75,8 @@ module _ (tag : ℕ) (value old : List ℕ) (small : length value ≤ 5) (n : �
 pub put-as : (new bytes : List ℕ) (r : Wrote) (old out : List ℕ) → new ≡ bytes
     → (wroteNumbers r ≡ writingNumbers (fitting new old)) × (out ≡ writingOutput (fitting new old) old)
     → (wroteNumbers r ≡ writingNumbers (fitting bytes old)) × (out ≡ writingOutput (fitting bytes old) old)
-put-as new bytes r old out e p = subst (λ (l : List ℕ). (wroteNumbers r ≡ writingNumbers (fitting l old)) × (out ≡ writingOutput (fitting l old) old)) e p
+put-as new bytes r old out e p =
+    subst (λ (l : List ℕ). (wroteNumbers r ≡ writingNumbers (fitting l old)) × (out ≡ writingOutput (fitting l old) old)) e p
 
 module _ (net : Net) (x : Letter) (old : List ℕ) where
   abbrev Wants : Wrote → List ℕ → Type 0
@@ -123,15 +126,20 @@ module _ (net : Net) (x : Letter) (old : List ℕ) where
           unfolding letterHolds
           write-body q = let b : bodyHolds M (x .body) ≡ false = body-holds ∙ not-true v q in denied-3 (simp (b, and-no))
 
-          pub write-good : (q : not v ≡ false) (a : Wrote) (out : List ℕ) (side : ℕ) → side ≡ sideIn (getD (net .low) (x .link) 0) (x .sender)
-              → (wroteNumbers a ≡ writingNumbers (fitting (bodyBytes (x .link) side (x .body)) old)) × (out ≡ writingOutput (fitting (bodyBytes (x .link) side (x .body)) old) old)
+          pub write-good : (q : not v ≡ false) (a : Wrote) (out : List ℕ) (side : ℕ)
+              → side ≡ sideIn (getD (net .low) (x .link) 0) (x .sender)
+              → (wroteNumbers a ≡ writingNumbers (fitting (bodyBytes (x .link) side (x .body)) old)) × (out ≡ writingOutput
+              (fitting (bodyBytes (x .link) side (x .body)) old) old)
               → Wants a out
           unfolding letterHolds writing writeLetter
           write-good q a out side t z =
               let g = sound in
-              let b : ltb (x .link) (length (M .links)) ≡ true = lt-ltb (x .link) (length (M .links)) (omega (arith, links-are net whole)) in
+              let b : ltb (x .link) (length (M .links)) ≡ true = lt-ltb (x .link) (length (M .links))
+              (omega (arith, links-are net whole)) in
               let c : isEnd M (x .link) (x .sender) ≡ true = end-is ∙ not-false w o in
               let d : bodyHolds M (x .body) ≡ true = body-holds ∙ not-false v q in
-              let s : side ≡ sideOf M (x .link) (x .sender) = t ∙ sym (ap (λ (y : Ends). sideIn (y .low) (x .sender)) (ends-are net whole (x .link) l)) in
-              let m : writing net x old ≡ fitting (bodyBytes (x .link) side (x .body)) old = simp (g, b, c, d) (ap (λ (k : ℕ). fitting (bodyBytes (x .link) k (x .body)) old) (sym s)) in
+              let s : side ≡ sideOf M (x .link) (x .sender) = t
+              ∙ sym (ap (λ (y : Ends). sideIn (y .low) (x .sender)) (ends-are net whole (x .link) l)) in
+              let m : writing net x old ≡ fitting (bodyBytes (x .link) side (x .body)) old = simp (g, b, c, d)
+              (ap (λ (k : ℕ). fitting (bodyBytes (x .link) k (x .body)) old) (sym s)) in
               subst (λ (y : Writing). (wroteNumbers a ≡ writingNumbers y) × (out ≡ writingOutput y old)) (sym m) z

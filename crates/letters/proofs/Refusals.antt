@@ -1,6 +1,5 @@
 -- A letter is refused with a number when, and only when, the list of numbers says so: 11 first, then the field in the order
 -- 1, 2, 3, then bytes after it; to write 11, 3, 10. And each answer of the code is the only one that is allowed.
--- Assumes nothing.
 use Prim.Native.Nat.{ℕ, _<_}
 use mathlib.Core.Bool.{Bool, true, false, not}
 use mathlib.Core.Path.{_≡_, refl, sym, ap, _∙_, subst}
@@ -33,11 +32,14 @@ pub data Fault (net : Network) : Field → ℕ → Type 0 where
   -- the bytes end inside it, or there are none
   cut-off : Fault net short 1
   -- another tag, or another length than the tag's
-  unfit : {t : ℕ} {v rest : List ℕ} → isField 33 2 t v ≡ false → isField 34 4 t v ≡ false → isField 35 5 t v ≡ false → Fault net (field t v rest) 2
+  unfit : {t : ℕ} {v rest : List ℕ} → isField 33 2 t v ≡ false → isField 34 4 t v ≡ false → isField 35 5 t v ≡ false
+      → Fault net (field t v rest) 2
   -- no such link, side or subject, or counter 0
-  no-value : {t : ℕ} {v rest : List ℕ} (b : Body) → formOf t v ≡ says b → valuesHold net (getD v 0 0) (getD v 1 0) b ≡ false → Fault net (field t v rest) 3
+  no-value : {t : ℕ} {v rest : List ℕ} (b : Body) → formOf t v ≡ says b → valuesHold net (getD v 0 0) (getD v 1 0) b ≡ false
+      → Fault net (field t v rest) 3
   -- a good field, and bytes after it
-  trailing : {t : ℕ} {v rest : List ℕ} (b : Body) → formOf t v ≡ says b → valuesHold net (getD v 0 0) (getD v 1 0) b ≡ true → isEmpty rest ≡ false → Fault net (field t v rest) 2
+  trailing : {t : ℕ} {v rest : List ℕ} (b : Body) → formOf t v ≡ says b → valuesHold net (getD v 0 0) (getD v 1 0) b ≡ true
+      → isEmpty rest ≡ false → Fault net (field t v rest) 2
 
 pub data Refused (net : Net) (bytes : List ℕ) : ℕ → Type 0 where
   bad-network : netHolds net ≡ false → Refused net bytes 11
@@ -47,7 +49,8 @@ pub data Refused (net : Net) (bytes : List ℕ) : ℕ → Type 0 where
 unknown-only : (t : ℕ) (v rest : List ℕ) (net : Network) → formOf t v ≡ unknown → Fault net (field t v rest) 2
 unfolding formOf
 unknown-only t v rest net e =
-    go Request (Reply (wide (getD v 2 0) (getD v 3 0))) (Notice (getD v 2 0) (wide (getD v 3 0) (getD v 4 0))) (isField 33 2 t v) (isField 34 4 t v) (isField 35 5 t v) refl refl refl e
+    go Request (Reply (wide (getD v 2 0) (getD v 3 0))) (Notice (getD v 2 0) (wide (getD v 3 0) (getD v 4 0))) (isField 33 2 t v)
+    (isField 34 4 t v) (isField 35 5 t v) refl refl refl e
   where
     go : (x y z : Body) (a b c : Bool) → isField 33 2 t v ≡ a → isField 34 4 t v ≡ b → isField 35 5 t v ≡ c
         → (if a then says x else (if b then says y else (if c then says z else unknown))) ≡ unknown → Fault net (field t v rest) 2
@@ -71,7 +74,8 @@ module _ (net : Network) where
       formed (says b) g q = tested (valuesHold net (getD v 0 0) (getD v 1 0) b) (isEmpty rest) refl refl q
         where
           tested : (x y : Bool) → valuesHold net (getD v 0 0) (getD v 1 0) b ≡ x → isEmpty rest ≡ y
-              → (if not x then refused 3 else (if not y then refused 2 else letter (record { link = getD v 0 0; sender = senderOf net (getD v 0 0) (getD v 1 0); body = b }))) ≡ refused k
+              → (if not x then refused 3 else (if not y then refused 2 else letter
+              (record { link = getD v 0 0; sender = senderOf net (getD v 0 0) (getD v 1 0); body = b }))) ≡ refused k
               → Fault net (field t v rest) k
           tested false y h m q = let n : 3 ≡ k = cc in subst (Fault net (field t v rest)) n (no-value b g h)
           tested true false h m q = let n : 2 ≡ k = cc in subst (Fault net (field t v rest)) n (trailing b g h m)
@@ -89,7 +93,8 @@ pub refused-only : (net : Net) (bytes : List ℕ) (k : ℕ) → reading net byte
 unfolding reading readLetter
 refused-only net bytes k e = go (netHolds net) refl e
   where
-    go : (b : Bool) → netHolds net ≡ b → (if not b then refused 11 else letterFrom (networkOf net) (firstField bytes)) ≡ refused k → Refused net bytes k
+    go : (b : Bool) → netHolds net ≡ b → (if not b then refused 11 else letterFrom (networkOf net) (firstField bytes)) ≡ refused k
+        → Refused net bytes k
     go false p q = let n : 11 ≡ k = cc in subst (Refused net bytes) n (bad-network p)
     go true p q = at-field p (field-only (networkOf net) (firstField bytes) k q)
 
@@ -103,7 +108,8 @@ pub data Denied (net : Net) (x : Letter) (old : List ℕ) : ℕ → Type 0 where
   bad-network : netHolds net ≡ false → Denied net x old 11
   -- no such link or subject, a sender that is no end of the link, or counter 0
   no-letter : netHolds net ≡ true → letterHolds (networkOf net) x ≡ false → Denied net x old 3
-  too-short : netHolds net ≡ true → letterHolds (networkOf net) x ≡ true → length old < length (writeLetter (networkOf net) x) → Denied net x old 10
+  too-short : netHolds net ≡ true → letterHolds (networkOf net) x ≡ true → length old < length (writeLetter (networkOf net) x)
+      → Denied net x old 10
 
 pub denied-only : (net : Net) (x : Letter) (old : List ℕ) (k : ℕ) → writing net x old ≡ denied k → Denied net x old k
 unfolding writing fitting
@@ -131,7 +137,8 @@ one-answer a b e = sym (is a) ∙ ap back e ∙ is b
   where
     back : Letters → Answer
     back (letter x) = answer.Good x
-    back (refused k) = if eqb k 1 then answer.Short else (if eqb k 2 then answer.Malformed else (if eqb k 3 then answer.OutOfRange else answer.BadNetwork))
+    back (refused k) =
+        if eqb k 1 then answer.Short else (if eqb k 2 then answer.Malformed else (if eqb k 3 then answer.OutOfRange else answer.BadNetwork))
 
     is : (x : Answer) → back (lettersOf x) ≡ x
     is (answer.Good x) = refl
@@ -144,7 +151,9 @@ pub one-wrote : (a b : Wrote) → wroteNumbers a ≡ wroteNumbers b → a ≡ b
 one-wrote a b e = sym (is a) ∙ ap back e ∙ is b
   where
     back : List ℕ → Wrote
-    back l = if eqb (getD l 0 0) 0 then wrote.Bytes (getD l 1 0) else (if eqb (getD l 0 0) 3 then wrote.OutOfRange else (if eqb (getD l 0 0) 10 then wrote.OutputShort else wrote.BadNetwork))
+    back l =
+        if eqb (getD l 0 0) 0 then wrote.Bytes (getD l 1 0)
+        else (if eqb (getD l 0 0) 3 then wrote.OutOfRange else (if eqb (getD l 0 0) 10 then wrote.OutputShort else wrote.BadNetwork))
 
     is : (x : Wrote) → back (wroteNumbers x) ≡ x
     is (wrote.Bytes n) = refl

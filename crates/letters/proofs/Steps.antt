@@ -1,4 +1,4 @@
--- What each return of the private steps says, in the order in which the code asks. Assumes nothing.
+-- What each return of the private steps says, in the order in which the code asks.
 use Prim.Native.Nat.{ℕ, _+_, _≤_, _<_}
 use mathlib.Core.Bool.{Bool, false, _&&_}
 use mathlib.Core.Path.{_≡_, sym, ap, ap₂, _∙_}
@@ -57,13 +57,17 @@ module _ (bytes : List ℕ) (tag n : ℕ) (fits : n + 3 ≤ length bytes) where
   byte i h = value-at bytes n i h
 
   pub form-33 : tag ≡ 33 → (n ≡ 2 → ⊥) → unknown ≡ formOf tag value
-  form-33 t h = let p : tag ≡ 34 → ⊥ = λ e. omega arith in let q : tag ≡ 35 → ⊥ = λ e. omega arith in sym (form-is ∙ simp (ne-eqb n 2 h, and-no, ne-eqb tag 34 p, ne-eqb tag 35 q))
+  form-33 t h =
+      let p : tag ≡ 34 → ⊥ = λ e. omega arith in let q : tag ≡ 35
+      → ⊥ = λ e. omega arith in sym (form-is ∙ simp (ne-eqb n 2 h, and-no, ne-eqb tag 34 p, ne-eqb tag 35 q))
 
   pub form-request : tag ≡ 33 → n ≡ 2 → says Request ≡ formOf tag value
   form-request t h = sym (form-is ∙ simp (eq-eqb tag 33 t, eq-eqb n 2 h))
 
   pub form-34 : tag ≡ 34 → (n ≡ 4 → ⊥) → unknown ≡ formOf tag value
-  form-34 t h = let p : tag ≡ 33 → ⊥ = λ e. omega arith in let q : tag ≡ 35 → ⊥ = λ e. omega arith in sym (form-is ∙ simp (ne-eqb tag 33 p, ne-eqb n 4 h, and-no, ne-eqb tag 35 q))
+  form-34 t h =
+      let p : tag ≡ 33 → ⊥ = λ e. omega arith in let q : tag ≡ 35
+      → ⊥ = λ e. omega arith in sym (form-is ∙ simp (ne-eqb tag 33 p, ne-eqb n 4 h, and-no, ne-eqb tag 35 q))
 
   pub form-reply : (c : ℕ) → tag ≡ 34 → n ≡ 4 → c ≡ wide (getD bytes 5 0) (getD bytes 6 0) → says (Reply c) ≡ formOf tag value
   form-reply c t h e =
@@ -77,7 +81,8 @@ module _ (bytes : List ℕ) (tag n : ℕ) (fits : n + 3 ≤ length bytes) where
   pub form-35 : (tag ≡ 33 → ⊥) → (tag ≡ 34 → ⊥) → (n ≡ 5 → ⊥) → unknown ≡ formOf tag value
   form-35 p q h = sym (form-is ∙ simp (ne-eqb tag 33 p, ne-eqb tag 34 q, ne-eqb n 5 h, and-no))
 
-  pub form-notice : (c : ℕ) → (tag ≡ 33 → ⊥) → (tag ≡ 34 → ⊥) → tag ≡ 35 → n ≡ 5 → c ≡ wide (getD bytes 6 0) (getD bytes 7 0) → says (Notice (getD bytes 5 0) c) ≡ formOf tag value
+  pub form-notice : (c : ℕ) → (tag ≡ 33 → ⊥) → (tag ≡ 34 → ⊥) → tag ≡ 35 → n ≡ 5 → c ≡ wide (getD bytes 6 0) (getD bytes 7 0)
+      → says (Notice (getD bytes 5 0) c) ≡ formOf tag value
   form-notice c p q t h e =
       sym (form-is ∙ simp (ne-eqb tag 33 p, ne-eqb tag 34 q, eq-eqb tag 35 t, eq-eqb n 5 h)
       (ap₂ (λ (x y : ℕ). says (Notice x y)) (byte 2 (omega arith)) (ap₂ wide (byte 3 (omega arith)) (byte 4 (omega arith)) ∙ sym e)))

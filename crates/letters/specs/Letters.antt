@@ -1,4 +1,4 @@
--- A letter's bytes: one field, read and written against a network. Assumes nothing.
+-- A letter's bytes: one field, read and written against a network.
 use Prim.Native.Nat.{ℕ, _/_, _%_}
 use mathlib.Core.Bool.{Bool, not, _&&_}
 use mathlib.Core.List.{List, [], _∷_}

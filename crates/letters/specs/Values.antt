@@ -1,5 +1,5 @@
 -- What the code's answers mean: the paper's number for each case, and the value with it. A network given that breaks the
--- sheet rules, or has unused room not zero, comes before all else. Assumes nothing.
+-- sheet rules, or has unused room not zero, comes before all else.
 use Prim.Native.Nat.{ℕ}
 use mathlib.Core.Bool.{not}
 use mathlib.Core.List.{List, [], _∷_}

@@ -1,5 +1,4 @@
-// A letter as bytes, against a network: its rules, both ways, and bytes to a letter. The crate `letter_writing` has the way
-// back.
+// A letter as bytes, against a network: its rules, both ways; bytes to a letter, and back. The calls are `read` and `write`.
 ghost use mathlib.Core.Path.{_≡_};
 ghost use Prim.Native.Nat.{_+_, _≤_, _/_, _%_};
 ghost use lib.ListN.{length, take, drop};
@@ -40,12 +39,6 @@ enum Shape {
     Says(Body),
 }
 
-fn two_bytes(high: u8, low: u8) -> u16
-    ensures { λ r. ⌜ r ≡ wide high low ⌝ }
-{
-    (high as u16) * 256 + (low as u16)
-}
-
 // The body of the field at the front of the bytes.
 fn form_of(bytes: &[u8], tag: u8, n: usize) -> Shape
     requires { ⌜ n + 3 ≤ length (now bytes) ⌝ }
@@ -61,7 +54,7 @@ fn form_of(bytes: &[u8], tag: u8, n: usize) -> Shape
         if n != 4 {
             return Shape::Unknown;
         }
-        let c = two_bytes(bytes[5], bytes[6]);
+        let c = fields::two_bytes(bytes[5], bytes[6]);
         return Shape::Says(Body::Reply(c));
     }
     if tag != 35 {
@@ -70,7 +63,7 @@ fn form_of(bytes: &[u8], tag: u8, n: usize) -> Shape
     if n != 5 {
         return Shape::Unknown;
     }
-    let c = two_bytes(bytes[6], bytes[7]);
+    let c = fields::two_bytes(bytes[6], bytes[7]);
     Shape::Says(Body::Notice(bytes[5], c))
 }
 
@@ -125,15 +118,6 @@ pub fn read(net: Net, bytes: &[u8]) -> Answer
 }
 
 // ---- A letter as bytes, against a network, into lent output.
-
-fn is_end(low: u8, high: u8, sender: u16) -> bool
-    ensures { λ r. ⌜ r ≡ endIn low high sender ⌝ }
-{
-    if low as u16 == sender {
-        return true;
-    }
-    high as u16 == sender
-}
 
 fn side_of(low: u8, sender: u16) -> u8
     ensures { λ r. ⌜ r ≡ sideIn low sender ⌝ }
@@ -203,7 +187,7 @@ pub fn write(net: Net, letter: Letter, out: &mut [u8]) -> Wrote
     }
     let i = link as usize;
     let low = net.low[i];
-    if !is_end(low, net.high[i], sender) {
+    if !net::is_end(low, net.high[i], sender) {
         return Wrote::OutOfRange;
     }
     if !net::body_holds(net.links, body) {

@@ -1,4 +1,4 @@
--- A word's count of ones and the trailing zeros of its complement, as sums and runs of its bits. Assumes nothing.
+-- A word's count of ones and the trailing zeros of its complement, as sums and runs of its bits.
 use Prim.Native.Nat.{ℕ, zero, suc, _+_, _-_, _*_, _/_, _%_, _^_, _<_}
 use mathlib.Core.Bool.{Bool, true, false}
 use mathlib.Core.Path.{_≡_, refl, sym, ap, ap₂, _∙_, subst}
@@ -20,7 +20,9 @@ module _ {ℓ} {A : Type ℓ} where
 
 -- the sum over one number more
 pub sum-below : (f : ℕ → ℕ) (n : ℕ) → sumOf f (below (suc n)) ≡ sumOf f (below n) + f n
-sum-below f n = ap (sumOf f) (from-snoc n 0) ∙ sum-append f (below n) ((0 + n) ∷ []) ∙ ap (λ (x : ℕ). sumOf f (below n) + x) (add-zero (f (0 + n)) ∙ ap f (zero-add n))
+sum-below f n =
+    ap (sumOf f) (from-snoc n 0) ∙ sum-append f (below n) ((0 + n) ∷ [])
+    ∙ ap (λ (x : ℕ). sumOf f (below n) + x) (add-zero (f (0 + n)) ∙ ap f (zero-add n))
 
 ones-digit : (d : ℕ) → d < 2 → ones d ≡ d
 unfolding ones
@@ -71,7 +73,8 @@ run (suc k) w h =
     (subst (λ (x : ℕ). Run (suc k) w (under (1 - w % 2) (trailingZeros k x))) (sym q)
     (go (w % 2) refl (run k (w / 2) (omega arith))))
   where
-    go : (d : ℕ) → w % 2 ≡ d → Run k (w / 2) (trailingZeros k ((2 ^ k - 1) - w / 2)) → Run (suc k) w (under (1 - d) (trailingZeros k ((2 ^ k - 1) - w / 2)))
+    go : (d : ℕ) → w % 2 ≡ d → Run k (w / 2) (trailingZeros k ((2 ^ k - 1) - w / 2))
+        → Run (suc k) w (under (1 - d) (trailingZeros k ((2 ^ k - 1) - w / 2)))
     go zero e r = record { has = λ t l. absurd (omega arith); lacks = λ l. bit-zero w ∙ e }
     go (suc zero) e r = record { has = λ t l. up t l; lacks = λ l. bit-suc w _ ∙ r .lacks (le-of-suc-le-suc l) }
       where

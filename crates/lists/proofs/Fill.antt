@@ -1,4 +1,4 @@
--- Laws of `filled`: a loop that goes through an array from the front and stores each place. Assumes nothing.
+-- Laws of `filled`: a loop that goes through an array from the front and stores each place.
 use Prim.Native.Nat.{ℕ, zero, suc, _+_, _≤_, _<_}
 use mathlib.Core.Path.{_≡_, refl, sym, ap, _∙_, subst}
 use mathlib.Core.List.{List, [], _∷_, _++_, map, append-assoc}

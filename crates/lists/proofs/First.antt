@@ -1,4 +1,4 @@
--- The first of some numbers that passes a test: it is one of them and none before it passes; or none passes. Assumes nothing.
+-- The first of some numbers that passes a test: it is one of them and none before it passes; or none passes.
 use Prim.Native.Nat.{ℕ, zero, suc, _+_, _≤_, _<_}
 use mathlib.Core.Bool.{Bool, true, false, not}
 use mathlib.Core.Path.{_≡_, refl, subst, subst⁻¹}
@@ -34,8 +34,10 @@ module _ (p : ℕ → Bool) where
       outside t a b = omega arith
   first-from (suc n) i d = go (p i) refl (first-from n (suc i) d)
     where
-      go : (b : Bool) → p i ≡ b → ((firstOf p (from (suc i) n) d ≡ d) × None (suc i) (suc i + n)) ⊎ First (suc i) (suc i + n) (firstOf p (from (suc i) n) d)
-          → (((if b then i else firstOf p (from (suc i) n) d) ≡ d) × None i (i + suc n)) ⊎ First i (i + suc n) (if b then i else firstOf p (from (suc i) n) d)
+      go : (b : Bool) → p i ≡ b → ((firstOf p (from (suc i) n) d ≡ d) × None (suc i) (suc i + n)) ⊎ First (suc i) (suc i + n)
+          (firstOf p (from (suc i) n) d)
+          → (((if b then i else firstOf p (from (suc i) n) d) ≡ d) × None i (i + suc n)) ⊎ First i (i + suc n)
+          (if b then i else firstOf p (from (suc i) n) d)
       go true e r = inr (record { from = le-refl i; under = omega arith; passes = subst⁻¹ T e tt; before = λ t a b. absurd (empty t a b) })
         where
           empty : (t : ℕ) → i ≤ t → t < i → ⊥

@@ -1,4 +1,4 @@
--- Laws of a test over a whole list: how it passes to what is kept, mapped and joined; and how many are kept. Assumes nothing.
+-- Laws of a test over a whole list: how it passes to what is kept, mapped and joined; and how many are kept.
 use Prim.Native.Nat.{ℕ, zero, suc, _+_, _-_, _≤_, _<_}
 use mathlib.Core.Bool.{Bool, true, false, not, _&&_}
 use mathlib.Core.Path.{_≡_, refl, ap, subst⁻¹}
@@ -68,7 +68,8 @@ module _ {ℓ} {A : Type ℓ} where
   keep-keep p q (x ∷ xs) = go (p x) (keep-keep p q xs)
     where
       go : (b : Bool) → keep q (keep p xs) ≡ keep (λ y. p y && q y) xs
-          → keep q (if b then (x ∷ keep p xs) else keep p xs) ≡ (if b && q x then (x ∷ keep (λ y. p y && q y) xs) else keep (λ y. p y && q y) xs)
+          → keep q (if b then (x ∷ keep p xs) else keep p xs) ≡ (if b && q x then (x ∷ keep (λ y. p y && q y) xs) else keep
+          (λ y. p y && q y) xs)
       go true e = ap (λ (l : List A). if q x then (x ∷ l) else l) e
       go false e = e
 
@@ -88,9 +89,11 @@ module _ (p q : ℕ → Bool) (f : (x : ℕ) → T (p x) → T (q x)) (k : ℕ) 
       go (ℕ-discrete i k) (p i) (q i) (λ e. subst⁻¹ (λ (x : ℕ). T (not (p x))) e out) (λ e. subst⁻¹ (λ (x : ℕ). T (q x)) e into) (f i)
       (keep-fewer p q f (from (suc i) n)) (λ l. fewer-from n (suc i) l (omega arith))
     where
-      go : Dec (i ≡ k) → (c d : Bool) → (i ≡ k → T (not c)) → (i ≡ k → T d) → (T c → T d) → length (keep p (from (suc i) n)) ≤ length (keep q (from (suc i) n))
+      go : Dec (i ≡ k) → (c d : Bool) → (i ≡ k → T (not c)) → (i ≡ k → T d) → (T c → T d)
+          → length (keep p (from (suc i) n)) ≤ length (keep q (from (suc i) n))
           → (suc i ≤ k → length (keep p (from (suc i) n)) + 1 ≤ length (keep q (from (suc i) n)))
-          → length (if c then (i ∷ keep p (from (suc i) n)) else keep p (from (suc i) n)) + 1 ≤ length (if d then (i ∷ keep q (from (suc i) n)) else keep q (from (suc i) n))
+          → length (if c then (i ∷ keep p (from (suc i) n)) else keep p (from (suc i) n)) + 1 ≤ length
+          (if d then (i ∷ keep q (from (suc i) n)) else keep q (from (suc i) n))
       go (yes e) true d u v g h rest = absurd (u e)
       go (yes e) false true u v g h rest = omega arith
       go (yes e) false false u v g h rest = absurd (v e)

@@ -1,4 +1,4 @@
--- Laws of the numbers below n: what a loop that counts up knows of `every`, `any`, `map` and `firstOf` over them. Assumes nothing.
+-- Laws of the numbers below n: what a loop that counts up knows of `every`, `any`, `map` and `firstOf` over them.
 use Prim.Native.Nat.{ℕ, zero, suc, _+_, _≤_, _<_}
 use mathlib.Core.Bool.{Bool, true, false}
 use mathlib.Core.Path.{_≡_, refl, sym, ap, _∙_, subst, subst⁻¹}
@@ -19,7 +19,8 @@ length-from i (suc n) = ap suc (length-from (suc i) n)
 -- ---- one more at the end: what a turn of the loop adds
 pub from-snoc : (n i : ℕ) → from i (suc n) ≡ from i n ++ ((i + n) ∷ [])
 from-snoc zero i = ap {B = List ℕ} (λ x. x ∷ []) (sym (add-zero i))
-from-snoc (suc n) i = ap {B = List ℕ} (λ l. i ∷ l) (from-snoc n (suc i) ∙ ap (λ (x : ℕ). from (suc i) n ++ (x ∷ [])) (suc-add i n ∙ sym (add-suc i n)))
+from-snoc (suc n) i =
+    ap {B = List ℕ} (λ l. i ∷ l) (from-snoc n (suc i) ∙ ap (λ (x : ℕ). from (suc i) n ++ (x ∷ [])) (suc-add i n ∙ sym (add-suc i n)))
 
 pub below-snoc : (n : ℕ) → below (n + 1) ≡ below n ++ (n ∷ [])
 below-snoc n = ap below (add-one n) ∙ from-snoc n 0 ∙ ap (λ (x : ℕ). below n ++ (x ∷ [])) (zero-add n)
@@ -46,7 +47,8 @@ getD-from (suc n) i (suc k) d h = getD-from n (suc i) k d (le-of-suc-le-suc h) �
 pub every-from : (p : ℕ → Bool) (n i : ℕ) → T (every p (from i n)) → (k : ℕ) → k < n → T (p (i + k))
 every-from p zero i t k h = absurd (not-suc-le-zero h)
 every-from p (suc n) i t zero h = rw add-zero (and-l (p i) _ t)
-every-from p (suc n) i t (suc k) h = subst (λ (x : ℕ). T (p x)) (suc-add i k ∙ sym (add-suc i k)) (every-from p n (suc i) (and-r (p i) _ t) k (le-of-suc-le-suc h))
+every-from p (suc n) i t (suc k) h =
+    subst (λ (x : ℕ). T (p x)) (suc-add i k ∙ sym (add-suc i k)) (every-from p n (suc i) (and-r (p i) _ t) k (le-of-suc-le-suc h))
 
 pub from-every : (p : ℕ → Bool) (n i : ℕ) → ((k : ℕ) → k < n → T (p (i + k))) → T (every p (from i n))
 from-every p zero i f = tt
@@ -87,7 +89,8 @@ first-skip p (suc n) i d f =
     ap (λ (b : Bool). if b then i else firstOf p (from (suc i) n) d) (subst (λ (x : ℕ). p x ≡ false) (add-zero i) (f 0 (omega arith)))
     ∙ first-skip p n (suc i) d (λ k h. subst (λ (x : ℕ). p x ≡ false) (add-suc i k ∙ sym (suc-add i k)) (f (suc k) (omega arith)))
 
-first-from : (p : ℕ → Bool) (n i z : ℕ) (d : ℕ) → z < n → ((k : ℕ) → k < z → p (i + k) ≡ false) → p (i + z) ≡ true → firstOf p (from i n) d ≡ i + z
+first-from : (p : ℕ → Bool) (n i z : ℕ) (d : ℕ) → z < n → ((k : ℕ) → k < z → p (i + k) ≡ false) → p (i + z) ≡ true
+    → firstOf p (from i n) d ≡ i + z
 first-from p zero i z d h f e = absurd (not-suc-le-zero h)
 first-from p (suc n) i zero d h f e =
     ap (λ (b : Bool). if b then i else firstOf p (from (suc i) n) d) (subst (λ (x : ℕ). p x ≡ true) (add-zero i) e) ∙ sym (add-zero i)

@@ -1,4 +1,4 @@
--- Sums of what is equal, of nothing, and of a function that gives 0 but for one number. Sums that shrink: Sums. Assumes nothing.
+-- Sums of what is equal, of nothing, and of a function that gives 0 but for one number. Sums that shrink: Sums.
 use Prim.Native.Nat.{ℕ, zero, suc, _+_, _≤_, _<_}
 use mathlib.Core.Path.{_≡_, refl, ap, ap₂}
 use mathlib.Core.Logic.{_≢_}

@@ -1,4 +1,4 @@
--- Laws of a list that loses one of its places: who is still in it, and what its elements give. Assumes nothing.
+-- Laws of a list that loses one of its places: who is still in it, and what its elements give.
 use Prim.Native.Nat.{ℕ, zero, suc, _<_}
 use mathlib.Core.Path.{_≡_, refl, sym, ap, _∙_}
 use mathlib.Core.Logic.{_⊎_, inl, inr, ⊎-elim}

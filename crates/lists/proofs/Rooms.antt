@@ -1,4 +1,4 @@
--- Lists in a room of fixed size whose unused places are all the same: one more at the end, one less in the middle. Assumes nothing.
+-- Lists in a room of fixed size whose unused places are all the same: one more at the end, one less in the middle.
 use Prim.Native.Nat.{ℕ, zero, suc, _+_, _-_, _≤_, _<_}
 use mathlib.Core.Path.{_≡_, refl, sym, ap, ap₂, _∙_, subst}
 use mathlib.Core.List.{List, [], _∷_, _++_, append-assoc}
@@ -111,14 +111,16 @@ module _ {A : Type 0} (size : ℕ) (z : A) where
         ∙ ap (λ (n : ℕ). set xs i x ++ replicate (size - n) z) (sym (length-set xs i x))
 
     -- one less: place a is closed up to the last, and the last place is z
-    pub roomed-less : (a n : ℕ) → a < length xs → length xs ≤ size → n + 1 ≡ length xs → set (closing a (roomed size z xs) n) n z ≡ roomed size z (without a xs)
+    pub roomed-less : (a n : ℕ) → a < length xs → length xs ≤ size → n + 1 ≡ length xs
+        → set (closing a (roomed size z xs) n) n z ≡ roomed size z (without a xs)
     unfolding roomed
     roomed-less a n h m e =
         let rest = replicate (size - length xs) z in
         let w : length (without a xs) ≡ n = omega (arith, e, length-without a xs h) in
         let q : length xs ≡ suc n = omega (arith, e) in
         ap₂ (λ (l r : List A). set (l ++ r) n z) (ap (take n) (without-append a xs rest h) ∙ take-at (without a xs) rest n w)
-        (drop-cons (xs ++ rest) n z (omega (arith, e, length-append xs rest)) ∙ ap (λ (r : List A). getD (xs ++ rest) n z ∷ r) (drop-at xs rest (suc n) q))
+        (drop-cons (xs ++ rest) n z (omega (arith, e, length-append xs rest))
+        ∙ ap (λ (r : List A). getD (xs ++ rest) n z ∷ r) (drop-at xs rest (suc n) q))
         ∙ set-at (without a xs) (getD (xs ++ rest) n z) rest z n w
         ∙ ap (λ (r : List A). without a xs ++ r) (ap (λ (k : ℕ). replicate k z) (count w))
       where
@@ -126,7 +128,8 @@ module _ {A : Type 0} (size : ℕ) (z : A) where
         count w = omega (arith, e, w)
 
   -- a list of that size whose places from n on are z
-  pub roomed-of : (l : List A) (n : ℕ) (d : A) → length l ≡ size → n ≤ size → ((j : ℕ) → n ≤ j → j < size → getD l j d ≡ z) → l ≡ roomed size z (take n l)
+  pub roomed-of : (l : List A) (n : ℕ) (d : A) → length l ≡ size → n ≤ size → ((j : ℕ) → n ≤ j → j < size → getD l j d ≡ z)
+      → l ≡ roomed size z (take n l)
   roomed-of l n d e h f =
       ext-getD d l (roomed size z (take n l)) (e ∙ sym (length-roomed (take n l) (omega (arith, t)))) (λ i m. at i m (decLt i n))
     where

@@ -1,4 +1,4 @@
--- Sums over the numbers below n that shrink, and the largest number that a list gives. Assumes nothing.
+-- Sums over the numbers below n that shrink, and the largest number that a list gives.
 use Prim.Native.Nat.{ℕ, zero, suc, _+_, _≤_, _<_}
 use mathlib.Core.Path.{_≡_, subst, subst⁻¹}
 use mathlib.Core.Logic.{⊎-elim}

@@ -1,5 +1,5 @@
 -- Laws of tests: `&&`, `||`, `if`, and `every`, `any` over a list.
--- A test that passed is `T b` or `b ≡ true`; T-is and is-T go between. Assumes nothing.
+-- A test that passed is `T b` or `b ≡ true`; T-is and is-T go between.
 use Prim.Native.Nat.{ℕ, zero, suc, _<_, zero-le, suc-le-suc}
 use mathlib.Core.Bool.{Bool, true, false, not, _&&_, _||_}
 use mathlib.Core.Path.{_≡_, refl, ap, _∙_, subst, subst⁻¹}

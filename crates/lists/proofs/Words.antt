@@ -1,4 +1,4 @@
--- Laws of a word's bits, over its width. Assumes nothing.
+-- Laws of a word's bits, over its width.
 use Prim.Native.Nat.{ℕ, zero, suc, _+_, _-_, _*_, _/_, _%_, _^_, _≤_, _<_, max}
 use mathlib.Core.Bool.{Bool, true, false}
 use mathlib.Core.Path.{_≡_, refl, sym, ap, _∙_, subst}
@@ -48,7 +48,8 @@ pub word-ext : (k a b : ℕ) → a < 2 ^ k → b < 2 ^ k → ((t : ℕ) → t < 
 word-ext zero a b ha hb f = omega arith
 word-ext (suc k) a b ha hb f =
     let p : 2 ^ suc k ≡ 2 ^ k * 2 = pow-suc 2 k in
-    let ih : a / 2 ≡ b / 2 = word-ext k (a / 2) (b / 2) (omega arith) (omega arith) (λ t h. sym (bit-suc a t) ∙ f (suc t) (omega arith) ∙ bit-suc b t) in
+    let ih : a / 2 ≡ b / 2 = word-ext k (a / 2) (b / 2) (omega arith) (omega arith)
+    (λ t h. sym (bit-suc a t) ∙ f (suc t) (omega arith) ∙ bit-suc b t) in
     let low : a % 2 ≡ b % 2 = sym (bit-zero a) ∙ f 0 (omega arith) ∙ bit-zero b in
     omega arith
 
@@ -90,7 +91,8 @@ put-other w t u h ne = go (decLt t u)
         let d : ℕ = t - (u + 1) in
         let q : t ≡ suc d + u = omega arith in
         let p : 2 ^ t ≡ (2 ^ d * 2) * 2 ^ u = ap (λ (x : ℕ). 2 ^ x) q ∙ pow-add 2 (suc d) u ∙ ap (λ (x : ℕ). x * 2 ^ u) (pow-suc 2 d) in
-        let e : (w + 2 ^ t) / 2 ^ u ≡ w / 2 ^ u + 2 ^ d * 2 = ap (λ (x : ℕ). (w + x) / 2 ^ u) p ∙ add-mul-div-right w (2 ^ d * 2) (pow-pos u) in
+        let e : (w + 2 ^ t) / 2 ^ u ≡ w / 2 ^ u + 2 ^ d * 2 = ap (λ (x : ℕ). (w + x) / 2 ^ u) p
+        ∙ add-mul-div-right w (2 ^ d * 2) (pow-pos u) in
         omega arith
 
 -- ---- a bit taken off
@@ -122,7 +124,8 @@ not-at (suc k) w zero h l =
 not-at (suc k) w (suc t) h l =
     let p : 2 ^ suc k ≡ 2 ^ k * 2 = pow-suc 2 k in
     let q : ((2 ^ suc k - 1) - w) / 2 ≡ (2 ^ k - 1) - w / 2 = omega arith in
-    bit-suc ((2 ^ suc k - 1) - w) t ∙ ap (λ (x : ℕ). bitAt x t) q ∙ not-at k (w / 2) t (omega arith) (omega arith) ∙ ap (λ (x : ℕ). 1 - x) (sym (bit-suc w t))
+    bit-suc ((2 ^ suc k - 1) - w) t ∙ ap (λ (x : ℕ). bitAt x t) q ∙ not-at k (w / 2) t (omega arith) (omega arith)
+    ∙ ap (λ (x : ℕ). 1 - x) (sym (bit-suc w t))
 
 and-digits : (x y : ℕ) → x < 2 → y < 2 → bitAnd x y ≡ x * y
 and-digits zero zero h l = refl
@@ -135,7 +138,8 @@ and-digits (suc (suc x)) y h l = absurd (omega arith)
 
 pub and-at : (a b t : ℕ) → bitAt (bitAnd a b) t ≡ bitAt a t * bitAt b t
 and-at a b t =
-    ap (λ (x : ℕ). x % 2) (and-shr a b t) ∙ and-mod (a / 2 ^ t) (b / 2 ^ t) 1 ∙ and-digits (bitAt a t) (bitAt b t) (omega arith) (omega arith)
+    ap (λ (x : ℕ). x % 2) (and-shr a b t) ∙ and-mod (a / 2 ^ t) (b / 2 ^ t) 1
+    ∙ and-digits (bitAt a t) (bitAt b t) (omega arith) (omega arith)
 
 or-digits : (x y : ℕ) → x < 2 → y < 2 → bitOr x y ≡ max x y
 or-digits zero zero h l = refl

@@ -1,6 +1,5 @@
 -- A choice by a test, tests on lists, the numbers below n, and a list filled from the front.
 -- Their laws: proofs/Tests.antt, proofs/Numbers.antt, proofs/Fill.antt. `take`, `drop`, `getD` and `set` are the kit's (lib.ListN).
--- Assumes nothing.
 use Prim.Native.Nat.{ℕ, zero, suc, _+_}
 use mathlib.Core.Bool.{Bool, true, false, _&&_, _||_}
 use mathlib.Core.List.{List, [], _∷_, _++_, map}

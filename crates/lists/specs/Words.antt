@@ -1,4 +1,4 @@
--- A word as a set of numbers: t is in the word if its bit t is set. Their laws: proofs/Words.antt. Assumes nothing.
+-- A word as a set of numbers: t is in the word if its bit t is set. Their laws: proofs/Words.antt.
 use Prim.Native.Nat.{ℕ, _+_, _*_, _/_, _%_, _^_}
 use mathlib.Core.Bool.{Bool, true, false}
 use mathlib.Core.List.{List, [], _∷_}

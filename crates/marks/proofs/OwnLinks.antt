@@ -1,4 +1,4 @@
--- A station's own links, as the code reads them off the network. Assumes nothing.
+-- A station's own links, as the code reads them off the network.
 use Prim.Native.Nat.{ℕ, _<_}
 use mathlib.Core.Bool.{Bool, _||_}
 use mathlib.Core.Path.{_≡_, sym, ap, _∙_}

@@ -1,4 +1,4 @@
--- The marks of a link in five words, and a station's own links. Assumes nothing.
+-- The marks of a link in five words, and a station's own links.
 use Prim.Native.Nat.{ℕ}
 use mathlib.Core.Bool.{Bool, _&&_}
 use lib.Dec.{eqb, ltb}

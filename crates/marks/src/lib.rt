@@ -53,15 +53,6 @@ pub fn with_marks(w: Words, k: u8, m: Marks) -> Words
     }
 }
 
-fn is_end(low: u8, high: u8, s: u8) -> bool
-    ensures { λ r. ⌜ r ≡ (eqb low s || eqb high s) ⌝ }
-{
-    if low == s {
-        return true;
-    }
-    high == s
-}
-
 // The links that the station s is an end of.
 // Promise: the links that exist and have s as an end (`Marks.ownAt`).
 pub fn own_links(net: Net, s: u8) -> u64
@@ -71,7 +62,7 @@ pub fn own_links(net: Net, s: u8) -> u64
     let mut own: u64 = 0;
     for k in 0..m {
         let i = k as usize;
-        own = sets::put(own, k, is_end(net.low[i], net.high[i], s));
+        own = sets::put(own, k, net::is_end(net.low[i], net.high[i], s as u16));
     }
     own
 }

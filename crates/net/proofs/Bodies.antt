@@ -1,4 +1,4 @@
--- The test of what a letter says: in the order in which the code asks, and against a network. Assumes nothing.
+-- The test of what a letter says: in the order in which the code asks, and against a network.
 use Prim.Native.Nat.{ℕ, _≤_, _<_}
 use mathlib.Core.Bool.{Bool, false, _&&_}
 use mathlib.Core.Path.{_≡_, refl, sym, ap, _∙_}

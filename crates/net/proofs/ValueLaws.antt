@@ -1,4 +1,4 @@
--- What the code reads in a network value is what its meaning has. Assumes nothing.
+-- What the code reads in a network value is what its meaning has.
 use Prim.Native.Nat.{ℕ, _≤_, _<_, min}
 use mathlib.Core.Path.{_≡_, refl}
 use native.Mathlib.Omega.{arith}

@@ -1,4 +1,4 @@
--- Letters as values, and which of them may travel in a network. Assumes nothing.
+-- Letters as values, and which of them may travel in a network.
 use Prim.Native.Nat.{ℕ}
 use mathlib.Core.Bool.{Bool, true, _&&_}
 use lib.Dec.{leb, ltb}

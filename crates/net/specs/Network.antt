@@ -1,4 +1,4 @@
--- The network that a sheet gives: stations and links. The crate `sheet_rules` says which networks a sheet may give. Assumes nothing.
+-- The network that a sheet gives: stations and links. The crate `sheet_rules` says which networks a sheet may give.
 use Prim.Native.Nat.{ℕ}
 use mathlib.Core.Bool.{Bool, _&&_, _||_}
 use mathlib.Core.List.{List}

@@ -1,5 +1,5 @@
 -- What a network value means, and what a letter may say in one.
--- A value that breaks the rules has a meaning too: stations beyond 32 and links beyond 64 are not there. Assumes nothing.
+-- A value that breaks the rules has a meaning too: stations beyond 32 and links beyond 64 are not there.
 use Prim.Native.Nat.{ℕ, min}
 use mathlib.Core.Bool.{Bool, true, _&&_}
 use mathlib.Core.List.{map}

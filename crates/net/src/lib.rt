@@ -2,6 +2,8 @@
 // An inner door: the calls are in docs/CALLS.md.
 ghost use mathlib.Core.Path.{_≡_};
 ghost use Rattle.net.specs.Values.{bodyTest};
+ghost use mathlib.Core.Bool.{_||_};
+ghost use lib.Dec.{eqb};
 
 // Link k has the ends low[k] and high[k]; unused room is zero.
 pub struct Net {
@@ -43,4 +45,15 @@ pub fn body_holds(links: u8, body: Body) -> bool
             1 <= c
         }
     }
+}
+
+// Whether a station is an end of a link.
+// Promise: s is one of the two ends.
+pub fn is_end(low: u8, high: u8, s: u16) -> bool
+    ensures { λ r. ⌜ r ≡ (eqb low s || eqb high s) ⌝ }
+{
+    if low as u16 == s {
+        return true;
+    }
+    high as u16 == s
 }

@@ -1,4 +1,4 @@
--- A station's part, number by number, from what was put. Assumes nothing.
+-- A station's part, number by number, from what was put.
 use Prim.Native.Nat.{ℕ, zero, suc, _+_, _*_, _≤_, _<_, min}
 use mathlib.Core.Bool.{Bool, true, false}
 use mathlib.Core.Path.{_≡_, refl, sym, ap, ap₂, _∙_, subst}
@@ -29,11 +29,13 @@ there-other n h = simp (ne-eqb n 0 h)
 
 -- ---- the answer and the output, return by return
 module _ (number : ℕ) (text old : List ℕ) (b : Bool) (p : b ≡ isThere number) where
-  pub part-refused : b ≡ false → (record { answer = number; written = 0 } ≡ partWrote number text old) × ((old ≡ partOutput number text old) × Counts 0 old)
+  pub part-refused : b ≡ false → (record { answer = number; written = 0 } ≡ partWrote number text
+      old) × ((old ≡ partOutput number text old) × Counts 0 old)
   part-refused q = let e : isThere number ≡ false = sym p ∙ q in simp e (refl, (refl, (omega arith, refl)))
 
   module _ (q : b ≡ true) where
-    pub part-short : length old < 4096 → (record { answer = 10; written = 0 } ≡ partWrote number text old) × ((old ≡ partOutput number text old) × Counts 0 old)
+    pub part-short : length old < 4096 → (record { answer = 10; written = 0 } ≡ partWrote number text
+        old) × ((old ≡ partOutput number text old) × Counts 0 old)
     part-short h = let e : isThere number ≡ true = sym p ∙ q in simp e (wrote-short 4096 text old h)
 
     pub part-put : (other : List ℕ) (r : ℕ) (new : List ℕ) → 4096 ≤ length old → other ≡ text → Put other 4096 0 old r new
@@ -50,7 +52,8 @@ module _ (number : ℕ) (net : Net) (s ones lowest : ℕ) (waiting : Bool) (repo
   pub part-live : number ≡ 0 → liveText (networkOf net) s ones lowest report ≡ partText number net s ones lowest waiting report
   part-live e = simp (eq-eqb number 0 e)
 
-pub put-wider : (text : List ℕ) (most more at : ℕ) (old : List ℕ) (r : ℕ) (new : List ℕ) → most ≤ more → Put text most at old r new → Put text more at old r new
+pub put-wider : (text : List ℕ) (most more at : ℕ) (old : List ℕ) (r : ℕ) (new : List ℕ) → most ≤ more → Put text most at old r new
+    → Put text more at old r new
 put-wider text most more at old r new h p = record { place = p .place; output = p .output; few = omega (arith, p .few) }
 
 -- ---- a live station's part
@@ -74,24 +77,29 @@ module _ (net : Net) (report : List ℕ) (n m : ℕ) (en : n ≡ min (net .stati
   links-are : collect linkLine (below m) ≡ linksSeen (networkOf net) report
   unfolding linksSeen
   links-are =
-      let g : ℕ → List ℕ = λ k. linkText k (ends (networkOf net) k .low) (ends (networkOf net) k .high) (getD report (networkOf net .stations + k) 0) in
-      collect-same linkLine g m (λ k h. ap₂ (λ (x : Ends) (y : ℕ). linkText k (x .low) (x .high) (getD report (y + k) 0)) (sym (ends-of net k (omega arith))) is-stations)
+      let g : ℕ → List ℕ = λ k. linkText k (ends (networkOf net) k .low) (ends (networkOf net) k .high)
+      (getD report (networkOf net .stations + k) 0) in
+      collect-same linkLine g m (λ k h. ap₂ (λ (x : Ends) (y : ℕ). linkText k (x .low) (x .high) (getD report (y + k) 0))
+      (sym (ends-of net k (omega arith))) is-stations)
       ∙ ap (λ (j : ℕ). collect g (below j)) (em ∙ sym (links-of net))
 
   stations-are-seen : collect stationLine (below n) ≡ stationsSeen (networkOf net .stations) report
   unfolding stationsSeen
   stations-are-seen = ap (λ (j : ℕ). collect stationLine (below j)) is-stations
 
-  live-whole : (s ones lowest : ℕ) → ((([] ++ reachText s ones n) ++ lowestText lowest) ++ collect stationLine (below n)) ++ collect linkLine (below m)
+  live-whole : (s ones lowest : ℕ) → ((([] ++ reachText s ones n) ++ lowestText lowest) ++ collect stationLine (below n)) ++ collect
+      linkLine (below m)
       ≡ liveText (networkOf net) s ones lowest report
   unfolding liveText
   live-whole s ones lowest =
       ap₂ (λ (x y : List ℕ). ((([] ++ reachText s ones n) ++ lowestText lowest) ++ x) ++ y) stations-are-seen links-are
-      ∙ ap (λ (j : ℕ). ((([] ++ reachText s ones j) ++ lowestText lowest) ++ stationsSeen (networkOf net .stations) report) ++ linksSeen (networkOf net) report) is-stations
+      ∙ ap (λ (j : ℕ). ((([] ++ reachText s ones j) ++ lowestText lowest) ++ stationsSeen (networkOf net .stations) report) ++ linksSeen
+      (networkOf net) report) is-stations
       ∙ simp append-assoc
 
   pub live-put : (s ones lowest : ℕ) (old : List ℕ) (a b c r : ℕ) (o1 o2 o3 o4 : List ℕ) → 4096 ≤ length old
-      → Put (reachText s ones n) 40 0 old a o1 → Put (lowestText lowest) 25 a o1 b o2 → Put (collect stationLine (below n)) (26 * n) b o2 c o3
+      → Put (reachText s ones n) 40 0 old a o1 → Put (lowestText lowest) 25 a o1 b o2
+      → Put (collect stationLine (below n)) (26 * n) b o2 c o3
       → Put (collect linkLine (below m)) (44 * m) c o3 r o4 → Put (liveText (networkOf net) s ones lowest report) 4096 0 old r o4
   live-put s ones lowest old a b c r o1 o2 o3 o4 h p1 p2 p3 p4 =
       let few-n : n ≤ 32 = omega arith in
@@ -104,4 +112,5 @@ module _ (net : Net) (report : List ℕ) (n m : ℕ) (en : n ≡ min (net .stati
       let l3 : c ≤ 897 = omega (arith, p3 .place, p3 .few) in
       let c4 = chain-next (collect linkLine (below m)) c3 (put-next (omega (arith, c3 .size)) p4) in
       let l4 : r ≤ 3713 = omega (arith, p4 .place, p4 .few) in
-      put-lines (liveText (networkOf net) s ones lowest report) 4096 0 old r o4 (chain-same (live-whole s ones lowest) c4) (omega arith) (omega arith)
+      put-lines (liveText (networkOf net) s ones lowest report) 4096 0 old r o4 (chain-same (live-whole s ones lowest) c4) (omega arith)
+      (omega arith)

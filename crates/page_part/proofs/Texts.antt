@@ -1,4 +1,4 @@
--- A part's texts as the code puts them, part by part, and how long they are. Assumes nothing.
+-- A part's texts as the code puts them, part by part, and how long they are.
 use Prim.Native.Nat.{ℕ, zero, suc, _+_, _*_, _≤_, _<_}
 use mathlib.Core.Bool.{Bool, true, false}
 use mathlib.Core.Path.{_≡_, refl, sym, ap, ap₂, _∙_, subst}
@@ -24,7 +24,8 @@ pub put-parts : {parts text : List ℕ} (most : ℕ) {at : ℕ} {old : List ℕ}
 put-parts {parts} {text} most {at} {old} {r} {new} c e few h = put-done text most at old r new (chain-same e c) few h
 
 -- what fits is no longer than the place behind it
-pub put-lines : (text : List ℕ) (most at : ℕ) (old : List ℕ) (r : ℕ) (new : List ℕ) → Chain text at old r new → r ≤ at + most → at + most ≤ length old → Put text most at old r new
+pub put-lines : (text : List ℕ) (most at : ℕ) (old : List ℕ) (r : ℕ) (new : List ℕ) → Chain text at old r new → r ≤ at + most
+    → at + most ≤ length old → Put text most at old r new
 put-lines text most at old r new c h l =
     let fits : at + length text ≤ length old = chain-fits text at old r new c (omega arith) in
     put-done text most at old r new c (omega (arith, c .place ∙ place-fits text at old fits)) l
@@ -57,7 +58,8 @@ unfolding stillText
 still-few s w h = simp length-append (omega (arith, byte-digits s h, condition-few w))
 
 -- ---- a live one
-pub reach-whole : (s ones n : ℕ) → ((((([] ++ stationWord) ++ digits s) ++ liveWord) ++ digits ones) ++ ofWord) ++ digits n ≡ reachText s ones n
+pub reach-whole : (s ones n : ℕ) → ((((([] ++ stationWord) ++ digits s) ++ liveWord) ++ digits ones) ++ ofWord) ++ digits n ≡ reachText s
+    ones n
 unfolding reachText
 reach-whole s ones n = simp append-assoc
 
@@ -115,7 +117,8 @@ link-shown-few true b = omega arith
 link-shown-few false true = omega arith
 link-shown-few false false = omega arith
 
-pub link-whole : (k low high x : ℕ) → (((((([] ++ underLink) ++ digits k) ++ openWord) ++ digits low) ++ dashWord) ++ digits high) ++ linkShown x ≡ linkText k low high x
+pub link-whole : (k low high x : ℕ) → (((((([] ++ underLink) ++ digits k) ++ openWord) ++ digits low) ++ dashWord) ++ digits
+    high) ++ linkShown x ≡ linkText k low high x
 unfolding linkText
 link-whole k low high x = simp append-assoc
 

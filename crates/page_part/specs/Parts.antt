@@ -1,4 +1,4 @@
--- A station's part of the page as the code writes it, by the reach's number: the numbers that say no are those of the reach. Assumes nothing.
+-- A station's part of the page as the code writes it, by the reach's number: the numbers that say no are those of the reach.
 use Prim.Native.Nat.{ℕ}
 use mathlib.Core.Bool.{Bool, _||_}
 use mathlib.Core.List.{List}

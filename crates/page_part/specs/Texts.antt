@@ -1,4 +1,4 @@
--- What the page program prints for a station. Assumes nothing.
+-- What the page program prints for a station.
 use Prim.Native.Nat.{ℕ, _+_}
 use mathlib.Core.Bool.{Bool}
 use mathlib.Core.List.{List, [], _∷_, _++_}

@@ -1,4 +1,4 @@
--- The words of a station's part of the page, byte by byte. Assumes nothing.
+-- The words of a station's part of the page, byte by byte.
 use Prim.Native.Nat.{ℕ}
 use mathlib.Core.List.{List, [], _∷_}
 
@@ -52,7 +52,9 @@ dashWord = 45 ∷ []
 
 -- ") perceived unreachable" and a newline
 abbrev pub perceivedWord : List ℕ
-perceivedWord = 41 ∷ 32 ∷ 112 ∷ 101 ∷ 114 ∷ 99 ∷ 101 ∷ 105 ∷ 118 ∷ 101 ∷ 100 ∷ 32 ∷ 117 ∷ 110 ∷ 114 ∷ 101 ∷ 97 ∷ 99 ∷ 104 ∷ 97 ∷ 98 ∷ 108 ∷ 101 ∷ 10 ∷ []
+perceivedWord =
+    41 ∷ 32 ∷ 112 ∷ 101 ∷ 114 ∷ 99 ∷ 101 ∷ 105 ∷ 118 ∷ 101 ∷ 100 ∷ 32 ∷ 117 ∷ 110 ∷ 114 ∷ 101 ∷ 97 ∷ 99 ∷ 104 ∷ 97 ∷ 98 ∷ 108 ∷ 101 ∷ 10 ∷
+    []
 
 -- ") working" and a newline
 abbrev pub linkWorking : List ℕ

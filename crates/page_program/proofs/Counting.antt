@@ -1,4 +1,4 @@
--- Laws of counting answers: one byte more, and none left. Assumes nothing.
+-- Laws of counting answers: one byte more, and none left.
 use Prim.Native.Nat.{ℕ, _+_, _<_}
 use mathlib.Core.Bool.{Bool, true, false}
 use mathlib.Core.Path.{_≡_, refl, sym, ap, ap₂, _∙_}
@@ -17,10 +17,12 @@ module _ (begins : Bool) (b : ℕ) (a : Answers) where
   pub byte-within : begins ≡ false → a ≡ byteCounted begins b a
   byte-within e = rw e
 
-  pub byte-taken : (n : ℕ) → begins ≡ true → b ≡ 48 → n ≡ counted (a .taken) 1 → record { taken = n; refused = a .refused } ≡ byteCounted begins b a
+  pub byte-taken : (n : ℕ) → begins ≡ true → b ≡ 48 → n ≡ counted (a .taken) 1
+      → record { taken = n; refused = a .refused } ≡ byteCounted begins b a
   byte-taken n e h p = rw e (simp (eq-eqb b 48 h) (λ i. record { taken = p i; refused = a .refused }))
 
-  pub byte-refused : (n : ℕ) → begins ≡ true → (b ≡ 48 → ⊥) → n ≡ counted (a .refused) 1 → record { taken = a .taken; refused = n } ≡ byteCounted begins b a
+  pub byte-refused : (n : ℕ) → begins ≡ true → (b ≡ 48 → ⊥) → n ≡ counted (a .refused) 1
+      → record { taken = a .taken; refused = n } ≡ byteCounted begins b a
   byte-refused n e h p = rw e (simp (ne-eqb b 48 h) (λ i. record { taken = a .taken; refused = p i }))
 
 -- ---- bytes one after the other

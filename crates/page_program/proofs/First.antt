@@ -1,4 +1,4 @@
--- The page's first line as the code puts it, part by part, and how long it is. Assumes nothing.
+-- The page's first line as the code puts it, part by part, and how long it is.
 use Prim.Native.Nat.{ℕ, _≤_, _<_, _^_}
 use mathlib.Core.Path.{_≡_}
 use mathlib.Core.List.{[], _++_, append-assoc}

@@ -1,4 +1,4 @@
--- What was asked of a state gives the part of that very state. Assumes nothing.
+-- What was asked of a state gives the part of that very state.
 use Prim.Native.Nat.{ℕ, _<_}
 use mathlib.Core.Bool.{Bool, true, false}
 use mathlib.Core.Path.{_≡_, refl, sym, ap, ap₂, _∙_, subst}
@@ -9,7 +9,7 @@ use Rattle.net.proofs.ValueLaws.{stations-few}
 use Rattle.station.specs.Holding.{isWaiting}
 use Rattle.state.specs.declared.State.{State}
 use Rattle.state.specs.State.{stationIn}
-use Rattle.report.specs.Asking.{placeBy}
+use Rattle.sets.specs.Rooms.{inRoom}
 use Rattle.report.proofs.AskingHelpers.{place-there}
 use Rattle.report.proofs.Refusals.{Why, none, eleven, six, seven, number-why, stations-are}
 use Rattle.report.specs.declared.Asked.{Asked}
@@ -26,8 +26,9 @@ module _ (s : State) (i : ℕ) where
   few-there (six g h) e = absurd (subst T (sym e) tt)
   few-there (seven g h x) e = omega (arith, h, stations-are s g, stations-few (s .net))
 
-  module _ (old : List ℕ) (asked : Asked) (seen : List ℕ) (place : ℕ) (w : Bool) (pa : asked ≡ askedOf s i) (ps : seen ≡ outputOf s i reportRoom)
-      (pp : place ≡ placeBy i) (pw : w ≡ isWaiting (stationIn s place .condition)) where
+  module _ (old : List ℕ) (asked : Asked) (seen : List ℕ) (place : ℕ) (w : Bool) (pa : asked ≡ askedOf s i)
+      (ps : seen ≡ outputOf s i reportRoom)
+      (pp : place ≡ inRoom i) (pw : w ≡ isWaiting (stationIn s place .condition)) where
     abbrev given : List ℕ
     given = partText (asked .answer) (s .net) i (asked .reached .ones) (asked .reached .lowest) w seen
 
@@ -36,11 +37,13 @@ module _ (s : State) (i : ℕ) where
     same-text e =
         let here : place ≡ i = pp ∙ sym (place-there i (few-there (number-why s i) (ap isThere (sym (answer-number s i)) ∙ e))) in
         ap₂ (λ (x : Asked) (y : List ℕ). partText (x .answer) (s .net) i (x .reached .ones) (x .reached .lowest) w y) pa ps
-        ∙ ap (λ (v : Bool). partText (askedOf s i .answer) (s .net) i (askedOf s i .reached .ones) (askedOf s i .reached .lowest) v (outputOf s i reportRoom))
+        ∙ ap (λ (v : Bool). partText (askedOf s i .answer) (s .net) i (askedOf s i .reached .ones) (askedOf s i .reached .lowest) v
+        (outputOf s i reportRoom))
         (pw ∙ ap (λ (j : ℕ). isWaiting (stationIn s j .condition)) here)
 
     by-there : (b : Bool) → isThere (askedOf s i .answer) ≡ b
-        → (partWrote (asked .answer) given old ≡ partWrote (askedOf s i .answer) (stationPart s i) old) × (partOutput (asked .answer) given old ≡ partOutput (askedOf s i .answer) (stationPart s i) old)
+        → (partWrote (asked .answer) given old ≡ partWrote (askedOf s i .answer) (stationPart s i) old) × (partOutput (asked .answer) given
+        old ≡ partOutput (askedOf s i .answer) (stationPart s i) old)
     by-there true e = (
       ap₂ (λ (x : Asked) (y : List ℕ). partWrote (x .answer) y old) pa (same-text e),
       ap₂ (λ (x : Asked) (y : List ℕ). partOutput (x .answer) y old) pa (same-text e),

@@ -1,4 +1,4 @@
--- How many events were taken and refused, by the lines that were printed for them, and the page's first line. Assumes nothing.
+-- How many events were taken and refused, by the lines that were printed for them, and the page's first line.
 use Prim.Native.Nat.{ℕ}
 use mathlib.Core.Bool.{Bool, true, false}
 use mathlib.Core.List.{List, [], _∷_, _++_}

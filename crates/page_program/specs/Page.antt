@@ -1,4 +1,4 @@
--- A station's part of the page, for every state. Assumes nothing.
+-- A station's part of the page, for every state.
 use Prim.Native.Nat.{ℕ}
 use mathlib.Core.List.{List}
 use lib.ListN.{replicate}

@@ -1,4 +1,4 @@
--- The words of the page's first line, byte by byte. Assumes nothing.
+-- The words of the page's first line, byte by byte.
 use Prim.Native.Nat.{ℕ}
 use mathlib.Core.List.{List, [], _∷_}
 

@@ -1,8 +1,8 @@
-// The page's part for each station of a state: what `reaching` and `reports` answer for it, put by `parts`.
+// The page: its first line, and each station's part of it, what `report` answers for the station, put by `page_part`.
 // An inner door: the calls are in docs/CALLS.md.
 ghost use mathlib.Core.Path.{_≡_};
 ghost use Rattle.station.specs.Holding.{isWaiting};
-ghost use Rattle.report.specs.Asking.{placeBy};
+ghost use Rattle.sets.specs.Rooms.{inRoom};
 ghost use Rattle.report.specs.Answers.{askedOf};
 ghost use Rattle.console.specs.Outputs.{Counts, wroteBy, outputBy};
 ghost use Rattle.page_part.specs.Parts.{partWrote, partOutput};
@@ -16,20 +16,10 @@ use console::Wrote;
 use state::State;
 use station::Condition;
 
-fn is_waiting(c: Condition) -> bool
-    ensures { λ r. ⌜ r ≡ isWaiting c ⌝ }
-{
-    match c {
-        Condition::Down => false,
-        Condition::Waiting => true,
-        Condition::Live => false,
-    }
-}
-
 fn place_of(i: u8) -> usize
-    ensures { λ r. ⌜ r ≡ placeBy i ⌝ }
+    ensures { λ r. ⌜ r ≡ inRoom i ⌝ }
 {
-    if i < 32 { i as usize } else { 0 }
+    sets::in_room(i as u32) as usize
 }
 
 // Station i's part of the page. Refusals in their order: 11, 6, 10; none of them touches the output.
@@ -52,7 +42,7 @@ pub fn put_station(s: State, i: u8, out: &mut [u8]) -> Wrote
         i,
         asked.reached.ones,
         asked.reached.lowest,
-        is_waiting(condition),
+        station::is_waiting(condition),
         seen,
         out,
     )

@@ -1,4 +1,4 @@
--- Why the count of letters is the sizes of its words put together, and why it fits. Assumes nothing.
+-- Why the count of letters is the sizes of its words put together, and why it fits.
 use Prim.Native.Nat.{ℕ, _+_, _*_, _^_, _≤_, _<_}
 use mathlib.Core.Bool.{Bool, true, false}
 use mathlib.Core.Path.{_≡_, refl, sym, ap₂, _∙_, subst, subst⁻¹}

@@ -1,5 +1,5 @@
 -- Laws of a set of links that is gone through from its lowest link on: what its links are, and what a word's trailing zeros
--- say of them. Assumes nothing.
+-- say of them.
 use Prim.Native.Nat.{ℕ, _+_, _-_, _*_, _%_, _^_, _≤_, _<_}
 use mathlib.Core.Bool.{Bool, true, false, not}
 use mathlib.Core.Path.{_≡_, refl, sym, ap, _∙_, subst}

@@ -1,4 +1,4 @@
--- What each case of the code answers: the first letter, and what is left after it. Assumes nothing.
+-- What each case of the code answers: the first letter, and what is left after it.
 use Prim.Native.Nat.{ℕ, _^_, _<_}
 use mathlib.Core.Bool.{Bool, true, false}
 use mathlib.Core.Path.{_≡_, refl, sym, ap, ap₂, _∙_}

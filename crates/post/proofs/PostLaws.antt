@@ -1,5 +1,5 @@
 -- Laws of a sending that is being posted: at the beginning all its letters are left, and taking the first letter and what is
--- left after it takes them off one by one. A loop uses `start`, `subject-few` and `step-seen`. Assumes nothing.
+-- left after it takes them off one by one. A loop uses `start`, `subject-few` and `step-seen`.
 use Prim.Native.Nat.{ℕ, suc, _+_, _<_}
 use mathlib.Core.Bool.{Bool, true, false, _&&_}
 use mathlib.Core.Path.{_≡_, refl, sym, ap, ap₂, _∙_, subst, subst⁻¹}

@@ -1,4 +1,4 @@
--- A set of links that is gone through from its lowest link on. Their laws: proofs/LinkLaws.antt. Assumes nothing.
+-- A set of links that is gone through from its lowest link on. Their laws: proofs/LinkLaws.antt.
 use Prim.Native.Nat.{ℕ}
 use mathlib.Core.Bool.{Bool, false}
 use lib.Dec.{eqb}

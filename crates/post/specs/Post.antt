@@ -1,5 +1,5 @@
 -- A sending that is being posted: which letters are left, the first of them, and what is left after it.
--- Their laws: proofs/PostLaws.antt. Assumes nothing.
+-- Their laws: proofs/PostLaws.antt.
 use Prim.Native.Nat.{ℕ}
 use mathlib.Core.Bool.{Bool, true, false, _&&_}
 use mathlib.Core.Path.{_≡_}

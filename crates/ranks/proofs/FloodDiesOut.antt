@@ -1,4 +1,4 @@
--- A flood of notices dies out: the theorem, over runs of any length. Assumes nothing.
+-- A flood of notices dies out: the theorem, over runs of any length.
 use Prim.Native.Nat.{ℕ, _≤_}
 use mathlib.Core.Path.{_≡_, subst}
 use native.Mathlib.Nat.{le-refl, le-trans, le-max-left, le-max-right}
@@ -24,7 +24,9 @@ pub under-highest : (site : Site) (F : Flood) → Under site (highest site F) F
 unfolding highest
 under-highest site F = record {
   tables = λ s k h. le-trans (below-largest (λ t. F .rank t k) (site .stations) s h) (le-max-left _ _);
-  notices = λ y m. le-trans (subst (λ (n : ℕ). n ≤ largestOf (carried (y .subject)) (F .flying)) (carries y) (in-largest (carried (y .subject)) y (F .flying) m)) (le-max-right _ _);
+  notices =
+      λ y m. le-trans (subst (λ (n : ℕ). n ≤ largestOf (carried (y .subject)) (F .flying)) (carries y)
+      (in-largest (carried (y .subject)) y (F .flying) m)) (le-max-right _ _);
 }
   where
     carries : (y : Notice) → carried (y .subject) y ≡ y .rank

@@ -1,5 +1,5 @@
 -- The bound is met with equality: three stations in a line, of which the middle one passes on a notice to the last.
--- So no smaller bound would be true. Assumes nothing.
+-- So no smaller bound would be true.
 use Prim.Native.Nat.{ℕ, _≤_, _<_}
 use mathlib.Core.Bool.{_&&_}
 use mathlib.Core.Path.{_≡_, refl, ap, subst⁻¹}
@@ -57,7 +57,8 @@ bound-is-two = refl
 takes-it : (table : ℕ → ℕ → ℕ) (it : Notice) (copies : List Notice) → it .receiver < 3 → it .subject < 2
     → table (it .receiver) (it .subject) < it .rank → length copies ≤ line .weight (it .receiver)
     → ((y : Notice) → y ∈ copies → (y .subject ≡ it .subject) × (y .rank ≡ it .rank))
-    → Taken line (record { rank = table; flying = it ∷ [] }) (record { rank = put (it .receiver) (it .subject) (it .rank) table; flying = copies })
+    → Taken line (record { rank = table; flying = it ∷ [] })
+    (record { rank = put (it .receiver) (it .subject) (it .rank) table; flying = copies })
 takes-it table it copies station link newer few alike = record {
   before = [];
   it = it;
@@ -68,7 +69,12 @@ takes-it table it copies station link newer few alike = record {
   station = station;
   link = link;
   newer = newer;
-  takes = simp (T-is (eqb (it .receiver) (it .receiver)) (eqb-refl (it .receiver)), T-is (eqb (it .subject) (it .subject)) (eqb-refl (it .subject)));
+  takes =
+      simp (
+        T-is (eqb (it .receiver) (it .receiver)) (eqb-refl (it .receiver)),
+        T-is (eqb (it .subject) (it .subject))
+            (eqb-refl (it .subject)),
+      );
   others = put-others (it .receiver) (it .subject) (it .rank) table;
   few = few;
   alike = alike;

@@ -1,5 +1,5 @@
 -- A delivery is a settling, and merges: a receiver that hears ends with the larger of its own rank and the carried one, and no other
--- rank moves. Who is told plays no part. Assumes nothing.
+-- rank moves. Who is told plays no part.
 use Prim.Native.Nat.{ℕ, max}
 use mathlib.Core.Path.{_≡_}
 use mathlib.Core.Logic.{inl, inr}
@@ -19,12 +19,14 @@ module _ (site : Site) (Hears : ℕ → ℕ → Type 0) {F G : Flood} where
 
   -- THE LARGER RANK WINS at a receiver that hears.
   pub larger-wins : (d : Merges Hears site F G) → Heard Hears (delivered d)
-      → G .rank (delivered d .receiver) (delivered d .subject) ≡ max (F .rank (delivered d .receiver) (delivered d .subject)) (delivered d .rank)
+      → G .rank (delivered d .receiver) (delivered d .subject) ≡ max (F .rank (delivered d .receiver) (delivered d .subject))
+      (delivered d .rank)
   larger-wins (inl d) h = omega (arith, d .gone .same (d .gone .it .receiver) (d .gone .it .subject), d .old h)
   larger-wins (inr d) h = omega (arith, d .took .takes, d .took .newer)
 
   -- NO OTHER RANK MOVES: none of another station, and none for another link.
-  pub no-other-moves : (d : Merges Hears site F G) (s k : ℕ) → ((s ≡ delivered d .receiver) × (k ≡ delivered d .subject) → ⊥) → G .rank s k ≡ F .rank s k
+  pub no-other-moves : (d : Merges Hears site F G) (s k : ℕ) → ((s ≡ delivered d .receiver) × (k ≡ delivered d .subject) → ⊥)
+      → G .rank s k ≡ F .rank s k
   no-other-moves (inl d) s k z = d .gone .same s k
   no-other-moves (inr d) s k z = d .took .others s k z
 

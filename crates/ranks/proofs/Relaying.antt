@@ -1,4 +1,4 @@
--- A delivery in full is one that merges: all of Merging.antt holds of it. Assumes nothing.
+-- A delivery in full is one that merges: all of Merging.antt holds of it.
 use Prim.Native.Nat.{ℕ}
 use mathlib.Core.Logic.{inl, inr}
 use Rattle.ranks.specs.Flood.{Flood, Site, Settles}

@@ -1,5 +1,5 @@
 -- One settling pays for itself: it takes one notice off, and a station that sends copies came nearer to the highest ranks.
--- The bound of a whole run: FloodDiesOut.antt. Assumes nothing.
+-- The bound of a whole run: FloodDiesOut.antt.
 use Prim.Native.Nat.{ℕ, _+_, _-_, _≤_, _<_}
 use mathlib.Core.Path.{_≡_, sym, ap}
 use mathlib.Core.Logic.{_⊎_, ⊎-elim}
@@ -32,7 +32,8 @@ pub taken-flying : {site : Site} {F G : Flood} (c : Taken site F G) → length (
 taken-flying c = omega (arith, simp length-append at (ap length (c .was)), simp length-append at (ap length (c .now)))
 
 -- what holds of every rank before and of the one that is taken holds of every rank after
-pub taken-ranks : {site : Site} {F G : Flood} (c : Taken site F G) (P : ℕ → ℕ → ℕ → Type 0) → P (c .it .receiver) (c .it .subject) (c .it .rank)
+pub taken-ranks : {site : Site} {F G : Flood} (c : Taken site F G) (P : ℕ → ℕ → ℕ → Type 0)
+    → P (c .it .receiver) (c .it .subject) (c .it .rank)
     → ((s k : ℕ) → P s k (F .rank s k)) → (s k : ℕ) → P s k (G .rank s k)
 taken-ranks {site} {F} {G} c P new old s k = go (ℕ-discrete s (c .it .receiver)) (ℕ-discrete k (c .it .subject))
   where
@@ -80,7 +81,8 @@ module _ (site : Site) (top : ℕ → ℕ) where
     nearer : distance site top G (c .it .receiver) + 1 ≤ distance site top F (c .it .receiver)
     unfolding distance
     nearer =
-        sum-less (λ k. top k - F .rank (c .it .receiver) k) (λ k. top k - G .rank (c .it .receiver) k) 1 (c .it .subject) (site .links) (c .link)
+        sum-less (λ k. top k - F .rank (c .it .receiver) k) (λ k. top k - G .rank (c .it .receiver) k) 1 (c .it .subject) (site .links)
+        (c .link)
         (λ j p. omega (arith, taken-rises c (c .it .receiver) j))
         (omega (arith, c .takes, c .newer, it-under))
 

@@ -1,4 +1,4 @@
--- How many notices a run can settle, and what it does to the ranks. Assumes nothing.
+-- How many notices a run can settle, and what it does to the ranks.
 use Prim.Native.Nat.{ℕ, _+_, _*_, _-_, _≤_, _<_, max}
 use lib.Dec.{eqb}
 use lib.ListN.{length}

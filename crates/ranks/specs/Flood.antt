@@ -1,7 +1,6 @@
 -- A flood of notices over ranks: tables, notices in flight, and the ways in which one notice is settled.
 -- A rank is a number: newer is larger. What it stands for is the user's affair: a counter, or absent, present and removed.
 -- Nothing is said here of who sends to whom: only how many copies go out (Relay.antt says more, for those who need it).
--- Assumes nothing.
 use Prim.Native.Nat.{ℕ, suc, _≤_, _<_}
 use mathlib.Core.Path.{_≡_}
 use mathlib.Core.Logic.{_⊎_}

@@ -1,6 +1,6 @@
 -- A delivery as far as merging goes: who hears. Nothing is said of who is told, so that a family whose links come and go during a
 -- run has it too (Relay.antt says more, for those who need it).
--- `Hears t k`: t takes what comes over the link k. Assumes nothing.
+-- `Hears t k`: t takes what comes over the link k.
 use Prim.Native.Nat.{ℕ, _≤_}
 use mathlib.Core.Logic.{_⊎_}
 use Rattle.ranks.specs.Flood.{Notice, Flood, Site, Gone, Taken}

@@ -1,7 +1,6 @@
 -- A delivery in full: what merging needs (Merge.antt), and who is told. Neither the bound nor merging needs this, and a family whose
 -- links come and go during a run does not have it; that the order of delivery does not matter cannot do without.
 -- `Hears t k`: t takes what comes over the link k. `Leads u k t`: u sends over k, and t stands at its other end.
--- Assumes nothing.
 use Prim.Native.Nat.{ℕ}
 use mathlib.Core.Path.{_≡_}
 use mathlib.Core.Logic.{_⊎_, _≢_}
@@ -14,7 +13,8 @@ module _ (site : Site) (Hears : ℕ → ℕ → Type 0) (Leads : ℕ → ℕ →
   pub record Told {F G : Flood} (took : Taken site F G) : Type 0 where
     pub by-receiver : (y : Notice) → y ∈ took .copies → y .sender ≡ took .it .receiver
     pub leads : (y : Notice) → y ∈ took .copies → Leads (took .it .receiver) (y .over) (y .receiver)
-    pub all : (k t : ℕ) → Leads (took .it .receiver) k t → k ≢ took .it .over → (y : Notice) × (y ∈ took .copies) × (y .over ≡ k) × (y .receiver ≡ t)
+    pub all : (k t : ℕ) → Leads (took .it .receiver) k t → k ≢ took .it .over
+        → (y : Notice) × (y ∈ took .copies) × (y .over ≡ k) × (y .receiver ≡ t)
     pub back : (t : ℕ) → Leads (took .it .receiver) (took .it .over) t → t ≡ took .it .sender
 
   -- A delivery with effect: the notice is heard and taken, and told on.

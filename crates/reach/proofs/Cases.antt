@@ -1,4 +1,4 @@
--- P11 and P12 of document 01: a line 0-1-2 seen from station 0. antt computes both sides. Assumes nothing.
+-- P11 and P12 of document 01: a line 0-1-2 seen from station 0. antt computes both sides.
 use Prim.Native.Nat.{ℕ}
 use mathlib.Core.Path.{_≡_, refl}
 use mathlib.Core.List.{List, [], _∷_, _++_, map}

@@ -1,4 +1,4 @@
--- The report's link values, in the order in which the code asks. Assumes nothing.
+-- The report's link values, in the order in which the code asks.
 use mathlib.Core.Bool.{Bool, true, false}
 use mathlib.Core.Path.{_≡_}
 use Rattle.reach.specs.Reach.{linkValue}

@@ -1,4 +1,4 @@
--- The reach word's two numbers are those of the reach: how many are reached, and the lowest that is not. Assumes nothing.
+-- The reach word's two numbers are those of the reach: how many are reached, and the lowest that is not.
 use Prim.Native.Nat.{ℕ, _≤_, _<_, min}
 use mathlib.Core.Bool.{Bool, not}
 use mathlib.Core.Path.{_≡_, sym, ap, _∙_, fun-ext}
@@ -29,7 +29,8 @@ module _ (net : Net) (works : ℕ → Bool) (s : ℕ) where
       ∙ ap (λ (n : ℕ). firstOf (λ t. not (has (reachOf net works s) t)) (below n) 255) (sym (reach-length _ _ s ∙ stations-of net))
 
 pub reached-is : (net : Net) (works : ℕ → Bool) (s word ones lowest : ℕ) → word ≡ wordOf (reachOf net works s) → ones ≡ onesOf word
-    → lowest ≡ lowestMissing word (net .stations) → _≡_ {A = Reached} (record { word = word; ones = ones; lowest = lowest }) (reachedOf net works s)
+    → lowest ≡ lowestMissing word (net .stations)
+    → _≡_ {A = Reached} (record { word = word; ones = ones; lowest = lowest }) (reachedOf net works s)
 reached-is net works s word ones lowest p q r =
     let q′ = q ∙ ap onesOf p ∙ ones-of-reach net works s in
     let r′ = r ∙ ap (λ (w : ℕ). lowestMissing w (net .stations)) p ∙ lowest-of-reach net works s in
@@ -39,7 +40,8 @@ reached-is net works s word ones lowest p q r =
 pub lowest-run : (w n z : ℕ) → Run 32 w z → z < min n 32 → z ≡ lowestMissing w n
 unfolding lowestMissing
 lowest-run w n z r h =
-    sym (first-is (λ t. not (inWord w t)) (min n 32) z 255 h (λ t l. ap not (one-is-in w t (r .has t l))) (ap not (zero-is-out w z (r .lacks (omega arith)))))
+    sym (first-is (λ t. not (inWord w t)) (min n 32) z 255 h (λ t l. ap not (one-is-in w t (r .has t l)))
+    (ap not (zero-is-out w z (r .lacks (omega arith)))))
 
 pub lowest-none : (w n z : ℕ) → Run 32 w z → min n 32 ≤ z → 255 ≡ lowestMissing w n
 unfolding lowestMissing

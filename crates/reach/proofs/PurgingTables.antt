@@ -1,4 +1,4 @@
--- Purge, as the code goes through its arrays. Assumes nothing.
+-- Purge, as the code goes through its arrays.
 use Prim.Native.Nat.{ℕ, _<_}
 use mathlib.Core.Bool.{Bool, _||_}
 use mathlib.Core.Path.{_≡_, sym, ap, ap₂, _∙_}

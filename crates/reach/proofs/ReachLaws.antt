@@ -1,6 +1,6 @@
 -- The computed reach is the reach by stations that lead there, for every network, every choice of working links and every station.
 -- Callers use `sound` and `complete`, and not the text of `reach`.
--- Inside: sets that grow, one link further, and that after as many rounds as there are stations nothing is left to add. Assumes nothing.
+-- Inside: sets that grow, one link further, and that after as many rounds as there are stations nothing is left to add.
 use Prim.Native.Nat.{ℕ, zero, suc, _≤_, _<_}
 use mathlib.Core.Bool.{Bool, true, false, _&&_, _||_}
 use mathlib.Core.Path.{_≡_, refl, sym, ap, _∙_, subst, subst⁻¹}
@@ -75,7 +75,8 @@ module _ {net : Network} {works : ℕ → Bool} where
   reaches-real r = leads-real (r .station) (r .leads)
 
   -- what holds of a station and goes over each working link holds of all that it reaches
-  leads-keep : {s t : ℕ} {us : List ℕ} (P : ℕ → Type 0) → ((u v : ℕ) → Joined net works u v → P u → P v) → P s → Leads net works s us t → P t
+  leads-keep : {s t : ℕ} {us : List ℕ} (P : ℕ → Type 0) → ((u v : ℕ) → Joined net works u v → P u → P v) → P s → Leads net works s us t
+      → P t
   leads-keep P f p here = p
   leads-keep P f p (next {s = s} {u = u} j l) = leads-keep P f (f s u j p) l
 
@@ -84,7 +85,8 @@ module _ {net : Network} {works : ℕ → Bool} where
 
 -- ---- one link further
 module _ (net : Network) (works : ℕ → Bool) where
-  beside-out : (set : List Bool) (t : ℕ) → length set ≡ net .stations → t < net .stations → T (any (joinsTo net works set t) (linkNumbers net))
+  beside-out : (set : List Bool) (t : ℕ) → length set ≡ net .stations → t < net .stations
+      → T (any (joinsTo net works set t) (linkNumbers net))
       → (u : ℕ) × T (has set u) × Joined net works u t
   beside-out set t n m b =
       let r = any-out (joinsTo net works set t) (length (net .links)) 0 b in
@@ -94,8 +96,32 @@ module _ (net : Network) (works : ℕ → Bool) where
       let h : k < length (net .links) = omega (arith, r .2) in
       let w = and-l (works k) _ (r .3) in
       ⊎-elim
-      (λ p. (hi, and-r (eqb lo t) _ p, record { link = k; exists = h; working = w; tied = or-right (eqb lo hi && eqb hi t) _ (and-i (eqb lo t) _ (and-l (eqb lo t) _ p) (eqb-refl hi)); from = real hi (and-r (eqb lo t) _ p); to = m }))
-      (λ p. (lo, and-r (eqb hi t) _ p, record { link = k; exists = h; working = w; tied = or-left (eqb lo lo && eqb hi t) _ (and-i (eqb lo lo) _ (eqb-refl lo) (and-l (eqb hi t) _ p)); from = real lo (and-r (eqb hi t) _ p); to = m }))
+      (λ p. (
+        hi,
+        and-r (eqb lo t) _ p,
+        record {
+          link = k;
+          exists = h;
+          working = w;
+          tied = or-right (eqb lo hi && eqb hi t) _
+              (and-i (eqb lo t) _ (and-l (eqb lo t) _ p) (eqb-refl hi));
+          from = real hi (and-r (eqb lo t) _ p);
+          to = m;
+        },
+      ))
+      (λ p. (
+        lo,
+        and-r (eqb hi t) _ p,
+        record {
+          link = k;
+          exists = h;
+          working = w;
+          tied = or-left (eqb lo lo && eqb hi t) _
+              (and-i (eqb lo lo) _ (eqb-refl lo) (and-l (eqb hi t) _ p));
+          from = real lo (and-r (eqb hi t) _ p);
+          to = m;
+        },
+      ))
       (or-cases (eqb lo t && has set hi) _ (and-r (works k) _ (r .3)))
     where
       real : (u : ℕ) → T (has set u) → u < net .stations
@@ -110,11 +136,14 @@ module _ (net : Network) (works : ℕ → Bool) where
       (subst⁻¹ (λ (x : ℕ). T (joinsTo net works set t x)) (zero-add k)
       (and-i (works k) _ (j .working)
       (⊎-elim
-      (λ p. or-right (eqb lo t && has set hi) _ (and-i (eqb hi t) _ (and-r (eqb lo u) _ p) (subst⁻¹ (λ (x : ℕ). T (has set x)) (eqb→eq lo u (and-l (eqb lo u) _ p)) b)))
-      (λ p. or-left (eqb lo t && has set hi) _ (and-i (eqb lo t) _ (and-l (eqb lo t) _ p) (subst⁻¹ (λ (x : ℕ). T (has set x)) (eqb→eq hi u (and-r (eqb lo t) _ p)) b)))
+      (λ p. or-right (eqb lo t && has set hi) _ (and-i (eqb hi t) _ (and-r (eqb lo u) _ p)
+      (subst⁻¹ (λ (x : ℕ). T (has set x)) (eqb→eq lo u (and-l (eqb lo u) _ p)) b)))
+      (λ p. or-left (eqb lo t && has set hi) _ (and-i (eqb lo t) _ (and-l (eqb lo t) _ p)
+      (subst⁻¹ (λ (x : ℕ). T (has set x)) (eqb→eq hi u (and-r (eqb lo t) _ p)) b)))
       (or-cases (eqb lo u && eqb hi t) _ (j .tied)))))
 
-  spread-at : (set : List Bool) (t : ℕ) → t < net .stations → has (spread net works set) t ≡ (has set t || any (joinsTo net works set t) (linkNumbers net))
+  spread-at : (set : List Bool) (t : ℕ) → t < net .stations
+      → has (spread net works set) t ≡ (has set t || any (joinsTo net works set t) (linkNumbers net))
   unfolding spread
   spread-at set t h = getD-map-below (λ t. has set t || any (joinsTo net works set t) (linkNumbers net)) (net .stations) t false h
 
@@ -151,10 +180,13 @@ module _ (net : Network) (works : ℕ → Bool) where
     -- after h + 1 rounds the set is closed, or holds more than h stations
     rounds : (h : ℕ) → (within net works s h ≡ within net works s (suc h)) ⊎ (h < countOf (within net works s (suc h)))
     unfolding within
-    rounds zero = ⊎-elim inl (λ p. inr (omega arith)) (grow (within net works s 0) (within net works s 1) (within-length 0 ∙ sym (within-length 1)) (further 0))
+    rounds zero =
+        ⊎-elim inl (λ p. inr (omega arith)) (grow (within net works s 0) (within net works s 1) (within-length 0 ∙ sym (within-length 1))
+        (further 0))
     rounds (suc h) =
         ⊎-elim (λ e. inl (ap (spread net works) e))
-        (λ p. ⊎-elim inl (λ q. inr (omega arith)) (grow (within net works s (suc h)) (within net works s (suc (suc h))) (within-length (suc h) ∙ sym (within-length (suc (suc h)))) (further (suc h))))
+        (λ p. ⊎-elim inl (λ q. inr (omega arith)) (grow (within net works s (suc h)) (within net works s (suc (suc h)))
+        (within-length (suc h) ∙ sym (within-length (suc (suc h)))) (further (suc h))))
         (rounds h)
 
     closed : reach net works s ≡ spread net works (reach net works s)
@@ -164,7 +196,9 @@ module _ (net : Network) (works : ℕ → Bool) where
         (λ p. absurd (full p (count-le (within net works s (suc (net .stations)))) (within-length (suc (net .stations)))))
         (rounds (net .stations))
       where
-        full : net .stations < countOf (within net works s (suc (net .stations))) → countOf (within net works s (suc (net .stations))) ≤ length (within net works s (suc (net .stations))) → length (within net works s (suc (net .stations))) ≡ net .stations → ⊥
+        full : net .stations < countOf (within net works s (suc (net .stations)))
+            → countOf (within net works s (suc (net .stations))) ≤ length (within net works s (suc (net .stations)))
+            → length (within net works s (suc (net .stations))) ≡ net .stations → ⊥
         full a b c = omega arith
 
     starts : (h : ℕ) → s < net .stations → T (has (within net works s h) s)

@@ -1,5 +1,5 @@
 -- Reach, purge and the report depend only on which of the links that are there work: two choices that agree on these give the
--- same. Assumes nothing.
+-- same.
 use Prim.Native.Nat.{ℕ, zero, suc, _<_}
 use mathlib.Core.Bool.{Bool, _&&_, _||_}
 use mathlib.Core.Path.{_≡_, refl, sym, ap, ap₂, _∙_, subst}
@@ -29,11 +29,14 @@ module _ (net : Network) (f g : ℕ → Bool) (same : (k : ℕ) → k < length (
   spread-same : (set : List Bool) → spread net f set ≡ spread net g set
   unfolding spread
   spread-same set =
-      map-below-same (λ t. has set t || any (joinsTo net f set t) (linkNumbers net)) (λ t. has set t || any (joinsTo net g set t) (linkNumbers net)) (net .stations)
+      map-below-same (λ t. has set t || any (joinsTo net f set t) (linkNumbers net))
+      (λ t. has set t || any (joinsTo net g set t) (linkNumbers net)) (net .stations)
       (λ t l. ap (λ (b : Bool). has set t || b) (any-same (joinsTo net f set t) (joinsTo net g set t) (length (net .links)) (joined t)))
     where
       joined : (t k : ℕ) → k < length (net .links) → joinsTo net f set t k ≡ joinsTo net g set t k
-      joined t k h = ap (λ (b : Bool). b && ((eqb (ends net k .low) t && has set (ends net k .high)) || (eqb (ends net k .high) t && has set (ends net k .low)))) (same k h)
+      joined t k h =
+          ap (λ (b : Bool). b && ((eqb (ends net k .low) t && has set (ends net k .high)) || (eqb (ends net k .high) t && has set
+          (ends net k .low)))) (same k h)
 
   within-same : (s h : ℕ) → within net f s h ≡ within net g s h
   unfolding within
@@ -53,5 +56,6 @@ module _ (net : Network) (f g : ℕ → Bool) (same : (k : ℕ) → k < length (
   unfolding report
   report-same s =
       ap₂ (λ (xs ys : List ℕ). xs ++ ys) (ap (λ (set : List Bool). map (λ t. bit (has set t)) (below (net .stations))) (reach-same s))
-      (map-below-same (λ k. linkValue (near net (has (reach net f s)) k) (f k)) (λ k. linkValue (near net (has (reach net g s)) k) (g k)) (length (net .links))
+      (map-below-same (λ k. linkValue (near net (has (reach net f s)) k) (f k)) (λ k. linkValue (near net (has (reach net g s)) k) (g k))
+      (length (net .links))
       (λ k h. ap₂ (λ (set : List Bool) (b : Bool). linkValue (near net (has set) k) b) (reach-same s) (same k h)))

@@ -1,4 +1,4 @@
--- The search of `reach_word`, step by step over the definitions: what holds between the turns of its two loops. Assumes nothing.
+-- The search of `reach_word`, step by step over the definitions: what holds between the turns of its two loops.
 use Prim.Native.Nat.{ℕ, _+_, _^_, _≤_, _<_, min}
 use mathlib.Core.Bool.{Bool, true, false, not, _&&_, _||_}
 use mathlib.Core.Path.{_≡_, refl, sym, ap, ap₂, _∙_, subst, subst⁻¹}
@@ -65,14 +65,18 @@ same-side : (n a b : ℕ) (c : Bool) (w u v : ℕ) → T c → u < n → v < n �
 same-side n a b c w u v ev hu hv tied f e =
     ⊎-elim
     (λ p. let x = eqb→eq a u (and-l (eqb a u) _ p) in let y = eqb→eq b v (and-r (eqb a u) _ p) in
-    ap (bitAt w) (sym y) ∙ sym (crosses-false n a b c w ev (subst⁻¹ (λ (z : ℕ). z < n) x hu) (subst⁻¹ (λ (z : ℕ). z < n) y hv) f) ∙ ap (bitAt w) x ∙ e)
+    ap (bitAt w) (sym y) ∙ sym (crosses-false n a b c w ev (subst⁻¹ (λ (z : ℕ). z < n) x hu) (subst⁻¹ (λ (z : ℕ). z < n) y hv) f)
+    ∙ ap (bitAt w) x ∙ e)
     (λ p. let x = eqb→eq a v (and-l (eqb a v) _ p) in let y = eqb→eq b u (and-r (eqb a v) _ p) in
-    ap (bitAt w) (sym x) ∙ crosses-false n a b c w ev (subst⁻¹ (λ (z : ℕ). z < n) x hv) (subst⁻¹ (λ (z : ℕ). z < n) y hu) f ∙ ap (bitAt w) y ∙ e)
+    ap (bitAt w) (sym x) ∙ crosses-false n a b c w ev (subst⁻¹ (λ (z : ℕ). z < n) x hv) (subst⁻¹ (λ (z : ℕ). z < n) y hu) f ∙ ap (bitAt w) y
+    ∙ e)
     (or-cases (eqb a u && eqb b v) _ tied)
 
 ties-by : (a b u t : ℕ) → ((a ≡ u) × (b ≡ t)) ⊎ ((a ≡ t) × (b ≡ u)) → T ((eqb a u && eqb b t) || (eqb a t && eqb b u))
-ties-by a b u t (inl p) = or-left (eqb a u && eqb b t) (eqb a t && eqb b u) (and-i (eqb a u) (eqb b t) (eq→eqb a u (p .0)) (eq→eqb b t (p .1)))
-ties-by a b u t (inr p) = or-right (eqb a u && eqb b t) (eqb a t && eqb b u) (and-i (eqb a t) (eqb b u) (eq→eqb a t (p .0)) (eq→eqb b u (p .1)))
+ties-by a b u t (inl p) =
+    or-left (eqb a u && eqb b t) (eqb a t && eqb b u) (and-i (eqb a u) (eqb b t) (eq→eqb a u (p .0)) (eq→eqb b t (p .1)))
+ties-by a b u t (inr p) =
+    or-right (eqb a u && eqb b t) (eqb a t && eqb b u) (and-i (eqb a t) (eqb b u) (eq→eqb a t (p .0)) (eq→eqb b u (p .1)))
 
 -- the test's parts, in the order in which the code asks them
 pub crosses-idle : (n a b : ℕ) (c : Bool) (w : ℕ) → c ≡ false → false ≡ crosses n a b c w
@@ -99,13 +103,16 @@ module _ (net : Net) (works : ℕ → Bool) (s : ℕ) where
     link = k;
     exists = subst⁻¹ (λ (n : ℕ). k < n) (links-of net) l;
     working = ev;
-    tied = subst⁻¹ (λ (e : Ends). T ((eqb (e .low) u && eqb (e .high) t) || (eqb (e .low) t && eqb (e .high) u))) (ends-of net k l) (ties-by _ _ u t which);
+    tied =
+        subst⁻¹ (λ (e : Ends). T ((eqb (e .low) u && eqb (e .high) t) || (eqb (e .low) t && eqb (e .high) u))) (ends-of net k l)
+        (ties-by _ _ u t which);
     from = subst⁻¹ (λ (n : ℕ). u < n) (stations-of net) hu;
     to = subst⁻¹ (λ (n : ℕ). t < n) (stations-of net) ht;
   }
 
   -- where no link crosses, the word has all that s reaches
-  pub closed : (w : ℕ) → bitAt w s ≡ 1 → ((k : ℕ) → k < linkCount net → test net works w k ≡ false) → (t : ℕ) → ReachesBy net works s t → bitAt w t ≡ 1
+  pub closed : (w : ℕ) → bitAt w s ≡ 1 → ((k : ℕ) → k < linkCount net → test net works w k ≡ false) → (t : ℕ) → ReachesBy net works s t
+      → bitAt w t ≡ 1
   closed w h none t r = reaches-keep (λ v. bitAt w v ≡ 1) over h r
     where
       over : (u v : ℕ) → Joined (networkOf net) works u v → bitAt w u ≡ 1 → bitAt w v ≡ 1
@@ -115,14 +122,16 @@ module _ (net : Net) (works : ℕ → Bool) (s : ℕ) where
           let lo = getD (net .low) k 0 in
           let hi = getD (net .high) k 0 in
           let tied : T ((eqb lo u && eqb hi v) || (eqb lo v && eqb hi u))
-          = subst (λ (x : Ends). T ((eqb (x .low) u && eqb (x .high) v) || (eqb (x .low) v && eqb (x .high) u))) (ends-of net k l) (j .tied) in
+          = subst (λ (x : Ends). T ((eqb (x .low) u && eqb (x .high) v) || (eqb (x .low) v && eqb (x .high) u))) (ends-of net k l)
+          (j .tied) in
           same-side (min (net .stations) 32) lo hi (works k) w u v
           (j .working)
           (subst (λ (n : ℕ). u < n) (stations-of net) (j .from)) (subst (λ (n : ℕ). v < n) (stations-of net) (j .to))
           tied (none k l) e
 
   -- a word that grows over a crossing link stays sound
-  grows : (w r k : ℕ) → k < linkCount net → Sound w → Crossing (min (net .stations) 32) (getD (net .low) k 0) (getD (net .high) k 0) (works k) w
+  grows : (w r k : ℕ) → k < linkCount net → Sound w
+      → Crossing (min (net .stations) 32) (getD (net .low) k 0) (getD (net .high) k 0) (works k) w
       → Apart (getD (net .low) k 0) (getD (net .high) k 0) w r → Sound r
   grows w r k l so x g t b = go (ℕ-discrete t (g .new))
     where
@@ -165,7 +174,9 @@ module _ (net : Net) (works : ℕ → Bool) (s : ℕ) where
       → Apart (getD (net .low) k 0) (getD (net .high) k 0) w r → Growing net works s r
   turn w r k l g t a = record {
     fits = subst⁻¹ (λ (x : ℕ). x < 2 ^ 32) (a .more) (put-fits w (a .new) 32 (a .small) (g .fits) (a .lacks));
-    self = subst⁻¹ (λ (x : ℕ). bitAt x s ≡ 1) (a .more) (put-other w (a .new) s (a .lacks) (λ e. omega (arith, ap (λ (x : ℕ). bitAt w x) e, a .lacks, g .self)) ∙ g .self);
+    self =
+        subst⁻¹ (λ (x : ℕ). bitAt x s ≡ 1) (a .more) (put-other w (a .new) s (a .lacks)
+        (λ e. omega (arith, ap (λ (x : ℕ). bitAt w x) e, a .lacks, g .self)) ∙ g .self);
     sound = grows net works s w r k l (g .sound) (crosses-true _ _ _ _ _ t) a;
   }
 

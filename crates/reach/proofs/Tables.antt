@@ -1,4 +1,4 @@
--- A table's counter as the code reads it, and an `if` whose test is known. Assumes nothing.
+-- A table's counter as the code reads it, and an `if` whose test is known.
 use Prim.Native.Nat.{ℕ, _<_}
 use mathlib.Core.Bool.{Bool, true, false}
 use mathlib.Core.Path.{_≡_, _∙_}
@@ -13,7 +13,8 @@ use Rattle.net.specs.Values.{linkCount}
 use Rattle.reach.specs.Reach.{counterIn}
 use Rattle.reach.specs.Values.{tableOf}
 
-pub counter-of : (net : Net) (counters : List ℕ) (k : ℕ) → length counters ≡ 64 → k < linkCount net → counterIn (tableOf net counters) k ≡ getD counters k 0
+pub counter-of : (net : Net) (counters : List ℕ) (k : ℕ) → length counters ≡ 64 → k < linkCount net
+    → counterIn (tableOf net counters) k ≡ getD counters k 0
 counter-of net counters k e h = getD-take (linkCount net) counters k 1 h ∙ getD-any counters k 1 0 (omega arith)
 
 -- an `if` whose test is known

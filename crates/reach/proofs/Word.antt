@@ -1,6 +1,6 @@
 -- The promise of the reach word in the words of document 01: bit t is set exactly if a list of stations leads from s to t,
 -- each next one joined by a link that works; and no bit is set beyond the stations.
--- For every network value, choice of working links and station. Assumes nothing.
+-- For every network value, choice of working links and station.
 use Prim.Native.Nat.{ℕ, _^_, _≤_, _<_}
 use mathlib.Core.Bool.{Bool, true, false}
 use mathlib.Core.Path.{_≡_, refl, sym, ap, _∙_, subst}
@@ -39,7 +39,8 @@ module _ (net : Net) (works : ℕ → Bool) (s : ℕ) where
   no-bit-beyond t h = beyond (networkOf net .stations) (wordOf (reachOf net works s)) t word-room h
 
   -- a word whose bits are those that s reaches is the reach word
-  pub word-is-reach : (w : ℕ) → w < 2 ^ 32 → ((t : ℕ) → bitAt w t ≡ 1 → ReachesBy net works s t) → ((t : ℕ) → ReachesBy net works s t → bitAt w t ≡ 1)
+  pub word-is-reach : (w : ℕ) → w < 2 ^ 32 → ((t : ℕ) → bitAt w t ≡ 1 → ReachesBy net works s t)
+      → ((t : ℕ) → ReachesBy net works s t → bitAt w t ≡ 1)
       → w ≡ wordOf (reachOf net works s)
   word-is-reach w h so co = word-ext 32 w (wordOf (reachOf net works s)) h word-fits (λ t l. same t (has (reachOf net works s) t) refl)
     where

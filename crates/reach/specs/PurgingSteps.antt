@@ -1,4 +1,4 @@
--- What the private step of the code answers. Assumes nothing.
+-- What the private step of the code answers.
 use Prim.Native.Nat.{ℕ}
 use mathlib.Core.Bool.{_||_}
 use Rattle.lists.specs.Lists.{if_then_else_}

@@ -1,5 +1,5 @@
 -- Reach, as a list of stations that leads there and as a computed set; purge; the report.
--- That the two are one: proofs/ReachLaws.antt, `sound` and `complete`. Which links work is a parameter. Assumes nothing.
+-- That the two are one: proofs/ReachLaws.antt, `sound` and `complete`. Which links work is a parameter.
 use Prim.Native.Nat.{ℕ, zero, suc, _<_}
 use mathlib.Core.Bool.{Bool, false, not, _&&_, _||_}
 use mathlib.Core.List.{List, [], _∷_, _++_, map}

@@ -1,4 +1,4 @@
--- What the public functions answer, in the words of reach. Assumes nothing.
+-- What the public functions answer, in the words of reach.
 use Prim.Native.Nat.{ℕ, min}
 use mathlib.Core.Bool.{Bool, not}
 use Rattle.lists.specs.Lists.{below, sumOf, firstOf}

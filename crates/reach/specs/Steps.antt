@@ -1,4 +1,4 @@
--- What the private steps of the code answer: small tests that the laws of proofs/ join to Network and Reach. Assumes nothing.
+-- What the private steps of the code answer: small tests that the laws of proofs/ join to Network and Reach.
 use Prim.Native.Nat.{ℕ, _+_, _^_, _<_}
 use mathlib.Core.Path.{_≡_}
 use mathlib.Core.Logic.{_⊎_}

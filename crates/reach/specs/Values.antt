@@ -1,5 +1,5 @@
 -- What the reach and the purge are beside a network value and the code's counters, in the words of Reach, and which links work
--- by the counters, as a word. A link with an end that is no station joins nothing. Assumes nothing.
+-- by the counters, as a word. A link with an end that is no station joins nothing.
 use Prim.Native.Nat.{ℕ, min}
 use mathlib.Core.Bool.{Bool}
 use mathlib.Core.List.{List, _++_}

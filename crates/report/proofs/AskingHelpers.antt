@@ -1,4 +1,4 @@
--- What the small steps of the code answer, return by return. Assumes nothing.
+-- What the small steps of the code answer, return by return.
 use Prim.Native.Nat.{ℕ, _≤_, _<_}
 use mathlib.Core.Bool.{Bool, true, false}
 use mathlib.Core.Path.{_≡_, sym, ap, _∙_, subst⁻¹}
@@ -9,16 +9,17 @@ use Rattle.lists.specs.Lists.{if_then_else_}
 use Rattle.lists.proofs.Tests.{if-elim}
 use Rattle.station.specs.declared.Condition.{Condition}
 use Rattle.station.specs.Holding.{isLive}
-use Rattle.report.specs.Asking.{placeBy, numberBy}
+use Rattle.report.specs.Asking.{numberBy}
+use Rattle.sets.specs.Rooms.{inRoom}
 
 -- ---- the place
-pub place-there : (a : ℕ) → a < 32 → a ≡ placeBy a
+pub place-there : (a : ℕ) → a < 32 → a ≡ inRoom a
 place-there a h = sym (ap (λ (b : Bool). if b then a else 0) (lt-ltb a 32 h))
 
-pub place-past : (a : ℕ) → 32 ≤ a → 0 ≡ placeBy a
+pub place-past : (a : ℕ) → 32 ≤ a → 0 ≡ inRoom a
 place-past a h = sym (ap (λ (b : Bool). if b then a else 0) (le-ltb a 32 h))
 
-pub place-few : (a r : ℕ) → r ≡ placeBy a → r < 32
+pub place-few : (a r : ℕ) → r ≡ inRoom a → r < 32
 place-few a r e = subst⁻¹ (λ (n : ℕ). n < 32) e (if-elim (λ (n : ℕ). n < 32) (ltb a 32) (λ t. ltb→lt a 32 t) (λ t. omega arith))
 
 -- ---- the number

@@ -1,5 +1,4 @@
 -- What the two calls know of the state: the number that they decide, and that what they read in it is what the world has.
--- Assumes nothing.
 use Prim.Native.Nat.{ℕ, _<_}
 use mathlib.Core.Bool.{Bool, true, false, not}
 use mathlib.Core.Path.{_≡_, refl, sym, ap, _∙_}
@@ -19,7 +18,8 @@ use Rattle.world.specs.World.{World, holdingAt, askRefusal}
 use Rattle.state.specs.declared.State.{State}
 use Rattle.state.specs.State.{stationIn, worldOf, stateHolds, Sized}
 use Rattle.state.proofs.Meaning as M
-use Rattle.report.specs.Asking.{numberOf, placeBy, numberBy}
+use Rattle.report.specs.Asking.{numberOf, numberBy}
+use Rattle.sets.specs.Rooms.{inRoom}
 
 -- ---- a well-formed state
 module _ (s : State) (z : Sized s) (t : T (stateHolds s)) where
@@ -32,7 +32,7 @@ module _ (s : State) (z : Sized s) (t : T (stateHolds s)) where
   pub world-stations : w .net .stations ≡ s .net .stations
   world-stations = ap (λ (n : Network). n .stations) world-net ∙ M.count-is s z t
 
-  module _ (a me : ℕ) (pe : me ≡ placeBy a) where
+  module _ (a me : ℕ) (pe : me ≡ inRoom a) where
     -- the station that a names stands at its place
     pub me-is : a < s .net .stations → me ≡ a
     me-is h = pe ∙ ap (λ (b : Bool). if b then a else 0) (lt-ltb a 32 (omega (arith, M.few s z t)))
@@ -50,13 +50,17 @@ module _ (s : State) (z : Sized s) (t : T (stateHolds s)) where
     -- the world's number, as the code decides it
     ask-is : numberBy true (s .net .stations) a (stationIn s me .condition) ≡ askRefusal w a
     unfolding askRefusal
-    ask-is = go (decLt a (s .net .stations)) ∙ ap (λ (n : ℕ). if not (ltb a n) then 6 else (if not (isLive (holdingAt w a .condition)) then 7 else 0)) (sym world-stations)
+    ask-is =
+        go (decLt a (s .net .stations)) ∙ ap (λ (n : ℕ). if not (ltb a n) then 6
+        else (if not (isLive (holdingAt w a .condition)) then 7 else 0)) (sym world-stations)
       where
         flip : (b : Bool) → _≡_ {A = ℕ} (if b then 0 else 7) (if not b then 7 else 0)
         flip true = refl
         flip false = refl
 
-        go : Dec (a < s .net .stations) → numberBy true (s .net .stations) a (stationIn s me .condition) ≡ (if not (ltb a (s .net .stations)) then 6 else (if not (isLive (holdingAt w a .condition)) then 7 else 0))
+        go : Dec (a < s .net .stations) → numberBy true (s .net .stations) a
+            (stationIn s me .condition) ≡ (if not (ltb a (s .net .stations)) then 6
+            else (if not (isLive (holdingAt w a .condition)) then 7 else 0))
         go (yes h) = simp (lt-ltb a (s .net .stations) h, condition-is h) (flip (isLive (stationIn s me .condition)))
         go (no h) = let l = le-ltb a (s .net .stations) (omega arith) in simp l
 
@@ -64,7 +68,7 @@ module _ (s : State) (z : Sized s) (t : T (stateHolds s)) where
 pub record Read (s : State) (a : ℕ) (good : Bool) (me number : ℕ) : Type 0 where
   pub tested : good ≡ stateHolds s
   pub sized : good ≡ true → Sized s
-  pub place : me ≡ placeBy a
+  pub place : me ≡ inRoom a
   pub says : number ≡ numberBy good (s .net .stations) a (stationIn s me .condition)
 
 module _ {s : State} {a : ℕ} {good : Bool} {me number : ℕ} (r : Read s a good me number) where
@@ -75,7 +79,8 @@ module _ {s : State} {a : ℕ} {good : Bool} {me number : ℕ} (r : Read s a goo
   unfolding numberOf
   number-is = r .says ∙ go good refl
     where
-      go : (b : Bool) → good ≡ b → numberBy good (s .net .stations) a (stationIn s me .condition) ≡ (if stateHolds s then askRefusal (worldOf s) a else 11)
+      go : (b : Bool) → good ≡ b → numberBy good (s .net .stations) a
+          (stationIn s me .condition) ≡ (if stateHolds s then askRefusal (worldOf s) a else 11)
       go true p =
           ap (λ (b : Bool). numberBy b (s .net .stations) a (stationIn s me .condition)) p ∙ ask-is s (r .sized p) (holds p) a me (r .place)
           ∙ ap (λ (b : Bool). if b then askRefusal (worldOf s) a else 11) (sym p ∙ r .tested)
@@ -90,7 +95,9 @@ module _ {s : State} {a : ℕ} {good : Bool} {me number : ℕ} (r : Read s a goo
       where
         go : (b : Bool) → good ≡ b → good ≡ true
         go true p = p
-        go false p = let e : number ≡ 11 = r .says ∙ ap (λ (b : Bool). numberBy b (s .net .stations) a (stationIn s me .condition)) p in absurd (omega arith)
+        go false p =
+            let e : number ≡ 11 = r .says ∙ ap (λ (b : Bool). numberBy b (s .net .stations) a (stationIn s me .condition)) p in absurd
+            (omega arith)
 
     pub there : a < s .net .stations
     there = go (decLt a (s .net .stations))

@@ -1,4 +1,4 @@
--- What the small step of the code answers, return by return. Assumes nothing.
+-- What the small step of the code answers, return by return.
 use Prim.Native.Nat.{ℕ}
 use mathlib.Core.Bool.{Bool}
 use mathlib.Core.Path.{_≡_, sym, ap, _∙_}

@@ -1,4 +1,4 @@
--- The report's bytes as the code writes them: the stations, then the links, over the front of the lent output. Assumes nothing.
+-- The report's bytes as the code writes them: the stations, then the links, over the front of the lent output.
 use Prim.Native.Nat.{ℕ, _+_, _-_, _≤_, _<_, min}
 use mathlib.Core.Bool.{Bool, _||_}
 use mathlib.Core.Path.{_≡_, refl, sym, ap, ap₂, _∙_}
@@ -40,9 +40,11 @@ module _ (number : ℕ) (new old : List ℕ) where
     in-room out h p = let e = eq-eqb number 0 z in let l = le-ltb (length old) (length new) h in (simp (e, l), p ∙ simp (e, l))
 
 -- a link's byte, b being whether it works as the code has it
-pub link-seen : (net : Net) (works : ℕ → Bool) (word k v : ℕ) (b : Bool) → v ≡ linkValue (inWord word (getD (net .low) k 0) || inWord word (getD (net .high) k 0)) b
+pub link-seen : (net : Net) (works : ℕ → Bool) (word k v : ℕ) (b : Bool)
+    → v ≡ linkValue (inWord word (getD (net .low) k 0) || inWord word (getD (net .high) k 0)) b
     → b ≡ works k → v ≡ linkShown net works word k
-link-seen net works word k v b e p = e ∙ ap (λ (x : Bool). linkValue (inWord word (getD (net .low) k 0) || inWord word (getD (net .high) k 0)) x) p
+link-seen net works word k v b e p =
+    e ∙ ap (λ (x : Bool). linkValue (inWord word (getD (net .low) k 0) || inWord word (getD (net .high) k 0)) x) p
 
 -- ---- the bytes over the working links
 module _ (net : Net) (works : ℕ → Bool) (s : ℕ) where
@@ -61,8 +63,16 @@ module _ (net : Net) (works : ℕ → Bool) (s : ℕ) where
 
   pub length-in : length (reportIn net works s) ≡ min (net .stations) 32 + linkCount net
   length-in =
-      ap length parts ∙ length-append (map stationByte (below (networkOf net .stations))) (map linkByte (below (length (networkOf net .links))))
-      ∙ omega (arith, length-map-below stationByte (networkOf net .stations), length-map-below linkByte (length (networkOf net .links)), stations-of net, links-of net)
+      ap length parts ∙ length-append (map stationByte (below (networkOf net .stations)))
+      (map linkByte (below (length (networkOf net .links))))
+      ∙ omega (
+        arith,
+        length-map-below stationByte (networkOf net .stations),
+        length-map-below linkByte
+            (length (networkOf net .links)),
+        stations-of net,
+        links-of net,
+      )
 
   module _ (word : ℕ) (e : word ≡ wordOf members) where
     seen : (t : ℕ) → inWord word t ≡ has members t
@@ -80,7 +90,8 @@ module _ (net : Net) (works : ℕ → Bool) (s : ℕ) where
 
     links-are : map (linkShown net works word) (below (linkCount net)) ≡ map linkByte (below (length (networkOf net .links)))
     links-are =
-        map-below-same (linkShown net works word) linkByte (linkCount net) one-link ∙ ap (λ (n : ℕ). map linkByte (below n)) (sym (links-of net))
+        map-below-same (linkShown net works word) linkByte (linkCount net) one-link
+        ∙ ap (λ (n : ℕ). map linkByte (below n)) (sym (links-of net))
 
     -- the output after the stations, and after the links, which are put in what is left of it
     module _ (n m : ℕ) (ne : n ≡ min (net .stations) 32) (me : m ≡ linkCount net) (old one part two : List ℕ) (room : n + m ≤ length old)
@@ -114,7 +125,8 @@ module _ (net : Net) (works : ℕ → Bool) (s : ℕ) where
           ap₂ (λ (i j : ℕ). map (bitAt word) (below i) ++ map (linkShown net works word) (below j)) ne me
           ∙ ap₂ (λ (x y : List ℕ). x ++ y) stations-are links-are ∙ sym parts
 
-      pub report-put : (number : ℕ) → number ≡ 0 → (0 ≡ withRoom number (reportIn net works s) old) × (two ≡ writtenOver (withRoom number (reportIn net works s) old) (reportIn net works s) old)
+      pub report-put : (number : ℕ) → number ≡ 0 → (0 ≡ withRoom number (reportIn net works s) old) × (two ≡ writtenOver
+          (withRoom number (reportIn net works s) old) (reportIn net works s) old)
       report-put number z =
           let l : length (reportIn net works s) ≡ n + m = length-in ∙ omega arith in
           in-room number (reportIn net works s) old z two (omega arith)

@@ -1,5 +1,5 @@
 -- Each number that says no to the reach and to the report alike, when and only when document 01's list says, in the words of the
--- state that is asked. For every state and station; the report's own 10: reports, Refusals.antt. Assumes nothing.
+-- state that is asked. For every state and station; the report's own 10: ReportsRefusals.antt.
 use Prim.Native.Nat.{ℕ, _≤_, _<_}
 use mathlib.Core.Bool.{Bool, not, _&&_}
 use mathlib.Core.Path.{_≡_, refl, sym, ap, _∙_, subst, subst⁻¹}
@@ -45,17 +45,23 @@ module _ (s : State) where
     used = take (networkOf (s .net) .stations) (s .stations)
 
     -- beyond the places there is nothing in either
-    seen : {A : Type 0} (f : Holding → A) → f nobody ≡ f (holdingOf (s .net) beyond) → f (holdingAt (worldOf s) a) ≡ f (holdingOf (s .net) (stationIn s a))
+    seen : {A : Type 0} (f : Holding → A) → f nobody ≡ f (holdingOf (s .net) beyond)
+        → f (holdingAt (worldOf s) a) ≡ f (holdingOf (s .net) (stationIn s a))
     unfolding worldOf
     seen f e = go (decLt a (length used))
       where
         go : Dec (a < length used) → f (getD (map (holdingOf (s .net)) used) a nobody) ≡ f (holdingOf (s .net) (stationIn s a))
         go (yes l) =
-            ap f (getD-any (map (holdingOf (s .net)) used) a nobody (holdingOf (s .net) beyond) (omega (arith, length-map used (holdingOf (s .net))))
-            ∙ List·getD-map (holdingOf (s .net)) used a beyond ∙ ap (holdingOf (s .net)) (getD-take (networkOf (s .net) .stations) (s .stations) a beyond h))
+            ap f (getD-any (map (holdingOf (s .net)) used) a nobody (holdingOf (s .net) beyond)
+            (omega (arith, length-map used (holdingOf (s .net))))
+            ∙ List·getD-map (holdingOf (s .net)) used a beyond
+            ∙ ap (holdingOf (s .net)) (getD-take (networkOf (s .net) .stations) (s .stations) a beyond h))
         go (no l) =
-            ap f (List·getD-eq-default (map (holdingOf (s .net)) used) nobody {n = a} (omega (arith, length-map used (holdingOf (s .net))))) ∙ e
-            ∙ ap (λ (x : Station). f (holdingOf (s .net) x)) (sym (List·getD-eq-default (s .stations) beyond {n = a} (omega (arith, length-take (networkOf (s .net) .stations) (s .stations)))))
+            ap f (List·getD-eq-default (map (holdingOf (s .net)) used) nobody {n = a} (omega (arith, length-map used (holdingOf (s .net)))))
+            ∙ e
+            ∙ ap (λ (x : Station). f (holdingOf (s .net) x))
+            (sym (List·getD-eq-default (s .stations) beyond {n = a}
+            (omega (arith, length-take (networkOf (s .net) .stations) (s .stations)))))
 
     pub table-is : holdingAt (worldOf s) a .table ≡ tableOf (s .net) (stationIn s a .counters)
     unfolding holdingOf
@@ -69,7 +75,8 @@ module _ (s : State) where
     good-net : T (netHolds (s .net))
     unfolding stateHolds
     good-net =
-        and-l (netHolds (s .net)) (leb (s .flying) 4096) (and-l (netHolds (s .net) && leb (s .flying) 4096) (stationsHold s && lettersHold s) t)
+        and-l (netHolds (s .net)) (leb (s .flying) 4096)
+        (and-l (netHolds (s .net) && leb (s .flying) 4096) (stationsHold s && lettersHold s) t)
 
     pub stations-are : networkOf (s .net) .stations ≡ s .net .stations
     stations-are = Good.stations-are (s .net) good-net
@@ -124,7 +131,8 @@ module _ (s : State) (a : ℕ) where
   pub why-number : {n : ℕ} → Why n → numberOf s a ≡ n
   unfolding numberOf
   why-number (none k) =
-      good-number (k .good) (W.none (is-there (k .good) (k .station)) (subst⁻¹ (λ (c : Condition). T (isLive c)) (condition-at (k .good) (k .station)) (k .live)))
+      good-number (k .good) (W.none (is-there (k .good) (k .station))
+      (subst⁻¹ (λ (c : Condition). T (isLive c)) (condition-at (k .good) (k .station)) (k .live)))
   why-number (eleven x) = ap (λ (b : Bool). if b then askRefusal (worldOf s) a else 11) (T-not-is (stateHolds s) x)
   why-number (six g h) =
       good-number g (W.six (subst⁻¹ (λ (b : Bool). T (not b)) (le-ltb a stations (omega (arith, world-stations g))) tt))

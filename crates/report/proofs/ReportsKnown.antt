@@ -1,4 +1,4 @@
--- That the report by the table that the call reads is the report in the world, or that its number refuses it. Assumes nothing.
+-- That the report by the table that the call reads is the report in the world, or that its number refuses it.
 use Prim.Native.Nat.{ℕ, _<_}
 use mathlib.Core.Bool.{Bool}
 use mathlib.Core.Path.{_≡_, sym, ap, ap₂, _∙_}
@@ -14,19 +14,21 @@ use Rattle.reach.proofs.Working.{working-is}
 use Rattle.world.specs.World.{World, holdingAt, reportAt}
 use Rattle.state.specs.declared.State.{State}
 use Rattle.state.specs.State.{stationIn, worldOf, stateHolds, Sized}
-use Rattle.report.specs.Asking.{placeBy}
+use Rattle.sets.specs.Rooms.{inRoom}
 use Rattle.report.proofs.AskingKnown.{world-net, me-is, table-is, Read, holds, number-is, is-good, there}
 use Rattle.report.specs.ReportsAnswers.{withRoom, writtenOver, answerOf, outputOf}
 use Rattle.report.specs.Steps.{reportIn}
 
 -- ---- a well-formed state
-module _ (s : State) (z : Sized s) (t : T (stateHolds s)) (a me : ℕ) (pe : me ≡ placeBy a) (h : a < s .net .stations) where
+module _ (s : State) (z : Sized s) (t : T (stateHolds s)) (a me : ℕ) (pe : me ≡ inRoom a) (h : a < s .net .stations) where
   abbrev w : World
   w = worldOf s
 
   pub report-is : reportIn (s .net) (worksIn (tableOf (s .net) (stationIn s me .counters))) me ≡ reportAt w a
   unfolding reportIn reportAt
-  report-is = ap₂ (λ (n : Network) (l : List ℕ). report n (worksIn l) me) (sym (world-net s z t)) (sym (table-is s z t a me pe h)) ∙ ap (λ (k : ℕ). report (w .net) (worksIn (holdingAt w a .table)) k) (me-is s z t a me pe h)
+  report-is =
+      ap₂ (λ (n : Network) (l : List ℕ). report n (worksIn l) me) (sym (world-net s z t)) (sym (table-is s z t a me pe h))
+      ∙ ap (λ (k : ℕ). report (w .net) (worksIn (holdingAt w a .table)) k) (me-is s z t a me pe h)
 
 module _ {s : State} {a : ℕ} {good : Bool} {me number : ℕ} (r : Read s a good me number) where
   -- where no number refuses
@@ -40,7 +42,8 @@ module _ {s : State} {a : ℕ} {good : Bool} {me number : ℕ} (r : Read s a goo
 
     -- the links of the word are those that work by the table that is read
     new-is : number ≡ 0 → new ≡ reportAt (worldOf s) a
-    new-is q = ap (λ (works : ℕ → Bool). reportIn (s .net) works me) (working-is (s .net) (stationIn s me .counters) working we) ∙ report-read q
+    new-is q =
+        ap (λ (works : ℕ → Bool). reportIn (s .net) works me) (working-is (s .net) (stationIn s me .counters) working we) ∙ report-read q
 
     -- where a number refuses, the bytes do not matter
     over : (xs ys : List ℕ) → (number ≡ 0 → xs ≡ ys) → withRoom number xs old ≡ withRoom number ys old
@@ -50,7 +53,8 @@ module _ {s : State} {a : ℕ} {good : Bool} {me number : ℕ} (r : Read s a goo
         go (yes q) = ap (λ (l : List ℕ). withRoom number l old) (f q)
         go (no q) = let b = ne-eqb number 0 q in simp b
 
-    over-bytes : (xs ys : List ℕ) → (number ≡ 0 → xs ≡ ys) → writtenOver (withRoom number xs old) xs old ≡ writtenOver (withRoom number ys old) ys old
+    over-bytes : (xs ys : List ℕ) → (number ≡ 0 → xs ≡ ys)
+        → writtenOver (withRoom number xs old) xs old ≡ writtenOver (withRoom number ys old) ys old
     over-bytes xs ys f = go (ℕ-discrete number 0)
       where
         go : Dec (number ≡ 0) → writtenOver (withRoom number xs old) xs old ≡ writtenOver (withRoom number ys old) ys old

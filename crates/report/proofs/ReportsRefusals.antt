@@ -1,5 +1,5 @@
 -- Each number that says no to the report, when and only when document 01's list says, in the words of the state that is asked; so
--- a report is given exactly if none of the list's reasons stands. For every state, station and lent output. Assumes nothing.
+-- a report is given exactly if none of the list's reasons stands. For every state, station and lent output.
 use Prim.Native.Nat.{ℕ, _+_, _≤_, _<_}
 use mathlib.Core.Bool.{Bool}
 use mathlib.Core.Path.{_≡_, sym, ap, _∙_, subst⁻¹}
@@ -27,7 +27,8 @@ size s = s .net .stations + s .net .links
 module _ (s : State) (t : T (stateHolds s)) where
   pub report-size : (a : ℕ) → length (reportAt (worldOf s) a) ≡ size s
   report-size a =
-      R.report-length (worldOf s) a ∙ ap (λ (n : Network). n .stations + length (n .links)) (net-is s) ∙ omega (arith, stations-are s t, links-are s t)
+      R.report-length (worldOf s) a ∙ ap (λ (n : Network). n .stations + length (n .links)) (net-is s)
+      ∙ omega (arith, stations-are s t, links-are s t)
 
 -- ---- 11, 6 and 7, which the reach has too, and 10
 module _ (s : State) (a : ℕ) (old : List ℕ) where

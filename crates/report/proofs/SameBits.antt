@@ -1,4 +1,4 @@
--- Where the report and the reach are given, the report's bytes of the stations are the bits of the reach's word. Assumes nothing.
+-- Where the report and the reach are given, the report's bytes of the stations are the bits of the reach's word.
 use Prim.Native.Nat.{ℕ, _<_}
 use mathlib.Core.Bool.{Bool, true, false}
 use mathlib.Core.Path.{_≡_, refl, sym, _∙_}
@@ -17,7 +17,8 @@ use Rattle.report.proofs.Shown.{Shown, shown}
 
 module _ (s : State) (a : ℕ) where
   -- the report's bytes of the stations are the bits of the word
-  pub same-bits : (old : List ℕ) → answerOf s a old ≡ 0 → (t : ℕ) → t < s .net .stations → getD (outputOf s a old) t 0 ≡ bitAt (askedOf s a .reached .word) t
+  pub same-bits : (old : List ℕ) → answerOf s a old ≡ 0 → (t : ℕ) → t < s .net .stations
+      → getD (outputOf s a old) t 0 ≡ bitAt (askedOf s a .reached .word) t
   same-bits old q t h = go (inWord word t) refl
     where
       word : ℕ

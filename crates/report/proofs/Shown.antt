@@ -1,6 +1,5 @@
 -- What an accepted report shows, over its bytes: a station is shown as working exactly if a path of links with even counters
--- leads to it in the asker's own table. For every state, station and lent output. The reach word: reaching, WordShown.antt.
--- Assumes nothing.
+-- leads to it in the asker's own table. For every state, station and lent output. The reach word: WordShown.antt.
 use Prim.Native.Nat.{ℕ, _+_, _≤_, _<_}
 use mathlib.Core.Bool.{Bool}
 use mathlib.Core.Path.{_≡_, sym, ap, _∙_, subst, subst⁻¹}
@@ -36,8 +35,10 @@ pub record Shown (s : State) (a : ℕ) (old out : List ℕ) : Type 0 where
   pub working : (t : ℕ) → t < s .net .stations → (getD out t 0 ≡ 1) ↔ PathTo s a t
   pub unreachable : (t : ℕ) → t < s .net .stations → (getD out t 0 ≡ 0) ↔ (PathTo s a t → ⊥)
   pub link-unreachable : (k : ℕ) → k < s .net .links → (getD out (s .net .stations + k) 0 ≡ 0) ↔ (EndReached s a k → ⊥)
-  pub link-working : (k : ℕ) → k < s .net .links → (getD out (s .net .stations + k) 0 ≡ 1) ↔ (EndReached s a k × T (even (counterIn (ownTable s a) k)))
-  pub link-unresponsive : (k : ℕ) → k < s .net .links → (getD out (s .net .stations + k) 0 ≡ 2) ↔ (EndReached s a k × T (odd (counterIn (ownTable s a) k)))
+  pub link-working : (k : ℕ) → k < s .net .links
+      → (getD out (s .net .stations + k) 0 ≡ 1) ↔ (EndReached s a k × T (even (counterIn (ownTable s a) k)))
+  pub link-unresponsive : (k : ℕ) → k < s .net .links
+      → (getD out (s .net .stations + k) 0 ≡ 2) ↔ (EndReached s a k × T (odd (counterIn (ownTable s a) k)))
   pub tail : drop (size s) out ≡ drop (size s) old
   pub as-long : length out ≡ length old
 
@@ -79,7 +80,8 @@ module _ (s : State) (a : ℕ) (old : List ℕ) where
 
     -- what holds of the world's network and table holds of the state's
     here : (P : Network → List ℕ → Type 0) → P (worldOf s .net) (holdingAt (worldOf s) a .table) → P (networkOf (s .net)) (ownTable s a)
-    here P x = subst (λ (l : List ℕ). P (networkOf (s .net)) l) table (subst (λ (n : Network). P n (holdingAt (worldOf s) a .table)) (net-is s) x)
+    here P x =
+        subst (λ (l : List ℕ). P (networkOf (s .net)) l) table (subst (λ (n : Network). P n (holdingAt (worldOf s) a .table)) (net-is s) x)
 
     abbrev Ends : Network → List ℕ → ℕ → Type 0
     Ends n l j = Reaches n (worksIn l) a (ends n j .low) ⊎ Reaches n (worksIn l) a (ends n j .high)
@@ -104,10 +106,12 @@ module _ (s : State) (a : ℕ) (old : List ℕ) where
           (here (λ n l. (getD new (n .stations + j) 0 ≡ 0) ↔ (Ends n l j → ⊥)) (R.link-unreachable (worldOf s) a j (link-in j h)));
       link-working = λ j h.
           subst (λ (v : ℕ). (v ≡ 1) ↔ (EndReached s a j × T (even (counterIn (ownTable s a) j)))) (link-byte j h)
-          (here (λ n l. (getD new (n .stations + j) 0 ≡ 1) ↔ (Ends n l j × T (even (counterIn l j)))) (R.link-working (worldOf s) a j (link-in j h)));
+          (here (λ n l. (getD new (n .stations + j) 0 ≡ 1) ↔ (Ends n l j × T (even (counterIn l j))))
+          (R.link-working (worldOf s) a j (link-in j h)));
       link-unresponsive = λ j h.
           subst (λ (v : ℕ). (v ≡ 2) ↔ (EndReached s a j × T (odd (counterIn (ownTable s a) j)))) (link-byte j h)
-          (here (λ n l. (getD new (n .stations + j) 0 ≡ 2) ↔ (Ends n l j × T (odd (counterIn l j)))) (R.link-unresponsive (worldOf s) a j (link-in j h)));
+          (here (λ n l. (getD new (n .stations + j) 0 ≡ 2) ↔ (Ends n l j × T (odd (counterIn l j))))
+          (R.link-unresponsive (worldOf s) a j (link-in j h)));
       tail = ap (drop (size s)) out-is ∙ drop-at new (drop (size s) old) (size s) long;
       as-long = ap length out-is ∙ length-append new (drop (size s) old) ∙ omega (arith, long, fits, length-drop (size s) old);
     }

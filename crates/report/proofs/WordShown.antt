@@ -1,5 +1,5 @@
 -- What an accepted reach says: its word's bits say which stations a path leads to, and its two numbers are the word's. For every
--- state and station. That the report's bytes are the word's bits: reports, SameBits.antt. Assumes nothing.
+-- state and station. That the report's bytes are the word's bits: SameBits.antt.
 use Prim.Native.Nat.{ℕ, _<_}
 use mathlib.Core.Bool.{Bool}
 use mathlib.Core.Path.{_≡_, sym, ap, ap₂, _∙_, subst, subst⁻¹}
@@ -86,28 +86,43 @@ module _ (s : State) (a : ℕ) where
     unfolding reachAt
     reach-is =
         ap (λ (x : Asked). x .reached) (asked-zero (sym answer-number ∙ q))
-        ∙ ap₂ (λ (n : Network) (l : List ℕ). record { word = wordOf (reach n (worksIn l) a); ones = countOf (reach n (worksIn l) a); lowest = lowestOf (reach n (worksIn l) a) }) (net-is s) table
+        ∙ ap₂ (λ (n : Network) (l : List ℕ). record {
+          word = wordOf (reach n (worksIn l) a);
+          ones = countOf (reach n (worksIn l) a);
+          lowest = lowestOf (reach n (worksIn l) a);
+        }) (net-is s) table
 
     path : (t : ℕ) → R.ReachesIn (worldOf s) a t → PathTo s a t
-    path t r = subst (λ (l : List ℕ). Reaches (networkOf (s .net)) (worksIn l) a t) table (subst (λ (n : Network). Reaches n (worksIn (holdingAt (worldOf s) a .table)) a t) (net-is s) r)
+    path t r =
+        subst (λ (l : List ℕ). Reaches (networkOf (s .net)) (worksIn l) a t) table
+        (subst (λ (n : Network). Reaches n (worksIn (holdingAt (worldOf s) a .table)) a t) (net-is s) r)
 
     path-back : (t : ℕ) → PathTo s a t → R.ReachesIn (worldOf s) a t
-    path-back t r = subst⁻¹ (λ (n : Network). Reaches n (worksIn (holdingAt (worldOf s) a .table)) a t) (net-is s) (subst⁻¹ (λ (l : List ℕ). Reaches (networkOf (s .net)) (worksIn l) a t) table r)
+    path-back t r =
+        subst⁻¹ (λ (n : Network). Reaches n (worksIn (holdingAt (worldOf s) a .table)) a t) (net-is s)
+        (subst⁻¹ (λ (l : List ℕ). Reaches (networkOf (s .net)) (worksIn l) a t) table r)
 
     stations : worldOf s .net .stations ≡ s .net .stations
     stations = ap (λ (n : Network). n .stations) (net-is s) ∙ stations-are s (ask .good)
 
-    lowest-is : ((reachAt (worldOf s) a .lowest ≡ 255) × ((t : ℕ) → t < s .net .stations → PathTo s a t)) ⊎ Lowest s a (reachAt (worldOf s) a .lowest)
+    lowest-is : ((reachAt (worldOf s) a .lowest ≡ 255) × ((t : ℕ) → t < s .net .stations → PathTo s a t)) ⊎ Lowest s a
+        (reachAt (worldOf s) a .lowest)
     lowest-is =
         ⊎-elim
         (λ p. inl (p .0, λ t h. path t (p .1 t (omega (arith, stations)))))
-        (λ p. inr (record { station = omega (arith, p .station, stations); missed = λ r. p .missed (path-back _ r); lower = λ t h. path t (p .lower t h) }))
+        (λ p. inr (record {
+          station = omega (arith, p .station, stations);
+          missed = λ r. p .missed (path-back _ r);
+          lower = λ t h. path t
+              (p .lower t h);
+        }))
         (R.lowest-is (worldOf s) a)
 
     -- THE BITS OF THE REACH WORD SAY WHICH STATIONS A PATH LEADS TO
     pub word-shown : WordShown s a (askedOf s a .reached)
     word-shown = record {
-      bits = λ t. subst⁻¹ (λ (r : Reached). (bitAt (r .word) t ≡ 1) ↔ PathTo s a t) reach-is (word-bit (s .net) (worksIn (ownTable s a)) a t);
+      bits =
+          λ t. subst⁻¹ (λ (r : Reached). (bitAt (r .word) t ≡ 1) ↔ PathTo s a t) reach-is (word-bit (s .net) (worksIn (ownTable s a)) a t);
       ones = subst⁻¹ (λ (r : Reached). r .ones ≡ onesOf (r .word)) reach-is (sym (ones-of-reach (s .net) (worksIn (ownTable s a)) a));
       lowest =
           subst⁻¹ (λ (r : Reached). ((r .lowest ≡ 255) × ((t : ℕ) → t < s .net .stations → PathTo s a t)) ⊎ Lowest s a (r .lowest))

@@ -1,4 +1,4 @@
--- What the call answers, in the world's words: the reach. Document 01, "The numbers that say no". Assumes nothing.
+-- What the call answers, in the world's words: the reach. Document 01, "The numbers that say no".
 use Prim.Native.Nat.{ℕ}
 use mathlib.Core.Bool.{Bool}
 use lib.Dec.{eqb}

@@ -1,5 +1,5 @@
 -- The number that refuses whoever asks a station, in the world's words, and what the steps of the code answer. Document 01, "The
--- numbers that say no". Assumes nothing.
+-- numbers that say no".
 use Prim.Native.Nat.{ℕ}
 use mathlib.Core.Bool.{Bool}
 use lib.Dec.{ltb}
@@ -15,9 +15,6 @@ unfoldable pub numberOf : State → ℕ → ℕ
 numberOf s a = if stateHolds s then askRefusal (worldOf s) a else 11
 
 -- ---- the steps
-abbrev pub placeBy : ℕ → ℕ
-placeBy a = if ltb a 32 then a else 0
-
 abbrev pub numberBy : Bool → ℕ → ℕ → Condition → ℕ
 numberBy good stations a condition =
     if good then (if ltb a stations then (if isLive condition then 0 else 7) else 6) else 11

@@ -1,5 +1,5 @@
 -- What the call answers, in the world's words: the reach report as bytes. Document 01, "The reach report"
--- and "The numbers that say no". Assumes nothing.
+-- and "The numbers that say no".
 use Prim.Native.Nat.{ℕ}
 use mathlib.Core.List.{List, _++_}
 use lib.Dec.{eqb, ltb}

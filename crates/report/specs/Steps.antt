@@ -1,4 +1,4 @@
--- What the private steps of the code answer, by a network value and the links that work. Assumes nothing.
+-- What the private steps of the code answer, by a network value and the links that work.
 use Prim.Native.Nat.{ℕ}
 use mathlib.Core.Bool.{Bool, _||_}
 use mathlib.Core.List.{List}

@@ -1,10 +1,10 @@
-// The reach of a live station. The call reads the state it is given and changes nothing of it. Only the public function holds a
-// state: what answers for it takes the network and the links that work.
+// The reach and the reach report of a live station. The calls, `reach` and `report`, read the state they are given and change nothing of
+// it. Only they hold a state: what answers for them takes the network and the links that work.
 ghost use mathlib.Core.Path.{_≡_};
 ghost use Rattle.lists.specs.Words.{inWord, bitAt};
 ghost use Rattle.report.specs.Answers.{askedOf, reachedBy};
 ghost use mathlib.Core.Bool.{Bool};
-ghost use Rattle.report.specs.Asking.{placeBy, numberBy};
+ghost use Rattle.report.specs.Asking.{numberBy};
 ghost use Prim.Native.Nat.{_+_, _<_, _≤_};
 ghost use lib.ListN.{length};
 ghost use Rattle.lists.specs.Lists.{filled};
@@ -41,7 +41,7 @@ pub fn reach(s: State, a: u32) -> Asked
 {
     let good = state::well_formed(s);
     let net = s.net;
-    let me = place_of(a);
+    let me = sets::in_room(a);
     let at = me as usize;
     let st = s.stations[at];
     let condition = st.condition;
@@ -53,14 +53,6 @@ pub fn reach(s: State, a: u32) -> Asked
 }
 
 // ---- Whether a station may be asked what it knows, and where it stands: what the reach and the report read of the state alike.
-
-// The place of the station that a names, where there is one.
-// Promise: equals `Asking.placeBy`: the place of the station that a names; 0 for a number that is no place of the 32.
-fn place_of(a: u32) -> u8
-    ensures { λ r. ⌜ r ≡ placeBy a ⌝ }
-{
-    if a < 32 { a as u8 } else { 0 }
-}
 
 // 11 for a state that isn't well formed, 6 for no such station, 7 for one that isn't live, else 0.
 // Promise: equals `Asking.numberBy`: 11 for a state that isn't well formed, 6 for no such station, 7 for one that isn't live, else 0.
@@ -137,7 +129,7 @@ pub fn report(s: State, a: u32, out: &mut [u8]) -> u8
 {
     let good = state::well_formed(s);
     let net = s.net;
-    let who = place_of(a);
+    let who = sets::in_room(a);
     let at = who as usize;
     let st = s.stations[at];
     let condition = st.condition;

@@ -1,4 +1,4 @@
--- An end of a link in a word, in the order in which the code asks. Assumes nothing.
+-- An end of a link in a word, in the order in which the code asks.
 use Prim.Native.Nat.{ℕ}
 use mathlib.Core.Bool.{true, _||_}
 use mathlib.Core.Path.{_≡_}

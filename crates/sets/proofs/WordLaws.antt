@@ -1,4 +1,4 @@
--- Laws of sets of links as words. Callers read a word by `in-by` and make one by `by-ext`. Assumes nothing.
+-- Laws of sets of links as words. Callers read a word by `in-by` and make one by `by-ext`.
 use Prim.Native.Nat.{ℕ, _+_, _-_, _*_, _%_, _^_, _≤_, _<_, max}
 use mathlib.Core.Bool.{Bool, true, false, not, _&&_, _||_}
 use mathlib.Core.Path.{_≡_, refl, sym, ap, ap₂, _∙_, subst, subst⁻¹}
@@ -106,12 +106,16 @@ module _ (w k : ℕ) (on : Bool) (h : w < 2 ^ 64) (l : k < 64) where
 -- ---- what is in one word and not in another
 pub without-is : (a b : ℕ) → a < 2 ^ 64 → b < 2 ^ 64
     → bitAnd a ((2 ^ 64 - 1) - b) ≡ wordBy (λ t. inWord a t && not (inWord b t))
-without-is a b ha hb = by-ext (bitAnd a ((2 ^ 64 - 1) - b)) (λ t. inWord a t && not (inWord b t)) (and-lt 64 a ((2 ^ 64 - 1) - b) ha (ones-sub-lt 64 b)) (λ t l. go t l (inWord a t) (inWord b t) refl refl)
+without-is a b ha hb =
+    by-ext (bitAnd a ((2 ^ 64 - 1) - b)) (λ t. inWord a t && not (inWord b t)) (and-lt 64 a ((2 ^ 64 - 1) - b) ha (ones-sub-lt 64 b))
+    (λ t l. go t l (inWord a t) (inWord b t) refl refl)
   where
-    go : (t : ℕ) → t < 64 → (x y : Bool) → inWord a t ≡ x → inWord b t ≡ y → inWord (bitAnd a ((2 ^ 64 - 1) - b)) t ≡ (inWord a t && not (inWord b t))
+    go : (t : ℕ) → t < 64 → (x y : Bool) → inWord a t ≡ x → inWord b t ≡ y
+        → inWord (bitAnd a ((2 ^ 64 - 1) - b)) t ≡ (inWord a t && not (inWord b t))
     go t l x y p q =
         ap (λ (n : ℕ). eqb n 1)
-        (and-at a ((2 ^ 64 - 1) - b) t ∙ ap₂ (λ (m n : ℕ). m * n) (bit-of a t x p) (not-at 64 b t l hb ∙ ap (λ (n : ℕ). 1 - n) (bit-of b t y q)))
+        (and-at a ((2 ^ 64 - 1) - b) t ∙ ap₂ (λ (m n : ℕ). m * n) (bit-of a t x p)
+        (not-at 64 b t l hb ∙ ap (λ (n : ℕ). 1 - n) (bit-of b t y q)))
         ∙ table x y ∙ ap₂ (λ (m n : Bool). m && not n) (sym p) (sym q)
       where
         table : (x y : Bool) → eqb (bit x * (1 - bit y)) 1 ≡ (x && not y)
@@ -131,18 +135,21 @@ module _ (q : ℕ → Bool) where
     where
       later : (t : ℕ) → (t ≡ k → ⊥) → Dec (t < k) → (ltb t k && q t) ≡ (ltb t (k + 1) && q t)
       later t n (yes l) = ap (λ (x : Bool). x && q t) (lt-ltb t k l) ∙ ap (λ (x : Bool). x && q t) (sym (lt-ltb t (k + 1) (omega arith)))
-      later t n (no l) = ap (λ (x : Bool). x && q t) (le-ltb t k (omega arith)) ∙ ap (λ (x : Bool). x && q t) (sym (le-ltb t (k + 1) (omega arith)))
+      later t n (no l) =
+          ap (λ (x : Bool). x && q t) (le-ltb t k (omega arith)) ∙ ap (λ (x : Bool). x && q t) (sym (le-ltb t (k + 1) (omega arith)))
 
       go : (t : ℕ) → t < 64 → Dec (t ≡ k) → (if eqb t k then b else inWord w t) ≡ upTo q (k + 1) t
       go t l (yes c) =
           ap (λ (x : Bool). if x then b else inWord w t) (eq-eqb t k c) ∙ p ∙ ap q (sym c)
           ∙ ap (λ (x : Bool). x && q t) (sym (lt-ltb t (k + 1) (omega arith)))
       go t l (no n) =
-          ap (λ (x : Bool). if x then b else inWord w t) (ne-eqb t k n) ∙ ap (λ (x : ℕ). inWord x t) e ∙ in-by (upTo q k) t l ∙ later t n (decLt t k)
+          ap (λ (x : Bool). if x then b else inWord w t) (ne-eqb t k n) ∙ ap (λ (x : ℕ). inWord x t) e ∙ in-by (upTo q k) t l
+          ∙ later t n (decLt t k)
 
 -- ---- what is in either of two words
 pub join-is : (a b : ℕ) → a < 2 ^ 64 → b < 2 ^ 64 → bitOr a b ≡ wordBy (λ t. inWord a t || inWord b t)
-join-is a b ha hb = by-ext (bitOr a b) (λ t. inWord a t || inWord b t) (or-lt 64 a b ha hb) (λ t l. go t (inWord a t) (inWord b t) refl refl)
+join-is a b ha hb =
+    by-ext (bitOr a b) (λ t. inWord a t || inWord b t) (or-lt 64 a b ha hb) (λ t l. go t (inWord a t) (inWord b t) refl refl)
   where
     go : (t : ℕ) (x y : Bool) → inWord a t ≡ x → inWord b t ≡ y → inWord (bitOr a b) t ≡ (inWord a t || inWord b t)
     go t x y p q =

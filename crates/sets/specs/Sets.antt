@@ -1,4 +1,4 @@
--- Sets of links as words. Assumes nothing.
+-- Sets of links as words.
 use Prim.Native.Nat.{ℕ}
 use mathlib.Core.Bool.{Bool, _&&_}
 use mathlib.Core.List.{map}

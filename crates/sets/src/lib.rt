@@ -7,6 +7,7 @@ ghost use lib.Dec.{eqb};
 ghost use Rattle.lists.specs.Lists.{if_then_else_};
 ghost use Rattle.lists.specs.Words.{inWord, bitAt};
 ghost use Rattle.sets.specs.Sets.{wordBy};
+ghost use Rattle.sets.specs.Rooms.{inRoom};
 
 // Whether k is in the set; a place beyond the word is not.
 // Promise: equals `Words.inWord`: k is in the set, and no place beyond 64 is.
@@ -92,4 +93,12 @@ pub fn both(a: bool, b: bool) -> bool
     ensures { λ r. ⌜ r ≡ (a && b) ⌝ }
 {
     if a { b } else { false }
+}
+
+// The place of a station's number in a room of 32, where it has one.
+// Promise: equals `Rooms.inRoom`: the number, or 0 for one that is no place of the 32.
+pub fn in_room(a: u32) -> u8
+    ensures { λ r. ⌜ r ≡ inRoom a ⌝ }
+{
+    if a < 32 { a as u8 } else { 0 }
 }

@@ -1,4 +1,4 @@
--- What a judgement says of the field: read backwards. Assumes nothing.
+-- What a judgement says of the field: read backwards.
 use Prim.Native.Nat.{ℕ, zero, suc}
 use mathlib.Core.Bool.{Bool, true, false, not, _&&_}
 use mathlib.Core.Path.{_≡_, refl, ap, subst}
@@ -42,8 +42,10 @@ pub is-stations : (f : Field) (n : ℕ) (rest : List ℕ) → opened f ≡ stati
 unfolding opened
 is-stations short n rest e = let z : _≡_ {A = ℕ} 0 1 = cc in absurd (omega arith)
 is-stations (field t v r) n rest e =
-    if-elim (λ (x : Opening). x ≡ stations n rest → IsStations (field t v r) n rest) (not (isField 1 1 t v)) (λ _ q. let z : _≡_ {A = ℕ} 0 1 = cc in absurd (omega arith))
-    (λ p. if-elim (λ (x : Opening). x ≡ stations n rest → IsStations (field t v r) n rest) (not (stationsHold (getD v 0 0))) (λ _ q. let z : _≡_ {A = ℕ} 0 1 = cc in absurd (omega arith))
+    if-elim (λ (x : Opening). x ≡ stations n rest → IsStations (field t v r) n rest) (not (isField 1 1 t v))
+    (λ _ q. let z : _≡_ {A = ℕ} 0 1 = cc in absurd (omega arith))
+    (λ p. if-elim (λ (x : Opening). x ≡ stations n rest → IsStations (field t v r) n rest) (not (stationsHold (getD v 0 0)))
+    (λ _ q. let z : _≡_ {A = ℕ} 0 1 = cc in absurd (omega arith))
     (λ s q.
     let h = not-not (isField 1 1 t v) p in
     let k : getD v 0 0 ≡ n = cc in
@@ -79,7 +81,8 @@ is-link n prev (field t v r) e rest p =
       good = subst (λ (y : Ends). T (endsHold n y)) k (not-not (endsHold n (linkOf v)) a);
       after = subst (λ (y : Ends). T (precedes prev y)) k (not-not (precedes prev (linkOf v)) b);
     })))
-    (λ _. if-elim P (isField 15 0 t v && isEmpty r) (λ _ q. let z : _≡_ {A = ℕ} 0 1 = cc in absurd (omega arith)) (λ _ q. let z : _≡_ {A = ℕ} 0 1 = cc in absurd (omega arith))) p
+    (λ _. if-elim P (isField 15 0 t v && isEmpty r) (λ _ q. let z : _≡_ {A = ℕ} 0 1 = cc in absurd (omega arith))
+    (λ _ q. let z : _≡_ {A = ℕ} 0 1 = cc in absurd (omega arith))) p
   where
     P : Verdict → Type 0
     P x = x ≡ link e rest → IsLink n prev (field t v r) e rest

@@ -1,5 +1,5 @@
 -- The sheet's format: what is written reads back; bytes that read to a network are exactly what writing it gives; what is
--- read keeps the sheet rules. Assumes nothing.
+-- read keeps the sheet rules.
 use Prim.Native.Nat.{ℕ, zero, suc, _+_, _-_, _≤_}
 use mathlib.Core.Bool.{_&&_}
 use mathlib.Core.Path.{_≡_, refl, sym, ap, _∙_, subst, subst⁻¹}
@@ -22,7 +22,8 @@ pub open-written : (n : ℕ) (rest : List ℕ) → T (stationsHold n) → opened
 unfolding opened
 open-written n rest t = rw (cut-written 1 (n ∷ []) rest, T-is (stationsHold n) t)
 
-judge-link : (n : ℕ) (prev e : Ends) (rest : List ℕ) → T (endsHold n e) → T (precedes prev e) → judged n prev (firstField (linkBytes e ++ rest)) ≡ link e rest
+judge-link : (n : ℕ) (prev e : Ends) (rest : List ℕ) → T (endsHold n e) → T (precedes prev e)
+    → judged n prev (firstField (linkBytes e ++ rest)) ≡ link e rest
 unfolding judged
 judge-link n prev e rest t u = rw (cut-written 2 (e .low ∷ e .high ∷ []) rest, T-is (endsHold n e) t, T-is (precedes prev e) u)
 
@@ -46,19 +47,25 @@ more-is (e ∷ es) left = omega (arith, more-is es left)
 
 -- good links that were written are read, and the reader stands after them
 links-pass : (es : List Ends) (left n : ℕ) (prev : Ends) (so : List Ends) (rest : List ℕ) → T (rising n prev es)
-    → readLinks (more es left) n so (judged n prev (firstField (writeLinks es ++ rest))) ≡ readLinks left n (so ++ es) (judged n (lastOf prev es) (firstField rest))
+    → readLinks (more es left) n so (judged n prev (firstField (writeLinks es ++ rest))) ≡ readLinks left n (so ++ es)
+    (judged n (lastOf prev es) (firstField rest))
 unfolding readLinks writeLinks
 links-pass [] left n prev so rest t = ap (λ (l : List Ends). readLinks left n l (judged n prev (firstField rest))) (sym (append-nil so))
 links-pass (e ∷ es) left n prev so rest t =
     let u = and-l (endsHold n e && precedes prev e) _ t in
-    rw (append-assoc (linkBytes e) (writeLinks es) rest, judge-link n prev e (writeLinks es ++ rest) (and-l (endsHold n e) _ u) (and-r (endsHold n e) _ u))
+    rw (
+      append-assoc (linkBytes e) (writeLinks es) rest,
+      judge-link n prev e (writeLinks es ++ rest) (and-l (endsHold n e) _ u)
+          (and-r (endsHold n e) _ u),
+    )
     (links-pass es left n e (so ++ (e ∷ [])) rest (and-r (endsHold n e && precedes prev e) _ t)
     ∙ ap (λ (l : List Ends). readLinks left n l (judged n (lastOf e es) (firstField rest))) (append-assoc so (e ∷ []) es))
 
 -- a sheet that begins with a good first field and good links
 pub reads-on : (net : Network) (rest : List ℕ) → Risen net
     → readSheet (writeField 1 (net .stations ∷ []) ++ writeLinks (net .links) ++ rest)
-    ≡ readLinks (64 - length (net .links)) (net .stations) (net .links) (judged (net .stations) (lastOf noLink (net .links)) (firstField rest))
+    ≡ readLinks (64 - length (net .links)) (net .stations) (net .links)
+    (judged (net .stations) (lastOf noLink (net .links)) (firstField rest))
 unfolding readSheet
 reads-on net rest r =
     let n = net .stations in
@@ -89,13 +96,15 @@ two-bytes (x ∷ []) e = absurd (omega arith)
 two-bytes (x ∷ y ∷ []) e = refl
 two-bytes (x ∷ y ∷ z ∷ v) e = absurd (omega arith)
 
-pub stations-written : (bytes : List ℕ) (n : ℕ) (rest : List ℕ) → T (areBytes bytes) → opened (firstField bytes) ≡ stations n rest → bytes ≡ writeField 1 (n ∷ []) ++ rest
+pub stations-written : (bytes : List ℕ) (n : ℕ) (rest : List ℕ) → T (areBytes bytes) → opened (firstField bytes) ≡ stations n rest
+    → bytes ≡ writeField 1 (n ∷ []) ++ rest
 stations-written bytes n rest t e =
     let w = is-stations (firstField bytes) n rest e in
     written-cut bytes 1 (w .value) rest t (w .cut)
     ∙ ap (λ (v : List ℕ). writeField 1 v ++ rest) (one-byte (w .value) (w .size) ∙ ap {B = List ℕ} (λ (x : ℕ). x ∷ []) (w .count))
 
-pub link-written : (n : ℕ) (prev : Ends) (bytes : List ℕ) (e : Ends) (rest : List ℕ) → T (areBytes bytes) → judged n prev (firstField bytes) ≡ link e rest → bytes ≡ linkBytes e ++ rest
+pub link-written : (n : ℕ) (prev : Ends) (bytes : List ℕ) (e : Ends) (rest : List ℕ) → T (areBytes bytes)
+    → judged n prev (firstField bytes) ≡ link e rest → bytes ≡ linkBytes e ++ rest
 link-written n prev bytes e rest t p =
     let w = is-link n prev (firstField bytes) e rest p in
     written-cut bytes 2 (w .value) rest t (w .cut)
@@ -112,7 +121,8 @@ record Ended (room n : ℕ) (prev : Ends) (so : List Ends) (bytes : List ℕ) (n
   pub few : length es ≤ room
   pub wrote : T (areBytes bytes) → bytes ≡ writeLinks es ++ writeField 15 []
 
-ended-last : (room n : ℕ) (prev : Ends) (so : List Ends) (bytes : List ℕ) (net : Network) → judged n prev (firstField bytes) ≡ last → readLinks room n so last ≡ sheet net → Ended room n prev so bytes net
+ended-last : (room n : ℕ) (prev : Ends) (so : List Ends) (bytes : List ℕ) (net : Network) → judged n prev (firstField bytes) ≡ last
+    → readLinks room n so last ≡ sheet net → Ended room n prev so bytes net
 unfolding writeLinks
 ended-last room n prev so bytes net p q =
     let e = last-read room n so in
@@ -141,7 +151,8 @@ ended-link room n prev so bytes net x rest p r =
           ∙ sym (append-assoc (linkBytes x) (writeLinks (r .es)) (writeField 15 []));
     }
 
-ended : (room n : ℕ) (prev : Ends) (so : List Ends) (bytes : List ℕ) (net : Network) → readLinks room n so (judged n prev (firstField bytes)) ≡ sheet net → Ended room n prev so bytes net
+ended : (room n : ℕ) (prev : Ends) (so : List Ends) (bytes : List ℕ) (net : Network)
+    → readLinks room n so (judged n prev (firstField bytes)) ≡ sheet net → Ended room n prev so bytes net
 unfolding readLinks
 ended zero n prev so bytes net e = go (judged n prev (firstField bytes)) refl e
   where
@@ -149,10 +160,12 @@ ended zero n prev so bytes net e = go (judged n prev (firstField bytes)) refl e
     go (wrong k) p q = let z : _≡_ {A = ℕ} 0 1 = cc in absurd (omega arith)
     go last p q = ended-last zero n prev so bytes net p q
     go (link x rest) p q = let z : _≡_ {A = ℕ} 0 1 = cc in absurd (omega arith)
-ended (suc room) n prev so bytes net e = go (judged n prev (firstField bytes)) refl (λ x rest q. ended room n x (so ++ (x ∷ [])) rest net q) e
+ended (suc room) n prev so bytes net e =
+    go (judged n prev (firstField bytes)) refl (λ x rest q. ended room n x (so ++ (x ∷ [])) rest net q) e
   where
     go : (v : Verdict) → judged n prev (firstField bytes) ≡ v
-        → ((x : Ends) (rest : List ℕ) → readLinks room n (so ++ (x ∷ [])) (judged n x (firstField rest)) ≡ sheet net → Ended room n x (so ++ (x ∷ [])) rest net)
+        → ((x : Ends) (rest : List ℕ) → readLinks room n (so ++ (x ∷ [])) (judged n x (firstField rest)) ≡ sheet net
+        → Ended room n x (so ++ (x ∷ [])) rest net)
         → readLinks (suc room) n so v ≡ sheet net → Ended (suc room) n prev so bytes net
     go (wrong k) p ih q = let z : _≡_ {A = ℕ} 0 1 = cc in absurd (omega arith)
     go last p ih q = ended-last (suc room) n prev so bytes net p q
@@ -189,7 +202,8 @@ pub one-writing : (bytes : List ℕ) (net : Network) → T (areBytes bytes) → 
 one-writing bytes net t e = whole bytes net e .wrote t
 
 -- so two byte strings never read to one network
-pub same-bytes : (xs ys : List ℕ) (net : Network) → T (areBytes xs) → T (areBytes ys) → readSheet xs ≡ sheet net → readSheet ys ≡ sheet net → xs ≡ ys
+pub same-bytes : (xs ys : List ℕ) (net : Network) → T (areBytes xs) → T (areBytes ys) → readSheet xs ≡ sheet net → readSheet ys ≡ sheet net
+    → xs ≡ ys
 same-bytes xs ys net t u p q = one-writing xs net t p ∙ sym (one-writing ys net u q)
 
 -- and what is written is bytes: so a good network has exactly one writing

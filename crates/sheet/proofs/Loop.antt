@@ -1,4 +1,4 @@
--- Where the loop over a sheet's links stands, and what each field it meets leads to. Assumes nothing.
+-- Where the loop over a sheet's links stands, and what each field it meets leads to.
 use Prim.Native.Nat.{ℕ, suc, _+_, _-_, _≤_, _<_}
 use mathlib.Core.Path.{_≡_, refl, sym, ap, _∙_, subst}
 use mathlib.Core.List.{List, [], _∷_, _++_, map, append-assoc}
@@ -40,7 +40,8 @@ pub record Standing (whole : Sheet) (n : ℕ) (bytes low high : List ℕ) (a b k
   pub highs : high ≡ roomOf (map (λ e. e .high) so)
   pub on : whole ≡ readLinks (64 - k) n so (judged n (endsOf a b) (firstField (drop at bytes)))
 
-pub standing-first : (n : ℕ) (bytes low high : List ℕ) → 4 ≤ length bytes → low ≡ roomOf [] → high ≡ roomOf [] → Standing (linksOf n bytes) n bytes low high 0 0 0 4
+pub standing-first : (n : ℕ) (bytes low high : List ℕ) → 4 ≤ length bytes → low ≡ roomOf [] → high ≡ roomOf []
+    → Standing (linksOf n bytes) n bytes low high 0 0 0 4
 unfolding linksOf
 standing-first n bytes low high h l g = record { so = []; count = refl; room = omega arith; inside = h; lows = l; highs = g; on = refl }
 
@@ -52,7 +53,8 @@ module _ (whole : Sheet) (n : ℕ) (bytes low high : List ℕ) (a b k at : ℕ) 
   abbrev here : List ℕ → Verdict
   here l = judged n (endsOf a b) (firstField l)
 
-  told : (v : Verdict) (next : Next) → verdictOf part next ≡ here part → verdictOf (drop at bytes) next ≡ v → whole ≡ readLinks (64 - k) n (s .so) v
+  told : (v : Verdict) (next : Next) → verdictOf part next ≡ here part → verdictOf (drop at bytes) next ≡ v
+      → whole ≡ readLinks (64 - k) n (s .so) v
   told v next p q =
       let e = take-all (length bytes - at) (drop at bytes) (omega (arith, length-drop at bytes)) in
       s .on ∙ ap (readLinks (64 - k) n (s .so)) (sym (subst (λ (l : List ℕ). verdictOf l next ≡ here l) e p) ∙ q)
@@ -60,10 +62,12 @@ module _ (whole : Sheet) (n : ℕ) (bytes low high : List ℕ) (a b k at : ℕ) 
   module _ (next : Next) (p : verdictOf part next ≡ here part) where
     pub standing-wrong : (answer : Answer) (r : Reading) → next ≡ Wrong answer → r ≡ refusedAs answer → Says r whole
     standing-wrong answer r q g =
-        let is = told (wrong (numberOf answer)) next p (ap (verdictOf (drop at bytes)) q) ∙ wrong-read (64 - k) n (s .so) (numberOf answer) in
+        let is = told (wrong (numberOf answer)) next p (ap (verdictOf (drop at bytes)) q)
+        ∙ wrong-read (64 - k) n (s .so) (numberOf answer) in
         subst (λ (x : Reading). Says x whole) (sym g) (record { number = ap sheetNumber (sym is); net = ap sheetNet (sym is) })
 
-    pub standing-last : next ≡ Last → Says (record { answer = Good; net = record { stations = n; links = k; low = low; high = high } }) whole
+    pub standing-last : next ≡ Last → Says (record { answer = Good; net = record { stations = n; links = k; low = low; high = high } })
+        whole
     unfolding valueOf
     standing-last q =
         let is = told last next p (ap (verdictOf (drop at bytes)) q) ∙ last-read (64 - k) n (s .so) in
@@ -84,7 +88,15 @@ module _ (whole : Sheet) (n : ℕ) (bytes low high : List ℕ) (a b k at : ℕ) 
       inside-more : at + 5 ≤ length bytes
       inside-more =
           let w = is-link n (endsOf a b) (firstField part) (endsOf l h) (drop 5 part) (sym (sym (ap (verdictOf part) q) ∙ p)) in
-          omega (arith, field-size part 2 (w .value) (drop 5 part) (w .cut), w .size, s .inside, length-take (length bytes - at) (drop at bytes), length-drop at bytes)
+          omega (
+            arith,
+            field-size part 2 (w .value) (drop 5 part) (w .cut),
+            w .size,
+            s .inside,
+            length-take (length bytes - at)
+                (drop at bytes),
+            length-drop at bytes,
+          )
 
       pub standing-link : k < 64 → Standing whole n bytes (set low k l) (set high k h) l h (k + 1) (at + 5)
       unfolding readLinks
@@ -106,14 +118,18 @@ module _ (whole : Sheet) (n : ℕ) (bytes low high : List ℕ) (a b k at : ℕ) 
                 ∙ ap roomOf (sym (map-append (λ x. x .high) (s .so) (endsOf l h ∷ [])));
             on =
                 told v next p (ap (verdictOf (drop at bytes)) q) ∙ ap (λ (m : ℕ). readLinks m n (s .so) v) z
-                ∙ ap (λ (x : List ℕ). readLinks (64 - (k + 1)) n (s .so ++ (endsOf l h ∷ [])) (judged n (endsOf l h) (firstField x))) (drop-drop 5 at bytes);
+                ∙ ap (λ (x : List ℕ). readLinks (64 - (k + 1)) n (s .so ++ (endsOf l h ∷ [])) (judged n (endsOf l h) (firstField x)))
+                (drop-drop 5 at bytes);
           }
 
 -- ---- the whole sheet
 module _ (bytes : List ℕ) where
-  pub read-faulty : (r : Reading) (answer : Answer) → faulty (numberOf answer) ≡ opened (firstField bytes) → r ≡ refusedAs answer → Says r (readSheet bytes)
+  pub read-faulty : (r : Reading) (answer : Answer) → faulty (numberOf answer) ≡ opened (firstField bytes) → r ≡ refusedAs answer
+      → Says r (readSheet bytes)
   unfolding readSheet
-  read-faulty r answer e p = subst (λ (x : Reading). Says x (readSheet bytes)) (sym p) (subst (λ (o : Opening). Says (refusedAs answer) (readOpened o)) e (record { number = refl; net = refl }))
+  read-faulty r answer e p =
+      subst (λ (x : Reading). Says x (readSheet bytes)) (sym p)
+      (subst (λ (o : Opening). Says (refusedAs answer) (readOpened o)) e (record { number = refl; net = refl }))
 
   module _ (n : ℕ) (e : stations n (drop 4 bytes) ≡ opened (firstField bytes)) where
     pub read-room : 4 ≤ length bytes

@@ -1,4 +1,4 @@
--- What is written, field by field, and what each return of `write` says. Assumes nothing.
+-- What is written, field by field, and what each return of `write` says.
 use Prim.Native.Nat.{ℕ, _+_, _-_, _*_, _≤_, _<_, min}
 use mathlib.Core.Bool.{Bool, true, false, not}
 use mathlib.Core.Path.{_≡_, refl, sym, ap, ap₂, _∙_}
@@ -27,7 +27,8 @@ use Rattle.sheet.specs.Steps.{endsOf, firstEnds}
 pub links-append : (es fs : List Ends) → writeLinks (es ++ fs) ≡ writeLinks es ++ writeLinks fs
 unfolding writeLinks
 links-append [] fs = refl
-links-append (e ∷ es) fs = ap (λ (l : List ℕ). linkBytes e ++ l) (links-append es fs) ∙ sym (append-assoc (linkBytes e) (writeLinks es) (writeLinks fs))
+links-append (e ∷ es) fs =
+    ap (λ (l : List ℕ). linkBytes e ++ l) (links-append es fs) ∙ sym (append-assoc (linkBytes e) (writeLinks es) (writeLinks fs))
 
 pub links-length : (es : List Ends) → length (writeLinks es) ≡ 5 * length es
 unfolding writeLinks
@@ -65,7 +66,8 @@ module _ (low high : List ℕ) where
 
 -- ---- the whole sheet
 module _ (net : Net) (r : Bool) (e : r ≡ netHolds net) where
-  pub write-bad : (old : List ℕ) → not r ≡ true → (wroteNumbers BadNetwork ≡ writingNumbers (writing net old)) × (old ≡ writingOutput (writing net old) old)
+  pub write-bad : (old : List ℕ) → not r ≡ true → (wroteNumbers BadNetwork ≡ writingNumbers (writing net old)) × (old ≡ writingOutput
+      (writing net old) old)
   unfolding writing
   write-bad old h = let b : netHolds net ≡ false = sym e ∙ not-true r h in (simp b, simp b)
 
@@ -100,7 +102,8 @@ module _ (net : Net) (r : Bool) (e : r ≡ netHolds net) where
         ap length sheet-bytes ∙ length-append (front ++ middle) (writeField 15 [])
         ∙ omega (arith, length-append front middle, front-length, first-length (net .low) (net .high) (net .links), length-field 15 [])
 
-    pub write-short : (old : List ℕ) → length old < 4 + 5 * net .links + 3 → (wroteNumbers OutputShort ≡ writingNumbers (writing net old)) × (old ≡ writingOutput (writing net old) old)
+    pub write-short : (old : List ℕ) → length old < 4 + 5 * net .links + 3
+        → (wroteNumbers OutputShort ≡ writingNumbers (writing net old)) × (old ≡ writingOutput (writing net old) old)
     unfolding writing fitting
     write-short old l =
         let s = lt-ltb (length old) (length (writeSheet (networkOf net))) (omega (arith, sheet-length)) in
@@ -119,16 +122,19 @@ module _ (net : Net) (r : Bool) (e : r ≡ netHolds net) where
         pub links-room : 5 * net .links ≤ length (take (length one - 4) (drop 4 one))
         links-room = omega (arith, one-length, length-take (length one - 4) (drop 4 one), length-drop 4 one)
 
-        module _ (two part : List ℕ) (g : part ≡ onto middle (take (length one - 4) (drop 4 one))) (q : two ≡ take 4 one ++ (part ++ drop (length one - 4) (drop 4 one))) where
+        module _ (two part : List ℕ) (g : part ≡ onto middle (take (length one - 4) (drop 4 one)))
+            (q : two ≡ take 4 one ++ (part ++ drop (length one - 4) (drop 4 one))) where
           two-is : two ≡ onto (front ++ middle) old
           two-is = q ∙ lent-more front middle old one part 4 p front-length g
 
           both-length : length (front ++ middle) ≡ 4 + 5 * net .links
           both-length = length-append front middle ∙ omega (arith, front-length, first-length (net .low) (net .high) (net .links))
 
-          pub write-all : (three last : List ℕ) → last ≡ onto (writeField 15 []) (take (length two - (4 + 5 * net .links)) (drop (4 + 5 * net .links) two))
+          pub write-all : (three last : List ℕ) → last ≡ onto (writeField 15 [])
+              (take (length two - (4 + 5 * net .links)) (drop (4 + 5 * net .links) two))
               → three ≡ take (4 + 5 * net .links) two ++ (last ++ drop (length two - (4 + 5 * net .links)) (drop (4 + 5 * net .links) two))
-              → (wroteNumbers (Bytes (4 + 5 * net .links + 3)) ≡ writingNumbers (writing net old)) × (three ≡ writingOutput (writing net old) old)
+              → (wroteNumbers (Bytes (4 + 5 * net .links + 3)) ≡ writingNumbers (writing net old)) × (three ≡ writingOutput
+              (writing net old) old)
           write-all three last f w = (
             ap (λ (n : ℕ). 0 ∷ n ∷ []) (sym sheet-length) ∙ ap writingNumbers (sym written),
             w ∙ lent-more (front ++ middle) (writeField 15 []) old two last (4 + 5 * net .links) two-is both-length f

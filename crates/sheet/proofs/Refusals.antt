@@ -1,5 +1,5 @@
 -- A sheet is refused with a number when, and only when, the list of numbers says so: a good beginning, then the field that is
--- at fault, judged in the order 1, 2, 3, 4, 5. Assumes nothing.
+-- at fault, judged in the order 1, 2, 3, 4, 5.
 use Prim.Native.Nat.{ℕ, zero, suc, _-_, _≤_, _<_}
 use mathlib.Core.Bool.{Bool, true, false, not, _&&_}
 use mathlib.Core.Path.{_≡_, refl, sym, ap, ap₂, _∙_, subst, subst⁻¹}
@@ -39,11 +39,13 @@ pub data Fault (n : ℕ) (prev : Ends) : Field → ℕ → Type 0 where
   -- the bytes end inside it, or there is none
   cut-short : Fault n prev short 1
   -- neither a link nor the last field with nothing after it
-  misplaced : {t : ℕ} {v rest : List ℕ} → isField 2 2 t v ≡ false → (isField 15 0 t v && isEmpty rest) ≡ false → Fault n prev (field t v rest) 2
+  misplaced : {t : ℕ} {v rest : List ℕ} → isField 2 2 t v ≡ false → (isField 15 0 t v && isEmpty rest) ≡ false
+      → Fault n prev (field t v rest) 2
   -- an end that is no station, ends equal or higher first
   no-ends : {t : ℕ} {v rest : List ℕ} → isField 2 2 t v ≡ true → endsHold n (linkOf v) ≡ false → Fault n prev (field t v rest) 3
   -- equal to or before the link before it
-  no-order : {t : ℕ} {v rest : List ℕ} → isField 2 2 t v ≡ true → endsHold n (linkOf v) ≡ true → precedes prev (linkOf v) ≡ false → Fault n prev (field t v rest) 4
+  no-order : {t : ℕ} {v rest : List ℕ} → isField 2 2 t v ≡ true → endsHold n (linkOf v) ≡ true → precedes prev (linkOf v) ≡ false
+      → Fault n prev (field t v rest) 4
 
 -- a good beginning: the first field and the links of a network that keeps the rules, and then the rest
 pub record Begun (bytes : List ℕ) (net : Network) (rest : List ℕ) : Type 0 where
@@ -55,9 +57,11 @@ before net = lastOf noLink (net .links)
 
 pub data Refused (bytes : List ℕ) : ℕ → Type 0 where
   at-first : {k : ℕ} → FirstFault (firstField bytes) k → Refused bytes k
-  later : {k : ℕ} (net : Network) (rest : List ℕ) → Begun bytes net rest → Fault (net .stations) (before net) (firstField rest) k → Refused bytes k
+  later : {k : ℕ} (net : Network) (rest : List ℕ) → Begun bytes net rest → Fault (net .stations) (before net) (firstField rest) k
+      → Refused bytes k
   -- a 65th link
-  full : (net : Network) (rest : List ℕ) (e : Ends) (more : List ℕ) → Begun bytes net rest → length (net .links) ≡ 64 → judged (net .stations) (before net) (firstField rest) ≡ link e more → Refused bytes 5
+  full : (net : Network) (rest : List ℕ) (e : Ends) (more : List ℕ) → Begun bytes net rest → length (net .links) ≡ 64
+      → judged (net .stations) (before net) (firstField rest) ≡ link e more → Refused bytes 5
 
 -- ---- one field
 opened-only : (f : Field) (k : ℕ) → opened f ≡ faulty k → FirstFault f k
@@ -84,10 +88,13 @@ module _ (n : ℕ) (prev : Ends) where
   judged-only : (f : Field) (k : ℕ) → judged n prev f ≡ wrong k → Fault n prev f k
   unfolding judged
   judged-only short k e = let m : 1 ≡ k = cc in subst (Fault n prev short) m cut-short
-  judged-only (field t v rest) k e = go (isField 2 2 t v) (endsHold n (linkOf v)) (precedes prev (linkOf v)) (isField 15 0 t v && isEmpty rest) refl refl refl refl e
+  judged-only (field t v rest) k e =
+      go (isField 2 2 t v) (endsHold n (linkOf v)) (precedes prev (linkOf v)) (isField 15 0 t v && isEmpty rest) refl refl refl refl e
     where
-      go : (a b c d : Bool) → isField 2 2 t v ≡ a → endsHold n (linkOf v) ≡ b → precedes prev (linkOf v) ≡ c → (isField 15 0 t v && isEmpty rest) ≡ d
-          → (if a then (if not b then wrong 3 else (if not c then wrong 4 else link (linkOf v) rest)) else (if d then last else wrong 2)) ≡ wrong k → Fault n prev (field t v rest) k
+      go : (a b c d : Bool) → isField 2 2 t v ≡ a → endsHold n (linkOf v) ≡ b → precedes prev (linkOf v) ≡ c
+          → (isField 15 0 t v && isEmpty rest) ≡ d
+          → (if a then (if not b then wrong 3 else (if not c then wrong 4 else link (linkOf v) rest))
+          else (if d then last else wrong 2)) ≡ wrong k → Fault n prev (field t v rest) k
       go true false c d p q r s e = let m : 3 ≡ k = cc in subst (Fault n prev (field t v rest)) m (no-ends p q)
       go true true false d p q r s e = let m : 4 ≡ k = cc in subst (Fault n prev (field t v rest)) m (no-order p q r)
       go true true true d p q r s e = let z : _≡_ {A = ℕ} 0 1 = cc in absurd (omega arith)
@@ -109,9 +116,11 @@ record Stopped (room n : ℕ) (prev : Ends) (bytes : List ℕ) (k : ℕ) : Type 
   pub order : T (rising n prev es)
   pub few : length es ≤ room
   pub front : bytes ≡ writeLinks es ++ rest
-  pub why : Fault n (lastOf prev es) (firstField rest) k ⊎ ((k ≡ 5) × (length es ≡ room) × ((e : Ends) × ((more : List ℕ) × (judged n (lastOf prev es) (firstField rest) ≡ link e more))))
+  pub why : Fault n (lastOf prev es) (firstField rest) k ⊎
+      ((k ≡ 5) × (length es ≡ room) × ((e : Ends) × ((more : List ℕ) × (judged n (lastOf prev es) (firstField rest) ≡ link e more))))
 
-stopped-wrong : (room n : ℕ) (prev : Ends) (so : List Ends) (bytes : List ℕ) (j k : ℕ) → judged n prev (firstField bytes) ≡ wrong j → readLinks room n so (wrong j) ≡ refused k → Stopped room n prev bytes k
+stopped-wrong : (room n : ℕ) (prev : Ends) (so : List Ends) (bytes : List ℕ) (j k : ℕ) → judged n prev (firstField bytes) ≡ wrong j
+    → readLinks room n so (wrong j) ≡ refused k → Stopped room n prev bytes k
 unfolding writeLinks
 stopped-wrong room n prev so bytes j k p q =
     let e = wrong-read room n so j in
@@ -134,7 +143,8 @@ stopped-link room n prev bytes k x rest t p s =
       why = ⊎-elim (λ f. inl f) (λ f. inr (f .0, ap suc (f .1), f .2)) (s .why);
     }
 
-stopped : (room n : ℕ) (prev : Ends) (so : List Ends) (bytes : List ℕ) (k : ℕ) → T (areBytes bytes) → readLinks room n so (judged n prev (firstField bytes)) ≡ refused k → Stopped room n prev bytes k
+stopped : (room n : ℕ) (prev : Ends) (so : List Ends) (bytes : List ℕ) (k : ℕ) → T (areBytes bytes)
+    → readLinks room n so (judged n prev (firstField bytes)) ≡ refused k → Stopped room n prev bytes k
 unfolding readLinks writeLinks
 stopped zero n prev so bytes k t e = go (judged n prev (firstField bytes)) refl e
   where
@@ -144,14 +154,18 @@ stopped zero n prev so bytes k t e = go (judged n prev (firstField bytes)) refl 
     go (link x rest) p q =
         let m : k ≡ 5 = cc in
         record { es = []; rest = bytes; order = tt; few = omega arith; front = refl; why = inr (m, refl, (x, (rest, p))) }
-stopped (suc room) n prev so bytes k t e = go (judged n prev (firstField bytes)) refl (λ x rest u q. stopped room n x (so ++ (x ∷ [])) rest k u q) e
+stopped (suc room) n prev so bytes k t e =
+    go (judged n prev (firstField bytes)) refl (λ x rest u q. stopped room n x (so ++ (x ∷ [])) rest k u q) e
   where
     go : (v : Verdict) → judged n prev (firstField bytes) ≡ v
-        → ((x : Ends) (rest : List ℕ) → T (areBytes rest) → readLinks room n (so ++ (x ∷ [])) (judged n x (firstField rest)) ≡ refused k → Stopped room n x rest k)
+        → ((x : Ends) (rest : List ℕ) → T (areBytes rest) → readLinks room n (so ++ (x ∷ [])) (judged n x (firstField rest)) ≡ refused k
+        → Stopped room n x rest k)
         → readLinks (suc room) n so v ≡ refused k → Stopped (suc room) n prev bytes k
     go (wrong j) p ih q = stopped-wrong (suc room) n prev so bytes j k p q
     go last p ih q = let z : _≡_ {A = ℕ} 0 1 = cc in absurd (omega arith)
-    go (link x rest) p ih q = stopped-link room n prev bytes k x rest t p (ih x rest (rest-bytes bytes (linkBytes x) rest t (link-written n prev bytes x rest t p)) q)
+    go (link x rest) p ih q =
+        stopped-link room n prev bytes k x rest t p (ih x rest
+        (rest-bytes bytes (linkBytes x) rest t (link-written n prev bytes x rest t p)) q)
 
 pub refused-only : (bytes : List ℕ) (k : ℕ) → T (areBytes bytes) → readSheet bytes ≡ refused k → Refused bytes k
 unfolding readSheet
@@ -166,7 +180,9 @@ refused-only bytes k t e = go (opened (firstField bytes)) refl e
         let net : Network = record { stations = n; links = s .es } in
         let b : Begun bytes net (s .rest) = record {
           holds = of-risen net (record { count = w .good; few = s .few; order = s .order });
-          front = f ∙ ap (λ (l : List ℕ). writeField 1 (n ∷ []) ++ l) (s .front) ∙ sym (append-assoc (writeField 1 (n ∷ [])) (writeLinks (s .es)) (s .rest));
+          front =
+              f ∙ ap (λ (l : List ℕ). writeField 1 (n ∷ []) ++ l) (s .front)
+              ∙ sym (append-assoc (writeField 1 (n ∷ [])) (writeLinks (s .es)) (s .rest));
         } in
         ⊎-elim (λ y. later net (s .rest) b y)
         (λ y. subst⁻¹ (Refused bytes) (y .0) (full net (s .rest) (y .2 .0) (y .2 .1 .0) b (y .1) (y .2 .1 .1))) (s .why)
@@ -177,7 +193,8 @@ unfolding readSheet
 refused-when bytes k (at-first f) = ap readOpened (opened-when (firstField bytes) k f)
 refused-when bytes k (later net rest b f) =
     ap readSheet (b .front) ∙ reads-on net rest (risen-of net (b .holds))
-    ∙ ap (readLinks (64 - length (net .links)) (net .stations) (net .links)) (judged-when (net .stations) (before net) (firstField rest) k f)
+    ∙ ap (readLinks (64 - length (net .links)) (net .stations) (net .links))
+    (judged-when (net .stations) (before net) (firstField rest) k f)
     ∙ wrong-read (64 - length (net .links)) (net .stations) (net .links) k
 refused-when bytes k (full net rest e more b l p) =
     let z : 64 - length (net .links) ≡ 0 = omega arith in
@@ -196,7 +213,8 @@ denied-only net old k e = go (netHolds net) (ltb (length old) (length new)) refl
     new : List ℕ
     new = writeSheet (networkOf net)
 
-    go : (a b : Bool) → netHolds net ≡ a → ltb (length old) (length new) ≡ b → (if not a then denied 11 else (if b then denied 10 else writes new)) ≡ denied k → Denied net old k
+    go : (a b : Bool) → netHolds net ≡ a → ltb (length old) (length new) ≡ b
+        → (if not a then denied 11 else (if b then denied 10 else writes new)) ≡ denied k → Denied net old k
     go false b p q e = let n : 11 ≡ k = cc in subst (Denied net old) n (bad-network p)
     go true true p q e = let n : 10 ≡ k = cc in subst (Denied net old) n (too-short p (ltb-true (length old) (length new) q))
     go true false p q e = let n : _≡_ {A = ℕ} 0 1 = cc in absurd (omega arith)

@@ -1,4 +1,4 @@
--- The sheet rules along the list of links: each is good and comes after the one before it. Assumes nothing.
+-- The sheet rules along the list of links: each is good and comes after the one before it.
 use Prim.Native.Nat.{ℕ, zero, suc, _≤_, _<_}
 use mathlib.Core.Bool.{Bool, true, _&&_}
 use mathlib.Core.List.{List, [], _∷_}

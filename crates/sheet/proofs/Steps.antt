@@ -1,4 +1,4 @@
--- What each return of the private steps says, in the order in which the code asks. Assumes nothing.
+-- What each return of the private steps says, in the order in which the code asks.
 use Prim.Native.Nat.{ℕ, _+_, _≤_, _<_}
 use mathlib.Core.Bool.{Bool, true, false, not, _&&_}
 use mathlib.Core.Path.{_≡_, refl, sym, ap, ap₂, _∙_}
@@ -31,11 +31,14 @@ module _ (bytes : List ℕ) where
     x = getD (take n (drop 3 bytes)) 0 0
 
     abbrev openedAs : ℕ → ℕ → Opening
-    openedAs n y = if not (eqb tag 1 && eqb n 1) then faulty 2 else (if not (stationsHold y) then faulty 3 else stations y (drop (3 + n) bytes))
+    openedAs n y =
+        if not (eqb tag 1 && eqb n 1) then faulty 2 else (if not (stationsHold y) then faulty 3 else stations y (drop (3 + n) bytes))
 
     seen : opened (firstField bytes) ≡ openedAs n x
     unfolding opened x
-    seen = ap opened (s .cut) ∙ ap (λ (m : ℕ). if not (eqb tag 1 && eqb m 1) then faulty 2 else (if not (stationsHold x) then faulty 3 else stations x (drop (3 + n) bytes))) (s .size)
+    seen =
+        ap opened (s .cut) ∙ ap (λ (m : ℕ). if not (eqb tag 1 && eqb m 1) then faulty 2
+        else (if not (stationsHold x) then faulty 3 else stations x (drop (3 + n) bytes))) (s .size)
 
     pub opened-tag : (tag ≡ 1 → ⊥) → faulty 2 ≡ opened (firstField bytes)
     opened-tag h = sym (seen ∙ simp (ne-eqb tag 1 h))
@@ -101,7 +104,8 @@ module _ (bytes : List ℕ) (n a b : ℕ) where
 
     abbrev judgedAs : ℕ → Verdict
     judgedAs k =
-        if eqb tag 2 && eqb k 2 then (if not (endsHold n ends) then wrong 3 else (if not (precedes (endsOf a b) ends) then wrong 4 else link ends (drop (3 + m) bytes)))
+        if eqb tag 2 && eqb k 2 then (if not (endsHold n ends) then wrong 3
+        else (if not (precedes (endsOf a b) ends) then wrong 4 else link ends (drop (3 + m) bytes)))
         else (if eqb tag 15 && eqb k 0 && isEmpty (drop (3 + m) bytes) then last else wrong 2)
 
     seen-later : want ≡ judgedAs m
@@ -118,7 +122,8 @@ module _ (bytes : List ℕ) (n a b : ℕ) where
         same : ends ≡ endsOf (getD bytes 3 0) (getD bytes 4 0)
         same = ap₂ endsOf (value-at bytes m 0 (omega arith)) (value-at bytes m 1 (omega arith))
 
-        lift : (x y : Bool) → verdictOf bytes (if x then Wrong OutOfRange else (if y then Wrong OutOfOrder else Link (getD bytes 3 0) (getD bytes 4 0)))
+        lift : (x y : Bool) → verdictOf bytes (if x then Wrong OutOfRange
+            else (if y then Wrong OutOfOrder else Link (getD bytes 3 0) (getD bytes 4 0)))
             ≡ (if x then wrong 3 else (if y then wrong 4 else link (endsOf (getD bytes 3 0) (getD bytes 4 0)) (drop 5 bytes)))
         lift true y = refl
         lift false true = refl
@@ -127,9 +132,13 @@ module _ (bytes : List ℕ) (n a b : ℕ) where
         two : judgedAs m ≡ verdictOf bytes (linkVerdict n a b (getD bytes 3 0) (getD bytes 4 0))
         two =
             simp (eq-eqb tag 2 t, eq-eqb m 2 e)
-            (ap (λ (z : Ends). if not (endsHold n z) then wrong 3 else (if not (precedes (endsOf a b) z) then wrong 4 else link z (drop (3 + m) bytes))) same
-            ∙ ap (λ (k : ℕ). if not (endsHold n (endsOf (getD bytes 3 0) (getD bytes 4 0))) then wrong 3 else (if not (precedes (endsOf a b) (endsOf (getD bytes 3 0) (getD bytes 4 0))) then wrong 4 else link (endsOf (getD bytes 3 0) (getD bytes 4 0)) (drop (3 + k) bytes))) e
-            ∙ sym (lift (not (endsHold n (endsOf (getD bytes 3 0) (getD bytes 4 0)))) (not (precedes (endsOf a b) (endsOf (getD bytes 3 0) (getD bytes 4 0))))))
+            (ap (λ (z : Ends). if not (endsHold n z) then wrong 3
+            else (if not (precedes (endsOf a b) z) then wrong 4 else link z (drop (3 + m) bytes))) same
+            ∙ ap (λ (k : ℕ). if not (endsHold n (endsOf (getD bytes 3 0) (getD bytes 4 0))) then wrong 3
+            else (if not (precedes (endsOf a b) (endsOf (getD bytes 3 0) (getD bytes 4 0))) then wrong 4 else link
+            (endsOf (getD bytes 3 0) (getD bytes 4 0)) (drop (3 + k) bytes))) e
+            ∙ sym (lift (not (endsHold n (endsOf (getD bytes 3 0) (getD bytes 4 0))))
+            (not (precedes (endsOf a b) (endsOf (getD bytes 3 0) (getD bytes 4 0))))))
 
     module _ (t : tag ≡ 2 → ⊥) where
       pub judged-tag : (tag ≡ 15 → ⊥) → wrong 2 ≡ want
@@ -140,10 +149,14 @@ module _ (bytes : List ℕ) (n a b : ℕ) where
 
       module _ (u : tag ≡ 15) (e : m ≡ 0) where
         end : want ≡ (if isEmpty (drop 3 bytes) then last else wrong 2)
-        end = seen-later ∙ simp (ne-eqb tag 2 t, eq-eqb tag 15 u, eq-eqb m 0 e) (ap (λ (k : ℕ). if isEmpty (drop (3 + k) bytes) then last else wrong 2) e)
+        end =
+            seen-later ∙ simp (ne-eqb tag 2 t, eq-eqb tag 15 u, eq-eqb m 0 e)
+            (ap (λ (k : ℕ). if isEmpty (drop (3 + k) bytes) then last else wrong 2) e)
 
         pub judged-more : (length bytes ≡ 3 → ⊥) → wrong 2 ≡ want
-        judged-more h = sym (end ∙ ap (λ (x : Bool). if x then last else wrong 2) (full (drop 3 bytes) (λ z. h (omega (arith, s .fits, length-drop 3 bytes)))))
+        judged-more h =
+            sym (end ∙ ap (λ (x : Bool). if x then last else wrong 2)
+            (full (drop 3 bytes) (λ z. h (omega (arith, s .fits, length-drop 3 bytes)))))
           where
             full : (l : List ℕ) → (length l ≡ 0 → ⊥) → isEmpty l ≡ false
             full [] g = absurd (g refl)

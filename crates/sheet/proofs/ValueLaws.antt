@@ -1,5 +1,5 @@
 -- The network value that reading hands out: it means the network that was read and keeps the rules with its unused room
--- zero; and a good value is determined by its meaning. Assumes nothing.
+-- zero; and a good value is determined by its meaning.
 use Prim.Native.Nat.{ℕ, _-_, _≤_, _<_, min}
 use mathlib.Core.Bool.{false}
 use mathlib.Core.Path.{_≡_, refl, sym, ap, _∙_, subst, subst⁻¹}
@@ -34,11 +34,14 @@ unfolding roomOf
 room-at xs k h = List·getD-append xs (replicate (64 - length xs) 0) 0 k h
 
 zeros-hold : (n : ℕ) → T (every isZero (replicate n 0))
-zeros-hold n = at-every isZero (replicate n 0) 0 (λ i h. subst⁻¹ (λ (x : ℕ). T (isZero x)) (getD-replicate n i 0 0 (omega (arith, h, length-replicate {A = ℕ} n 0))) tt)
+zeros-hold n =
+    at-every isZero (replicate n 0) 0 (λ i h. subst⁻¹ (λ (x : ℕ). T (isZero x))
+    (getD-replicate n i 0 0 (omega (arith, h, length-replicate {A = ℕ} n 0))) tt)
 
 room-tail : (xs : List ℕ) (m : ℕ) → length xs ≡ m → T (every isZero (drop m (roomOf xs)))
 unfolding roomOf
-room-tail xs m e = subst⁻¹ (λ (l : List ℕ). T (every isZero l)) (drop-at xs (replicate (64 - length xs) 0) m e) (zeros-hold (64 - length xs))
+room-tail xs m e =
+    subst⁻¹ (λ (l : List ℕ). T (every isZero l)) (drop-at xs (replicate (64 - length xs) 0) m e) (zeros-hold (64 - length xs))
 
 -- it has 64 places
 room-long : (xs : List ℕ) → length xs ≤ 64 → length (roomOf xs) ≡ 64
@@ -64,8 +67,12 @@ module _ (net : Network) (t : T (sheetHolds net)) where
       (λ i h. let g : i < m = subst (λ (x : ℕ). i < x) (length-map-below (placeEnds (valueOf net)) m) h in
       getD-map-below (placeEnds (valueOf net)) m i noLink g
       ∙ (λ j. record {
-        low = (room-at (map (λ e. e .low) (net .links)) i (subst⁻¹ (λ (x : ℕ). i < x) (length-map (net .links) (λ e. e .low)) g) ∙ List·getD-map (λ e. e .low) (net .links) i noLink) j;
-        high = (room-at (map (λ e. e .high) (net .links)) i (subst⁻¹ (λ (x : ℕ). i < x) (length-map (net .links) (λ e. e .high)) g) ∙ List·getD-map (λ e. e .high) (net .links) i noLink) j;
+        low =
+            (room-at (map (λ e. e .low) (net .links)) i (subst⁻¹ (λ (x : ℕ). i < x) (length-map (net .links) (λ e. e .low)) g)
+            ∙ List·getD-map (λ e. e .low) (net .links) i noLink) j;
+        high =
+            (room-at (map (λ e. e .high) (net .links)) i (subst⁻¹ (λ (x : ℕ). i < x) (length-map (net .links) (λ e. e .high)) g)
+            ∙ List·getD-map (λ e. e .high) (net .links) i noLink) j;
       })))
 
   pub value-holds : T (netHolds (valueOf net))
@@ -101,7 +108,9 @@ number-one : (a b : Answer) → numberOf a ≡ numberOf b → a ≡ b
 number-one a b e = go a b e
   where
     back : ℕ → Answer
-    back n = if eqb n 0 then Good else (if eqb n 1 then Short else (if eqb n 2 then Malformed else (if eqb n 3 then OutOfRange else (if eqb n 4 then OutOfOrder else TooManyLinks))))
+    back n =
+        if eqb n 0 then Good else (if eqb n 1 then Short
+        else (if eqb n 2 then Malformed else (if eqb n 3 then OutOfRange else (if eqb n 4 then OutOfOrder else TooManyLinks))))
 
     is : (x : Answer) → back (numberOf x) ≡ x
     is Good = refl
@@ -120,17 +129,21 @@ zero-bad = few-stations zeroNet (omega arith)
 
 -- two answers that are allowed for the same bytes are equal
 pub one-answer : (r q : Reading) (s : Sheet) → Says r s → Says q s → r ≡ q
-one-answer r q s a b = let n = number-one (r .answer) (q .answer) (a .number ∙ sym (b .number)) in let e = a .net ∙ sym (b .net) in λ i. record { answer = n i; net = e i }
+one-answer r q s a b =
+    let n = number-one (r .answer) (q .answer) (a .number ∙ sym (b .number)) in let e = a .net
+    ∙ sym (b .net) in λ i. record { answer = n i; net = e i }
 
 -- the value beside a good answer means the network that the bytes give, and is a good value
-pub read-value : (r : Reading) (bytes : List ℕ) (net : Network) → Says r (readSheet bytes) → readSheet bytes ≡ sheet net → (networkOf (r .net) ≡ net) × T (netHolds (r .net))
+pub read-value : (r : Reading) (bytes : List ℕ) (net : Network) → Says r (readSheet bytes) → readSheet bytes ≡ sheet net
+    → (networkOf (r .net) ≡ net) × T (netHolds (r .net))
 read-value r bytes net a e =
     let t = read-holds bytes net e in
     let v : r .net ≡ valueOf net = a .net ∙ ap sheetNet e in
     (ap networkOf v ∙ value-means net t, subst⁻¹ (λ (x : Net). T (netHolds x)) v (value-holds net t))
 
 -- reading what was written for a good value gives that very value
-pub value-read : (r : Reading) (v : Net) → T (netHolds v) → length (v .low) ≡ 64 → length (v .high) ≡ 64 → Says r (readSheet (writeSheet (networkOf v))) → (r .answer ≡ Good) × (r .net ≡ v)
+pub value-read : (r : Reading) (v : Net) → T (netHolds v) → length (v .low) ≡ 64 → length (v .high) ≡ 64
+    → Says r (readSheet (writeSheet (networkOf v))) → (r .answer ≡ Good) × (r .net ≡ v)
 value-read r v t ll lh a =
     let e = reads-back (networkOf v) (sheet-good v t) in
     (number-one (r .answer) Good (a .number ∙ ap sheetNumber e), a .net ∙ ap sheetNet e ∙ value-back v t ll lh)

@@ -1,4 +1,4 @@
--- A sheet's bytes: cut one field off the front, judge it, go on. Assumes nothing.
+-- A sheet's bytes: cut one field off the front, judge it, go on.
 use Prim.Native.Nat.{ℕ, zero, suc}
 use mathlib.Core.Bool.{Bool, not, _&&_}
 use mathlib.Core.List.{List, [], _∷_, _++_}

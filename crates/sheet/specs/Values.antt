@@ -1,4 +1,4 @@
--- What the code's answers mean: the paper's number for each case, and the value beside it. Assumes nothing.
+-- What the code's answers mean: the paper's number for each case, and the value beside it.
 use Prim.Native.Nat.{ℕ, _-_}
 use mathlib.Core.Bool.{not}
 use mathlib.Core.Path.{_≡_}

@@ -1,4 +1,4 @@
-// A sheet as bytes: its rules, both ways, and bytes to a network. The crate `sheet_writing` has the way back.
+// A sheet as bytes: its rules, both ways; bytes to a network, and back. The calls are `read` and `write`.
 ghost use mathlib.Core.Path.{_≡_};
 ghost use mathlib.Core.List.{[], _∷_};
 ghost use Prim.Native.Nat.{_≤_, _*_};

@@ -1,5 +1,4 @@
 -- The two ends of a link in a network that keeps the sheet rules: they are two stations, and the end that is not s is an end.
--- Assumes nothing.
 use Prim.Native.Nat.{ℕ, _<_}
 use mathlib.Core.Bool.{Bool, true, false, _||_}
 use mathlib.Core.Path.{_≡_, refl, subst⁻¹}

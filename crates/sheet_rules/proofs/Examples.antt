@@ -1,4 +1,4 @@
--- The networks that other rooms' cases are played on keep the sheet rules. Assumes nothing.
+-- The networks that other rooms' cases are played on keep the sheet rules.
 use mathlib.Core.Bool.{true}
 use mathlib.Core.Path.{_≡_, refl}
 use mathlib.Core.List.{[], _∷_}
@@ -15,7 +15,8 @@ line-of-three = refl
 
 -- the line 0-1-2-3
 abbrev pub lineOfFour : Network
-lineOfFour = record { stations = 4; links = record { low = 0; high = 1 } ∷ record { low = 1; high = 2 } ∷ record { low = 2; high = 3 } ∷ [] }
+lineOfFour =
+    record { stations = 4; links = record { low = 0; high = 1 } ∷ record { low = 1; high = 2 } ∷ record { low = 2; high = 3 } ∷ [] }
 
 pub line-of-four : sheetHolds lineOfFour ≡ true
 unfolding sheetHolds

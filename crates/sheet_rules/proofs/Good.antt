@@ -1,5 +1,5 @@
 -- A network value that keeps the sheet rules with its unused room zero, as facts, both ways: its sizes, a meaning that keeps the rules,
--- and no link that the meaning lacks. Such a value is determined by what it means. Assumes nothing.
+-- and no link that the meaning lacks. Such a value is determined by what it means.
 use Prim.Native.Nat.{ℕ, _+_, _-_, _≤_, _<_}
 use mathlib.Core.Bool.{_&&_}
 use mathlib.Core.Path.{_≡_, sym, ap, _∙_}
@@ -56,7 +56,8 @@ module _ (net : Net) where
       let sheet = sheetHolds (networkOf net) in
       let lows = every isZero (drop (linkCount net) (net .low)) in
       and-i (sizes && sheet && lows) _
-      (and-i (sizes && sheet) _ (and-i sizes _ (and-i few _ (le→leb (net .stations) 32 (h .few-stations)) (le→leb (net .links) 64 (h .few-links))) (h .sheet)) (h .low-zero))
+      (and-i (sizes && sheet) _ (and-i sizes _ (and-i few _ (le→leb (net .stations) 32 (h .few-stations))
+      (le→leb (net .links) 64 (h .few-links))) (h .sheet)) (h .low-zero))
       (h .high-zero)
 
 module _ (net : Net) (t : T (netHolds net)) where

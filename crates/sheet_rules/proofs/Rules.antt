@@ -1,4 +1,4 @@
--- The sheet rules as facts, both ways: what a network that keeps them has, and what shows that one keeps them. Assumes nothing.
+-- The sheet rules as facts, both ways: what a network that keeps them has, and what shows that one keeps them.
 use Prim.Native.Nat.{ℕ, zero, suc, _-_, _≤_, _<_}
 use mathlib.Core.Bool.{Bool, true, _&&_, _||_}
 use mathlib.Core.Path.{_≡_, ap, _∙_, subst, subst⁻¹}
@@ -40,7 +40,8 @@ module _ (net : Network) where
   after : (k : ℕ) → (eqb (suc k) 0 || precedes (ends net (suc k - 1)) (ends net (suc k))) ≡ precedes (ends net k) (ends net (suc k))
   after k =
       let p : suc k - 1 ≡ k = omega arith in
-      ap (λ (b : Bool). b || precedes (ends net (suc k - 1)) (ends net (suc k))) (eqb·suc-zero k) ∙ ap (λ (j : ℕ). precedes (ends net j) (ends net (suc k))) p
+      ap (λ (b : Bool). b || precedes (ends net (suc k - 1)) (ends net (suc k))) (eqb·suc-zero k)
+      ∙ ap (λ (j : ℕ). precedes (ends net j) (ends net (suc k))) p
 
   pub rules-of : T (sheetHolds net) → Rules net
   unfolding sheetHolds
@@ -60,7 +61,8 @@ module _ (net : Network) where
   unfolding sheetHolds
   of-rules r =
       and-i (leb 1 n && leb n 32 && leb m 64) _
-      (and-i (leb 1 n && leb n 32) _ (and-i (leb 1 n) _ (le→leb 1 n (r .some-stations)) (le→leb n 32 (r .few-stations))) (le→leb m 64 (r .few-links)))
+      (and-i (leb 1 n && leb n 32) _ (and-i (leb 1 n) _ (le→leb 1 n (r .some-stations)) (le→leb n 32 (r .few-stations)))
+      (le→leb m 64 (r .few-links)))
       (at-below (linkHolds net) m (λ k h. one k h))
     where
       one : (k : ℕ) → k < m → T (linkHolds net k)

@@ -1,4 +1,4 @@
--- The sheet rules, as the code tests them. Assumes nothing.
+-- The sheet rules, as the code tests them.
 use Prim.Native.Nat.{ℕ, _+_, _-_, _≤_, _<_, min}
 use mathlib.Core.Bool.{Bool, true, false, _&&_, _||_}
 use mathlib.Core.Path.{_≡_, refl, sym, ap, ap₂, _∙_, subst, subst⁻¹}
@@ -63,14 +63,17 @@ Before net a b k = (k ≡ 0) ⊎ ((a ≡ getD (net .low) (k - 1) 0) × (b ≡ ge
 
 module _ (net : Net) where
   link-is : (k : ℕ) → k < linkCount net
-      → linkHolds (networkOf net) k ≡ follows (min (net .stations) 32) (eqb k 0) (getD (net .low) (k - 1) 0) (getD (net .high) (k - 1) 0) (getD (net .low) k 0) (getD (net .high) k 0)
+      → linkHolds (networkOf net) k ≡ follows (min (net .stations) 32) (eqb k 0) (getD (net .low) (k - 1) 0) (getD (net .high) (k - 1) 0)
+      (getD (net .low) k 0) (getD (net .high) k 0)
   link-is k h =
-      ap₂ (λ (x y : Ends). endsHold (networkOf net .stations) y && (eqb k 0 || precedes x y)) (ends-of net (k - 1) (omega arith)) (ends-of net k h)
+      ap₂ (λ (x y : Ends). endsHold (networkOf net .stations) y && (eqb k 0 || precedes x y)) (ends-of net (k - 1) (omega arith))
+      (ends-of net k h)
       ∙ ap (λ (n : ℕ). endsHold n (placeEnds net k) && (eqb k 0 || precedes (placeEnds net (k - 1)) (placeEnds net k))) (stations-of net)
 
   -- what a place must be
   abbrev pub placeHolds : ℕ → Bool
-  placeHolds k = if ltb k (linkCount net) then linkHolds (networkOf net) k else (isZero (getD (net .low) k 0) && isZero (getD (net .high) k 0))
+  placeHolds k =
+      if ltb k (linkCount net) then linkHolds (networkOf net) k else (isZero (getD (net .low) k 0) && isZero (getD (net .high) k 0))
 
   -- what the code's answer says of place k
   pub place-seen : (k a b : ℕ) (r x : Bool) → net .stations ≤ 32 → net .links ≤ 64 → Before net a b k
@@ -83,7 +86,8 @@ module _ (net : Net) where
       hi : ℕ
       hi = getD (net .high) k 0
 
-      same : Before net a b k → follows (net .stations) (eqb k 0) (getD (net .low) (k - 1) 0) (getD (net .high) (k - 1) 0) lo hi ≡ follows (net .stations) (eqb k 0) a b lo hi
+      same : Before net a b k → follows (net .stations) (eqb k 0) (getD (net .low) (k - 1) 0) (getD (net .high) (k - 1) 0) lo hi ≡ follows
+          (net .stations) (eqb k 0) a b lo hi
       same (inl z) = simp (eq-eqb k 0 z)
       same (inr z) = ap₂ (λ (x y : ℕ). follows (net .stations) (eqb k 0) x y lo hi) (sym (z .0)) (sym (z .1))
 
@@ -117,14 +121,22 @@ module _ (net : Net) where
   unfolding netHolds
   many-links h = simp (lt-leb (net .links) 64 h, and-no)
 
-  rules : 1 ≤ net .stations → net .stations ≤ 32 → net .links ≤ 64 → sheetHolds (networkOf net) ≡ every (linkHolds (networkOf net)) (below (linkCount net))
+  rules : 1 ≤ net .stations → net .stations ≤ 32 → net .links ≤ 64
+      → sheetHolds (networkOf net) ≡ every (linkHolds (networkOf net)) (below (linkCount net))
   unfolding sheetHolds
   rules l h k =
       let e = stations-of net in
-      simp (le-leb 1 (networkOf net .stations) (omega arith), le-leb (networkOf net .stations) 32 (omega arith), links-of net, le-leb (linkCount net) 64 (omega arith))
+      simp (
+        le-leb 1 (networkOf net .stations) (omega arith),
+        le-leb (networkOf net .stations) 32 (omega arith),
+        links-of net,
+        le-leb
+            (linkCount net) 64 (omega arith),
+      )
 
   rest : 1 ≤ net .stations → net .stations ≤ 32 → net .links ≤ 64
-      → netHolds net ≡ (every (linkHolds (networkOf net)) (below (linkCount net)) && every isZero (drop (linkCount net) (net .low)) && every isZero (drop (linkCount net) (net .high)))
+      → netHolds net ≡ (every (linkHolds (networkOf net)) (below (linkCount net)) && every isZero (drop (linkCount net) (net .low)) && every
+      isZero (drop (linkCount net) (net .high)))
   unfolding netHolds
   rest l h k = simp (le-leb (net .stations) 32 h, le-leb (net .links) 64 k, rules l h k)
 

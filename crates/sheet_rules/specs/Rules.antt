@@ -1,4 +1,4 @@
--- The sheet rules: which networks a sheet may give. Assumes nothing.
+-- The sheet rules: which networks a sheet may give.
 use Prim.Native.Nat.{ℕ, _-_}
 use mathlib.Core.Bool.{Bool, _&&_, _||_}
 use lib.Dec.{eqb, leb, ltb}

@@ -1,4 +1,4 @@
--- The sheet rules for a network value. Other rooms use the laws of proofs/Good.antt, never this text. Assumes nothing.
+-- The sheet rules for a network value. Other rooms use the laws of proofs/Good.antt, never this text.
 use mathlib.Core.Bool.{Bool, _&&_}
 use lib.Dec.{leb}
 use lib.ListN.{drop}

@@ -1,4 +1,4 @@
--- The state right after reading a sheet, as the code makes it. Assumes nothing.
+-- The state right after reading a sheet, as the code makes it.
 use Prim.Native.Nat.{ℕ, _-_, _≤_, _<_}
 use mathlib.Core.Bool.{Bool, true, false, not}
 use mathlib.Core.Path.{_≡_, refl, sym, ap, ap₂, _∙_}
@@ -33,19 +33,30 @@ module _ (net : Net) (r : Bool) (e : r ≡ netHolds net) where
 
   module _ (nobody : Station) (unused : Letter) (z : nobody ≡ blank) (u : unused ≡ noLetter) where
     pub begun-bad : r ≡ false
-        → _≡_ {A = Begun} (record { answer = 11; state = record { net = net; flying = 0; stations = replicate 32 nobody; letters = replicate 4096 unused } }) (begunOf net)
+        → _≡_ {A = Begun} (record {
+          answer = 11;
+          state = record
+              { net = net; flying = 0; stations = replicate 32 nobody; letters = replicate 4096 unused };
+        }) (begunOf net)
     unfolding begunOf unread
     begun-bad q =
-        ap₂ (λ (a : Station) (b : Letter). record { answer = 11; state = record { net = net; flying = 0; stations = replicate 32 a; letters = replicate 4096 b } }) z u
-        ∙ sym (ap (λ (b : Bool). if b then (record { answer = 0; state = stateOf net (fresh (networkOf net)) }) else (record { answer = 11; state = unread net })) (sym e ∙ q))
+        ap₂ (λ (a : Station) (b : Letter). record {
+          answer = 11;
+          state = record
+              { net = net; flying = 0; stations = replicate 32 a; letters = replicate 4096 b };
+        }) z u
+        ∙ sym (ap (λ (b : Bool). if b then (record { answer = 0; state = stateOf net (fresh (networkOf net)) })
+        else (record { answer = 11; state = unread net })) (sym e ∙ q))
 
     -- each of the stations is down, and the places beyond them stay as they were
-    stations-down : (down : Station) (n : ℕ) → n ≤ 32 → n ≡ networkOf net .stations → down ≡ laid net blank (stopped (networkOf net) 0 .holding)
+    stations-down : (down : Station) (n : ℕ) → n ≤ 32 → n ≡ networkOf net .stations
+        → down ≡ laid net blank (stopped (networkOf net) 0 .holding)
         → filled (λ (t : ℕ). down) (replicate 32 nobody) n ≡ roomed 32 blank (map (laid net blank) (fresh (networkOf net) .holdings))
     unfolding roomed fresh stopped doneBy
     stations-down down n l m d =
         ap₂ (λ (xs ys : List Station). xs ++ ys)
-        (ap (λ (k : ℕ). map (λ (t : ℕ). down) (below k)) m ∙ ap (λ (x : Station). map (λ (t : ℕ). x) (below (networkOf net .stations))) d ∙ sym (maps (below (networkOf net .stations))))
+        (ap (λ (k : ℕ). map (λ (t : ℕ). down) (below k)) m ∙ ap (λ (x : Station). map (λ (t : ℕ). x) (below (networkOf net .stations))) d
+        ∙ sym (maps (below (networkOf net .stations))))
         (drop-replicate n 32 nobody ∙ ap₂ (λ (k : ℕ) (x : Station). replicate k x) count z)
       where
         hold : ℕ → Holding
@@ -56,15 +67,32 @@ module _ (net : Net) (r : Bool) (e : r ≡ netHolds net) where
         maps (k ∷ ks) = ap (λ (xs : List Station). laid net blank (stopped (networkOf net) 0 .holding) ∷ xs) (maps ks)
 
         count : 32 - n ≡ 32 - length (map (laid net blank) (map hold (below (networkOf net .stations))))
-        count = omega (arith, m, length-map-below hold (networkOf net .stations), length-map (map hold (below (networkOf net .stations))) (laid net blank))
+        count =
+            omega (
+              arith,
+              m,
+              length-map-below hold (networkOf net .stations),
+              length-map (map hold (below (networkOf net .stations)))
+                  (laid net blank),
+            )
 
-    pub begun-good : (down : Station) (stations : List Station) (n : ℕ) → r ≡ true → n ≡ net .stations → down ≡ laid net blank (stopped (networkOf net) 0 .holding)
+    pub begun-good : (down : Station) (stations : List Station) (n : ℕ) → r ≡ true → n ≡ net .stations
+        → down ≡ laid net blank (stopped (networkOf net) 0 .holding)
         → stations ≡ filled (λ (t : ℕ). down) (replicate 32 nobody) n
-        → _≡_ {A = Begun} (record { answer = 0; state = record { net = net; flying = 0; stations = stations; letters = replicate 4096 unused } }) (begunOf net)
+        → _≡_ {A = Begun} (record {
+          answer = 0;
+          state = record
+              { net = net; flying = 0; stations = stations; letters = replicate 4096 unused };
+        }) (begunOf net)
     unfolding begunOf stateOf roomed fresh
     begun-good down stations n q m d f =
         let l : n ≤ 32 = omega (arith, good-stations q) in
         let m′ : n ≡ networkOf net .stations = omega (arith, m, l, stations-of net) in
-        ap₂ (λ (a : List Station) (b : Letter). record { answer = 0; state = record { net = net; flying = 0; stations = a; letters = replicate 4096 b } })
+        ap₂ (λ (a : List Station) (b : Letter). record {
+          answer = 0;
+          state = record
+              { net = net; flying = 0; stations = a; letters = replicate 4096 b };
+        })
         (f ∙ stations-down down n l m′ d) u
-        ∙ sym (ap (λ (b : Bool). if b then (record { answer = 0; state = stateOf net (fresh (networkOf net)) }) else (record { answer = 11; state = unread net })) (sym e ∙ q))
+        ∙ sym (ap (λ (b : Bool). if b then (record { answer = 0; state = stateOf net (fresh (networkOf net)) })
+        else (record { answer = 11; state = unread net })) (sym e ∙ q))

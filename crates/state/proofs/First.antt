@@ -1,4 +1,4 @@
--- A freshly read sheet's state is well formed, and means the fresh world. Assumes nothing.
+-- A freshly read sheet's state is well formed, and means the fresh world.
 use mathlib.Core.Path.{_≡_, refl}
 use lib.Dec.{T}
 use Rattle.net.specs.declared.Net.{Net}

@@ -1,4 +1,4 @@
--- A well-formed world laid out in zero room is a well-formed state that means it. Assumes nothing.
+-- A well-formed world laid out in zero room is a well-formed state that means it.
 use Prim.Native.Nat.{ℕ, _-_, _≤_, _<_, min}
 use mathlib.Core.Bool.{Bool, true, false, not, _&&_}
 use mathlib.Core.Path.{_≡_, refl, sym, ap, ap₂, _∙_, subst, subst⁻¹}
@@ -68,7 +68,9 @@ module _ (net : Net) (w : World) (n : T (netHolds net)) (e : networkOf net ≡ w
     marks-long = slots .marks-length ∙ links-of net
 
     laid-at : getD laidAll i beyond ≡ laid net blank (holdingAt w i)
-    laid-at = getD-any laidAll i beyond (laid net blank nobody) (omega (arith, h, laid-count)) ∙ List·getD-map (laid net blank) (w .holdings) i nobody
+    laid-at =
+        getD-any laidAll i beyond (laid net blank nobody) (omega (arith, h, laid-count))
+        ∙ List·getD-map (laid net blank) (w .holdings) i nobody
 
   -- ---- the places
   station-there : (i : ℕ) → i < net .stations → stationIn out i ≡ laid net blank (holdingAt w i)
@@ -112,24 +114,30 @@ module _ (net : Net) (w : World) (n : T (netHolds net)) (e : networkOf net ≡ w
   -- ---- well formed
   station-place : (i : ℕ) → i < 32 → Dec (i < net .stations) → T (stationPlace net i (stationIn out i))
   station-place i l (yes h) =
-      subst⁻¹ (λ (b : Bool). T (if b then stationFormed net i (stationIn out i) else isBlank (stationIn out i))) (lt-ltb i (net .stations) h)
+      subst⁻¹ (λ (b : Bool). T (if b then stationFormed net i (stationIn out i) else isBlank (stationIn out i)))
+      (lt-ltb i (net .stations) h)
       (subst⁻¹ (λ (x : Station). T (stationFormed net i x)) (station-there i h)
       (spare-formed net i (laid net blank (holdingAt w i))
-      (subst⁻¹ (λ (x : Holding). T (holdingHolds (networkOf net) i x)) (holding-laid net (holdingAt w i) (table-long i h) (marks-long i h)) (held i h))
+      (subst⁻¹ (λ (x : Holding). T (holdingHolds (networkOf net) i x)) (holding-laid net (holdingAt w i) (table-long i h) (marks-long i h))
+      (held i h))
       (laid-spare net (holdingAt w i) (table-long i h) (marks-long i h))))
   station-place i l (no h) =
       let g : net .stations ≤ i = omega arith in
-      subst⁻¹ (λ (b : Bool). T (if b then stationFormed net i (stationIn out i) else isBlank (stationIn out i))) (le-ltb i (net .stations) g)
+      subst⁻¹ (λ (b : Bool). T (if b then stationFormed net i (stationIn out i) else isBlank (stationIn out i)))
+      (le-ltb i (net .stations) g)
       (subst⁻¹ (λ (x : Station). T (isBlank x)) (station-past i g l) is-blank)
 
   letter-place : (j : ℕ) → j < 4096 → Dec (j < length (w .letters)) → T (letterPlace net (length (w .letters)) j (letterIn out j))
   letter-place j l (yes h) =
-      subst⁻¹ (λ (b : Bool). T (if b then letterHolds (networkOf net) (letterIn out j) else isNoLetter (letterIn out j))) (lt-ltb j (length (w .letters)) h)
+      subst⁻¹ (λ (b : Bool). T (if b then letterHolds (networkOf net) (letterIn out j) else isNoLetter (letterIn out j)))
+      (lt-ltb j (length (w .letters)) h)
       (subst⁻¹ (λ (x : Letter). T (letterHolds (networkOf net) x)) (letter-there j h)
-      (subst⁻¹ (λ (x : Network). T (letterHolds x (getD (w .letters) j noLetter))) e (every-at (letterHolds (w .net)) (w .letters) j noLetter (f .posted) h)))
+      (subst⁻¹ (λ (x : Network). T (letterHolds x (getD (w .letters) j noLetter))) e
+      (every-at (letterHolds (w .net)) (w .letters) j noLetter (f .posted) h)))
   letter-place j l (no h) =
       let g : length (w .letters) ≤ j = omega arith in
-      subst⁻¹ (λ (b : Bool). T (if b then letterHolds (networkOf net) (letterIn out j) else isNoLetter (letterIn out j))) (le-ltb j (length (w .letters)) g)
+      subst⁻¹ (λ (b : Bool). T (if b then letterHolds (networkOf net) (letterIn out j) else isNoLetter (letterIn out j)))
+      (le-ltb j (length (w .letters)) g)
       (subst⁻¹ (λ (x : Letter). T (isNoLetter x)) (letter-past j g l) tt)
 
   frame-laid : T (netHolds (out .net) && leb (out .flying) 4096)
@@ -156,7 +164,8 @@ module _ (net : Net) (w : World) (n : T (netHolds net)) (e : networkOf net ≡ w
   -- ---- it means the world
   holdings-back : map (holdingOf net) laidAll ≡ w .holdings
   holdings-back =
-      ext-getD nobody (map (holdingOf net) laidAll) (w .holdings) (length-map laidAll (holdingOf net) ∙ length-map (w .holdings) (laid net blank))
+      ext-getD nobody (map (holdingOf net) laidAll) (w .holdings)
+      (length-map laidAll (holdingOf net) ∙ length-map (w .holdings) (laid net blank))
       (λ i h. let l : i < net .stations = subst (λ (k : ℕ). i < k) (length-map laidAll (holdingOf net) ∙ laid-count) h in
       getD-any (map (holdingOf net) laidAll) i nobody (holdingOf net beyond) h ∙ List·getD-map (holdingOf net) laidAll i beyond
       ∙ ap (holdingOf net) (laid-at i l) ∙ holding-laid net (holdingAt w i) (table-long i l) (marks-long i l))
@@ -164,7 +173,8 @@ module _ (net : Net) (w : World) (n : T (netHolds net)) (e : networkOf net ≡ w
   pub laid-means : worldOf out ≡ w
   unfolding worldOf stateOf
   laid-means =
-      let a = ap (λ (k : ℕ). map (holdingOf net) (take k (roomed 32 blank laidAll))) (stations-of net ∙ few-is) ∙ ap (map (holdingOf net)) (take-roomed 32 blank laidAll) ∙ holdings-back in
+      let a = ap (λ (k : ℕ). map (holdingOf net) (take k (roomed 32 blank laidAll))) (stations-of net ∙ few-is)
+      ∙ ap (map (holdingOf net)) (take-roomed 32 blank laidAll) ∙ holdings-back in
       let l = take-roomed 4096 noLetter (w .letters) in
       λ i. record { net = e i; holdings = a i; letters = l i }
     where

@@ -1,5 +1,4 @@
 -- A well-formed state is determined by what it means, and every well-formed world that its network carries is meant by one.
--- Assumes nothing.
 use Prim.Native.Nat.{ℕ, _-_, _≤_, _<_}
 use mathlib.Core.Bool.{Bool, true, false, not, _&&_}
 use mathlib.Core.Path.{_≡_, refl, sym, ap, ap₂, _∙_, subst, subst⁻¹}
@@ -81,12 +80,14 @@ module _ (s : State) (z : Sized s) (t : T (stateHolds s)) where
   station-at : (i : ℕ) → i < 32 → T (stationPlace net i (stationIn s i))
   unfolding stationsHold
   station-at i h =
-      below-at (λ i. stationPlace net i (stationIn s i)) 32 (and-l (stationsHold s) _ (and-r (netHolds net && leb (s .flying) 4096) _ parts)) i h
+      below-at (λ i. stationPlace net i (stationIn s i)) 32
+      (and-l (stationsHold s) _ (and-r (netHolds net && leb (s .flying) 4096) _ parts)) i h
 
   letter-at : (j : ℕ) → j < 4096 → T (letterPlace net (s .flying) j (letterIn s j))
   unfolding lettersHold
   letter-at j h =
-      below-at (λ j. letterPlace net (s .flying) j (letterIn s j)) 4096 (and-r (stationsHold s) _ (and-r (netHolds net && leb (s .flying) 4096) _ parts)) j h
+      below-at (λ j. letterPlace net (s .flying) j (letterIn s j)) 4096
+      (and-r (stationsHold s) _ (and-r (netHolds net && leb (s .flying) 4096) _ parts)) j h
 
   pub few : stations ≤ 32
   few = few-stations net holds-net
@@ -96,21 +97,25 @@ module _ (s : State) (z : Sized s) (t : T (stateHolds s)) where
 
   pub station-formed : (i : ℕ) → i < stations → T (stationFormed net i (stationIn s i))
   station-formed i h =
-      subst (λ (b : Bool). T (if b then stationFormed net i (stationIn s i) else isBlank (stationIn s i))) (lt-ltb i stations h) (station-at i (omega (arith, few)))
+      subst (λ (b : Bool). T (if b then stationFormed net i (stationIn s i) else isBlank (stationIn s i))) (lt-ltb i stations h)
+      (station-at i (omega (arith, few)))
 
   station-blank : (i : ℕ) → stations ≤ i → i < 32 → stationIn s i ≡ blank
   station-blank i h l =
       blank-is (stationIn s i) (z .each i l)
-      (subst (λ (b : Bool). T (if b then stationFormed net i (stationIn s i) else isBlank (stationIn s i))) (le-ltb i stations h) (station-at i l))
+      (subst (λ (b : Bool). T (if b then stationFormed net i (stationIn s i) else isBlank (stationIn s i))) (le-ltb i stations h)
+      (station-at i l))
 
   pub letter-formed : (j : ℕ) → j < s .flying → T (letterHolds (networkOf net) (letterIn s j))
   letter-formed j h =
-      subst (λ (b : Bool). T (if b then letterHolds (networkOf net) (letterIn s j) else isNoLetter (letterIn s j))) (lt-ltb j (s .flying) h) (letter-at j (omega (arith, holds-few)))
+      subst (λ (b : Bool). T (if b then letterHolds (networkOf net) (letterIn s j) else isNoLetter (letterIn s j))) (lt-ltb j (s .flying) h)
+      (letter-at j (omega (arith, holds-few)))
 
   pub letter-unused : (j : ℕ) → s .flying ≤ j → j < 4096 → letterIn s j ≡ noLetter
   letter-unused j h l =
       no-letter-is (letterIn s j)
-      (subst (λ (b : Bool). T (if b then letterHolds (networkOf net) (letterIn s j) else isNoLetter (letterIn s j))) (le-ltb j (s .flying) h) (letter-at j l))
+      (subst (λ (b : Bool). T (if b then letterHolds (networkOf net) (letterIn s j) else isNoLetter (letterIn s j)))
+      (le-ltb j (s .flying) h) (letter-at j l))
 
   pub station-spare : (i : ℕ) → i < stations → Spare net (stationIn s i)
   station-spare i h = formed-spare net i (stationIn s i) (z .each i (omega (arith, few))) (station-formed i h)
@@ -128,9 +133,11 @@ module _ (s : State) (z : Sized s) (t : T (stateHolds s)) where
   stations-roomed : s .stations ≡ roomed 32 blank (map (laid net blank) (map (holdingOf net) (take stations (s .stations))))
   stations-roomed =
       roomed-of 32 blank (s .stations) stations beyond (z .stations) few station-blank
-      ∙ ap (roomed 32 blank) (map-same (λ x. laid net blank (holdingOf net x)) (take stations (s .stations)) same ∙ sym (map-map (laid net blank) (holdingOf net) (take stations (s .stations))))
+      ∙ ap (roomed 32 blank) (map-same (λ x. laid net blank (holdingOf net x)) (take stations (s .stations)) same
+      ∙ sym (map-map (laid net blank) (holdingOf net) (take stations (s .stations))))
     where
-      same : (i : ℕ) → i < length (take stations (s .stations)) → laid net blank (holdingOf net (getD (take stations (s .stations)) i beyond)) ≡ getD (take stations (s .stations)) i beyond
+      same : (i : ℕ) → i < length (take stations (s .stations))
+          → laid net blank (holdingOf net (getD (take stations (s .stations)) i beyond)) ≡ getD (take stations (s .stations)) i beyond
       same i h =
           let l : i < stations = omega (arith, h, used-are) in
           subst⁻¹ (λ (x : Station). laid net blank (holdingOf net x) ≡ x) (getD-take stations (s .stations) i beyond l)
@@ -140,7 +147,8 @@ module _ (s : State) (z : Sized s) (t : T (stateHolds s)) where
   unfolding stateOf worldOf
   determined =
       let n = sym flying-is in
-      let a = stations-roomed ∙ ap (λ (k : ℕ). roomed 32 blank (map (laid net blank) (map (holdingOf net) (take k (s .stations))))) (sym count-is) in
+      let a = stations-roomed ∙ ap (λ (k : ℕ). roomed 32 blank (map (laid net blank) (map (holdingOf net) (take k (s .stations)))))
+      (sym count-is) in
       λ i. record { net = net; flying = n i; stations = a i; letters = letters-roomed i }
 
   -- ---- what the world has
@@ -162,13 +170,22 @@ module _ (s : State) (z : Sized s) (t : T (stateHolds s)) where
 
   pub world-holdings : length (worldOf s .holdings) ≡ stations
   unfolding worldOf
-  world-holdings = length-map (take (networkOf net .stations) (s .stations)) (holdingOf net) ∙ ap (λ (k : ℕ). length (take k (s .stations))) count-is ∙ used-are
+  world-holdings =
+      length-map (take (networkOf net .stations) (s .stations)) (holdingOf net) ∙ ap (λ (k : ℕ). length (take k (s .stations))) count-is
+      ∙ used-are
 
   pub world-holding : (i : ℕ) → i < stations → holdingAt (worldOf s) i ≡ holdingOf net (stationIn s i)
   unfolding worldOf
   world-holding i h =
       getD-any (map (holdingOf net) (take (networkOf net .stations) (s .stations))) i nobody (holdingOf net beyond)
-      (omega (arith, h, length-map (take (networkOf net .stations) (s .stations)) (holdingOf net), ap (λ (k : ℕ). length (take k (s .stations))) count-is, used-are))
+      (omega (
+        arith,
+        h,
+        length-map (take (networkOf net .stations) (s .stations)) (holdingOf net),
+        ap
+            (λ (k : ℕ). length (take k (s .stations))) count-is,
+        used-are,
+      ))
       ∙ List·getD-map (holdingOf net) (take (networkOf net .stations) (s .stations)) i beyond
       ∙ ap (holdingOf net) (getD-take (networkOf net .stations) (s .stations) i beyond (subst⁻¹ (λ (k : ℕ). i < k) count-is h))
 
@@ -178,13 +195,15 @@ module _ (s : State) (z : Sized s) (t : T (stateHolds s)) where
     count = world-holdings ∙ sym count-is ∙ ap (λ (n : Network). n .stations) (sym net-is);
     each = λ i h. each i (subst (λ (k : ℕ). i < k) (ap (λ (n : Network). n .stations) net-is ∙ count-is) h);
     room = omega (arith, world-flying, holds-few);
-    posted = at-every (letterHolds (worldOf s .net)) (worldOf s .letters) noLetter (λ j h. posted j (subst (λ (k : ℕ). j < k) world-flying h));
+    posted =
+        at-every (letterHolds (worldOf s .net)) (worldOf s .letters) noLetter (λ j h. posted j (subst (λ (k : ℕ). j < k) world-flying h));
   }
     where
       each : (i : ℕ) → i < stations → T (holdingHolds (worldOf s .net) i (holdingAt (worldOf s) i))
       each i h =
           subst⁻¹ (λ (n : Network). T (holdingHolds n i (holdingAt (worldOf s) i))) net-is
-          (subst⁻¹ (λ (x : Holding). T (holdingHolds (networkOf net) i x)) (world-holding i h) (formed-holds net i (stationIn s i) (station-formed i h)))
+          (subst⁻¹ (λ (x : Holding). T (holdingHolds (networkOf net) i x)) (world-holding i h)
+          (formed-holds net i (stationIn s i) (station-formed i h)))
 
       posted : (j : ℕ) → j < s .flying → T (letterHolds (worldOf s .net) (getD (worldOf s .letters) j noLetter))
       posted j h =

@@ -1,4 +1,4 @@
--- The test of a state, in the order in which the code asks. Assumes nothing.
+-- The test of a state, in the order in which the code asks.
 use Prim.Native.Nat.{ℕ, _+_, _-_, _≤_, _<_, min}
 use mathlib.Core.Bool.{Bool, true, false, not, _&&_, _||_}
 use mathlib.Core.Path.{_≡_, refl, sym, ap, ap₂, _∙_, subst, subst⁻¹}
@@ -42,7 +42,8 @@ module _ (st : Station) where
   pub blank-all : (r : Bool) (k : ℕ) → r ≡ (isDown (st .condition) && noWord (st .marks)) → r ≡ true → k ≡ 64 → length (st .counters) ≡ 64
       → every (zeroAt (st .counters)) (below k) ≡ true → true ≡ isBlank st
   blank-all r k e d n z q =
-      ap₂ (λ (a b : Bool). a && b) (sym d ∙ e) (sym q ∙ ap (λ (x : ℕ). every (zeroAt (st .counters)) (below x)) n ∙ counters-zero (st .counters) z)
+      ap₂ (λ (a b : Bool). a && b) (sym d ∙ e) (sym q ∙ ap (λ (x : ℕ). every (zeroAt (st .counters)) (below x)) n
+      ∙ counters-zero (st .counters) z)
 
 -- ---- a place of the stations
 module _ (net : Net) (i : ℕ) (st : Station) (r : Bool) where

@@ -1,4 +1,4 @@
--- One place of the stations: a value whose unused room is zero is what it holds, laid out in zero room. Assumes nothing.
+-- One place of the stations: a value whose unused room is zero is what it holds, laid out in zero room.
 use Prim.Native.Nat.{ℕ, _+_, _-_, _^_, _≤_, _<_}
 use mathlib.Core.Bool.{Bool, true, false, not, _&&_, _||_}
 use mathlib.Core.Path.{_≡_, refl, sym, ap, ap₂, _∙_, subst, subst⁻¹}
@@ -33,7 +33,8 @@ use Rattle.state.specs.State.{noWord, isBlank, Fits}
 pub off-none : (m : Marks) → T (isOff m) → m ≡ noMarks
 off-none m t = go (m .token) (m .turn) (m .testing) (m .asked) (m .quiet) t
   where
-    go : (a b c d e : Bool) → T (not (a || b || c || d || e)) → _≡_ {A = Marks} (record { token = a; turn = b; testing = c; asked = d; quiet = e }) noMarks
+    go : (a b c d e : Bool) → T (not (a || b || c || d || e))
+        → _≡_ {A = Marks} (record { token = a; turn = b; testing = c; asked = d; quiet = e }) noMarks
     go true b c d e t = absurd t
     go false true c d e t = absurd t
     go false false true d e t = absurd t
@@ -46,7 +47,9 @@ zeros [] t = refl
 zeros (x ∷ l) t = ap₂ (λ (y : ℕ) (r : List ℕ). y ∷ r) (eqb→eq x 0 (and-l (isZero x) _ t)) (zeros l (and-r (isZero x) _ t))
 
 every-zero : (n : ℕ) → T (every isZero (replicate n 0))
-every-zero n = at-every isZero (replicate n 0) 0 (λ i h. subst⁻¹ (λ (x : ℕ). T (isZero x)) (getD-replicate n i 0 0 (omega (arith, h, length-replicate {A = ℕ} n 0))) tt)
+every-zero n =
+    at-every isZero (replicate n 0) 0 (λ i h. subst⁻¹ (λ (x : ℕ). T (isZero x))
+    (getD-replicate n i 0 0 (omega (arith, h, length-replicate {A = ℕ} n 0))) tt)
 
 condition-laid : (net : Net) (h : Holding) → laid net blank h .condition ≡ h .condition
 unfolding laid
@@ -86,7 +89,8 @@ module _ (net : Net) where
       at : (w i : ℕ) → n + i < 64 → getD (drop n (bitsOf w)) i false ≡ inWord w (n + i)
       at w i l = getD-drop n (bitsOf w) i false ∙ getD-map-below (inWord w) 64 (n + i) false l
 
-  words-spare : (w : Words) (ms : List Marks) → ((t : ℕ) → n ≤ t → t < 64 → marksAt w t ≡ noMarks) → laidWords n w ms ≡ laidWords n noWords ms
+  words-spare : (w : Words) (ms : List Marks) → ((t : ℕ) → n ≤ t → t < 64 → marksAt w t ≡ noMarks)
+      → laidWords n w ms ≡ laidWords n noWords ms
   words-spare w ms f = λ i. record {
     token = one (w .token) (map (λ m. m .token) ms) (λ t g l. ap (λ (m : Marks). m .token) (f t g l)) i;
     turn = one (w .turn) (map (λ m. m .turn) ms) (λ t g l. ap (λ (m : Marks). m .turn) (f t g l)) i;
@@ -134,7 +138,9 @@ module _ (net : Net) where
     unfolding stationFormed
     formed-spare f t = record {
       counters = zeros (drop n (st .counters)) (and-r holds zeroes (and-l (holds && zeroes) offs t)) ∙ ap (λ (k : ℕ). replicate k 0) size;
-      marks = λ k g l. off-none (marksAt (st .marks) k) (subst (λ (x : ℕ). T (isOff (marksAt (st .marks) x))) (back k g) (every-from (λ t. isOff (marksAt (st .marks) t)) (64 - n) n (and-r (holds && zeroes) offs t) (k - n) (omega arith)));
+      marks =
+          λ k g l. off-none (marksAt (st .marks) k) (subst (λ (x : ℕ). T (isOff (marksAt (st .marks) x))) (back k g)
+          (every-from (λ t. isOff (marksAt (st .marks) t)) (64 - n) n (and-r (holds && zeroes) offs t) (k - n) (omega arith)));
     }
       where
         size : length (drop n (st .counters)) ≡ 64 - n
@@ -146,8 +152,10 @@ module _ (net : Net) where
     pub spare-formed : T holds → Spare st → T (stationFormed net i st)
     unfolding stationFormed
     spare-formed t s =
-        and-i (holds && zeroes) offs (and-i holds zeroes t (subst⁻¹ (λ (l : List ℕ). T (every isZero l)) (s .counters) (every-zero (64 - n))))
-        (from-every (λ t. isOff (marksAt (st .marks) t)) (64 - n) n (λ k h. subst⁻¹ (λ (m : Marks). T (isOff m)) (s .marks (n + k) (omega arith) (omega arith)) tt))
+        and-i (holds && zeroes) offs (and-i holds zeroes t
+        (subst⁻¹ (λ (l : List ℕ). T (every isZero l)) (s .counters) (every-zero (64 - n))))
+        (from-every (λ t. isOff (marksAt (st .marks) t)) (64 - n) n
+        (λ k h. subst⁻¹ (λ (m : Marks). T (isOff m)) (s .marks (n + k) (omega arith) (omega arith)) tt))
 
   -- ---- a holding laid out in zero room
   module _ (h : Holding) (tl : length (h .table) ≡ n) (ml : length (h .marks) ≡ n) where
@@ -176,12 +184,15 @@ module _ (net : Net) where
           let e : length (map p (h .marks)) + j ≡ t = omega (arith, size) in
           let e′ : n + j ≡ t = omega arith in
           in-wordOf (map p (h .marks) ++ drop n (bitsOf 0)) t
-          ∙ subst (λ (x : ℕ). getD (map p (h .marks) ++ drop n (bitsOf 0)) x false ≡ getD (drop n (bitsOf 0)) j false) e (getD-append-add (map p (h .marks)) (drop n (bitsOf 0)) j false)
-          ∙ getD-drop n (bitsOf 0) j false ∙ ap (λ (x : ℕ). getD (bitsOf 0) x false) e′ ∙ getD-map-below (inWord 0) 64 t false l ∙ zero-is-out 0 t (none-in t)
+          ∙ subst (λ (x : ℕ). getD (map p (h .marks) ++ drop n (bitsOf 0)) x false ≡ getD (drop n (bitsOf 0)) j false) e
+          (getD-append-add (map p (h .marks)) (drop n (bitsOf 0)) j false)
+          ∙ getD-drop n (bitsOf 0) j false ∙ ap (λ (x : ℕ). getD (bitsOf 0) x false) e′ ∙ getD-map-below (inWord 0) 64 t false l
+          ∙ zero-is-out 0 t (none-in t)
 
       word-fits : word < 2 ^ 64
       word-fits =
-          subst (λ (k : ℕ). word < 2 ^ k) (length-append (map p (h .marks)) (drop n (bitsOf 0)) ∙ sum) (wordOf-lt (map p (h .marks) ++ drop n (bitsOf 0)))
+          subst (λ (k : ℕ). word < 2 ^ k) (length-append (map p (h .marks)) (drop n (bitsOf 0)) ∙ sum)
+          (wordOf-lt (map p (h .marks) ++ drop n (bitsOf 0)))
         where
           sum : length (map p (h .marks)) + length (drop n (bitsOf 0)) ≡ 64
           sum = omega (arith, size, rest-size 0, few)
@@ -196,7 +207,9 @@ module _ (net : Net) where
 
     pub fits-laid : Fits (laid net blank h)
     fits-laid = record {
-      counters = ap length laid-counters ∙ length-append (h .table) (replicate (64 - n) 0) ∙ omega (arith, tl, few, length-replicate {A = ℕ} (64 - n) 0);
+      counters =
+          ap length laid-counters ∙ length-append (h .table) (replicate (64 - n) 0)
+          ∙ omega (arith, tl, few, length-replicate {A = ℕ} (64 - n) 0);
       token = subst⁻¹ (λ (w : Words). w .token < 2 ^ 64) laid-words (word-fits (λ m. m .token) refl);
       turn = subst⁻¹ (λ (w : Words). w .turn < 2 ^ 64) laid-words (word-fits (λ m. m .turn) refl);
       testing = subst⁻¹ (λ (w : Words). w .testing < 2 ^ 64) laid-words (word-fits (λ m. m .testing) refl);
@@ -240,7 +253,8 @@ module _ (net : Net) where
 
         same : map (marksAt (laidWords n noWords (h .marks))) (below n) ≡ h .marks
         same =
-            ext-getD noMarks (map (marksAt (laidWords n noWords (h .marks))) (below n)) (h .marks) (length-map-below (marksAt (laidWords n noWords (h .marks))) n ∙ sym ml)
+            ext-getD noMarks (map (marksAt (laidWords n noWords (h .marks))) (below n)) (h .marks)
+            (length-map-below (marksAt (laidWords n noWords (h .marks))) n ∙ sym ml)
             (λ t l. let l′ : t < n = subst (λ (x : ℕ). t < x) (length-map-below (marksAt (laidWords n noWords (h .marks))) n) l in
             getD-map-below (marksAt (laidWords n noWords (h .marks))) n t noMarks l′ ∙ at t l′)
 
@@ -251,7 +265,8 @@ blank-is st f t =
     let d = and-l (isDown (st .condition) && noWord (st .marks)) (every isZero (st .counters)) t in
     let c = down (st .condition) (and-l (isDown (st .condition)) (noWord (st .marks)) d) in
     let w = words (st .marks) (and-r (isDown (st .condition)) (noWord (st .marks)) d) in
-    let z = zeros (st .counters) (and-r (isDown (st .condition) && noWord (st .marks)) (every isZero (st .counters)) t) ∙ ap (λ (k : ℕ). replicate k 0) (f .counters) in
+    let z = zeros (st .counters) (and-r (isDown (st .condition) && noWord (st .marks)) (every isZero (st .counters)) t)
+    ∙ ap (λ (k : ℕ). replicate k 0) (f .counters) in
     λ i. record { condition = c i; counters = z i; marks = w i }
   where
     down : (c : Condition) → T (isDown c) → c ≡ Down
@@ -281,4 +296,5 @@ is-blank = tt
 
 pub fits-blank : Fits blank
 unfolding blank
-fits-blank = record { counters = refl; token = omega arith; turn = omega arith; testing = omega arith; asked = omega arith; quiet = omega arith }
+fits-blank =
+    record { counters = refl; token = omega arith; turn = omega arith; testing = omega arith; asked = omega arith; quiet = omega arith }

@@ -1,4 +1,4 @@
--- What the test of a whole state has seen, place by place, is the definition. Assumes nothing.
+-- What the test of a whole state has seen, place by place, is the definition.
 use Prim.Native.Nat.{ℕ, _+_, _-_, _*_, _≤_, _<_, min}
 use mathlib.Core.Bool.{Bool, true, false, not, _&&_, _||_}
 use mathlib.Core.Path.{_≡_, refl, sym, ap, ap₂, _∙_, subst, subst⁻¹}
@@ -48,13 +48,17 @@ module _ (net : Net) (flying : ℕ) (r : Bool) (e : r ≡ (netHolds net && leb f
 -- ---- a letter, by the ends of its link
 pub letter-seen : (net : Net) (x : Letter) (r : Bool) (k : ℕ) → T (netHolds net) → k ≡ min (x .link) 63
     → r ≡ letterTest (net .links) (getD (net .low) k 0) (getD (net .high) k 0) x → r ≡ letterHolds (networkOf net) x
-letter-seen net x r k t e d = d ∙ ap (λ (n : ℕ). letterTest n (getD (net .low) k 0) (getD (net .high) k 0) x) links ∙ go (decLt (x .link) (linkCount net))
+letter-seen net x r k t e d =
+    d ∙ ap (λ (n : ℕ). letterTest n (getD (net .low) k 0) (getD (net .high) k 0) x) links ∙ go (decLt (x .link) (linkCount net))
   where
     links : net .links ≡ linkCount net
     links = omega (arith, few-places net t)
 
-    go : Dec (x .link < linkCount net) → letterTest (linkCount net) (getD (net .low) k 0) (getD (net .high) k 0) x ≡ letterHolds (networkOf net) x
-    go (yes h) = subst⁻¹ (λ (i : ℕ). letterTest (linkCount net) (getD (net .low) i 0) (getD (net .high) i 0) x ≡ letterHolds (networkOf net) x) same (letter-is net x h)
+    go : Dec (x .link < linkCount net) → letterTest (linkCount net) (getD (net .low) k 0) (getD (net .high) k 0) x ≡ letterHolds
+        (networkOf net) x
+    go (yes h) =
+        subst⁻¹ (λ (i : ℕ). letterTest (linkCount net) (getD (net .low) i 0) (getD (net .high) i 0) x ≡ letterHolds (networkOf net) x) same
+        (letter-is net x h)
       where
         same : k ≡ x .link
         same = omega arith
@@ -105,7 +109,8 @@ module _ (s : State) where
   pub station-bad : (i : ℕ) → i < 32 → stationPlace (s .net) i (stationIn s i) ≡ false → false ≡ stateHolds s
   unfolding stateHolds stationsHold
   station-bad i h d =
-      sym (ap (λ (b : Bool). frame && (b && lettersHold s)) (all-fails (λ i. stationPlace (s .net) i (stationIn s i)) 32 i h d) ∙ and-no frame)
+      sym (ap (λ (b : Bool). frame && (b && lettersHold s)) (all-fails (λ i. stationPlace (s .net) i (stationIn s i)) 32 i h d)
+      ∙ and-no frame)
 
   letters-bad : (j : ℕ) → j < 4096 → letterPlace (s .net) (s .flying) j (letterIn s j) ≡ false → false ≡ stateHolds s
   unfolding stateHolds lettersHold
@@ -113,17 +118,23 @@ module _ (s : State) where
       sym (ap (λ (b : Bool). frame && (stationsHold s && b)) (all-fails (λ j. letterPlace (s .net) (s .flying) j (letterIn s j)) 4096 j h d)
       ∙ ap (λ (b : Bool). frame && b) (and-no (stationsHold s)) ∙ and-no frame)
 
-  pub letter-bad : (j : ℕ) → j < s .flying → s .flying ≤ 4096 → letterHolds (networkOf (s .net)) (letterIn s j) ≡ false → false ≡ stateHolds s
-  letter-bad j h few d = letters-bad j (omega arith) (ap (λ (b : Bool). if b then letterHolds (networkOf (s .net)) (letterIn s j) else isNoLetter (letterIn s j)) (lt-ltb j (s .flying) h) ∙ d)
+  pub letter-bad : (j : ℕ) → j < s .flying → s .flying ≤ 4096 → letterHolds (networkOf (s .net)) (letterIn s j) ≡ false
+      → false ≡ stateHolds s
+  letter-bad j h few d =
+      letters-bad j (omega arith) (ap (λ (b : Bool). if b then letterHolds (networkOf (s .net)) (letterIn s j) else isNoLetter
+      (letterIn s j)) (lt-ltb j (s .flying) h) ∙ d)
 
   -- ---- the places beyond the letters
   pub rest-none : true ≡ every (restAt s (s .flying)) (below (s .flying))
-  rest-none = sym (T-is _ (at-below (restAt s (s .flying)) (s .flying) (λ t h. or-left (ltb t (s .flying)) _ (is-T _ (lt-ltb t (s .flying) h)))))
+  rest-none =
+      sym (T-is _ (at-below (restAt s (s .flying)) (s .flying) (λ t h. or-left (ltb t (s .flying)) _ (is-T _ (lt-ltb t (s .flying) h)))))
 
-  pub rest-more : (r clean : Bool) (j : ℕ) → s .flying ≤ j → clean ≡ every (restAt s (s .flying)) (below j) → r ≡ (clean && isNoLetter (letterIn s j))
+  pub rest-more : (r clean : Bool) (j : ℕ) → s .flying ≤ j → clean ≡ every (restAt s (s .flying)) (below j)
+      → r ≡ (clean && isNoLetter (letterIn s j))
       → r ≡ every (restAt s (s .flying)) (below (j + 1))
   rest-more r clean j h e d =
-      d ∙ ap₂ (λ (a b : Bool). a && b) e (sym (ap (λ (b : Bool). (b || isNoLetter (letterIn s j)) && true) (le-ltb j (s .flying) h) ∙ and-yes (isNoLetter (letterIn s j))))
+      d ∙ ap₂ (λ (a b : Bool). a && b) e (sym (ap (λ (b : Bool). (b || isNoLetter (letterIn s j)) && true) (le-ltb j (s .flying) h)
+      ∙ and-yes (isNoLetter (letterIn s j))))
       ∙ sym (ap (every (restAt s (s .flying))) (below-snoc j) ∙ every-append (restAt s (s .flying)) (below j) (j ∷ []))
 
   -- ---- all is seen
@@ -132,12 +143,17 @@ module _ (s : State) where
     rest-is : clean ≡ lettersHold s
     unfolding lettersHold
     rest-is =
-        e ∙ same-test (every (restAt s (s .flying)) (below 4096)) (every (λ j. letterPlace (s .net) (s .flying) j (letterIn s j)) (below 4096))
-        (λ t. at-below (λ j. letterPlace (s .net) (s .flying) j (letterIn s j)) 4096 (λ k h. forth k (below-at (restAt s (s .flying)) 4096 t k h) (decLt k (s .flying))))
-        (λ t. at-below (restAt s (s .flying)) 4096 (λ k h. back k (below-at (λ j. letterPlace (s .net) (s .flying) j (letterIn s j)) 4096 t k h) (decLt k (s .flying))))
+        e ∙ same-test (every (restAt s (s .flying)) (below 4096))
+        (every (λ j. letterPlace (s .net) (s .flying) j (letterIn s j)) (below 4096))
+        (λ t. at-below (λ j. letterPlace (s .net) (s .flying) j (letterIn s j)) 4096
+        (λ k h. forth k (below-at (restAt s (s .flying)) 4096 t k h) (decLt k (s .flying))))
+        (λ t. at-below (restAt s (s .flying)) 4096 (λ k h. back k
+        (below-at (λ j. letterPlace (s .net) (s .flying) j (letterIn s j)) 4096 t k h) (decLt k (s .flying))))
       where
         forth : (k : ℕ) → T (restAt s (s .flying) k) → Dec (k < s .flying) → T (letterPlace (s .net) (s .flying) k (letterIn s k))
-        forth k t (yes h) = is-T _ (ap (λ (b : Bool). if b then letterHolds (networkOf (s .net)) (letterIn s k) else isNoLetter (letterIn s k)) (lt-ltb k (s .flying) h) ∙ g k h)
+        forth k t (yes h) =
+            is-T _ (ap (λ (b : Bool). if b then letterHolds (networkOf (s .net)) (letterIn s k) else isNoLetter (letterIn s k))
+            (lt-ltb k (s .flying) h) ∙ g k h)
         forth k t (no h) =
             let d = le-ltb k (s .flying) (omega arith) in
             subst⁻¹ (λ (b : Bool). T (if b then letterHolds (networkOf (s .net)) (letterIn s k) else isNoLetter (letterIn s k))) d

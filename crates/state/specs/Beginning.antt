@@ -1,4 +1,4 @@
--- What `fresh` answers: the state right after reading a sheet, in the world's words. Assumes nothing.
+-- What `fresh` answers: the state right after reading a sheet, in the world's words.
 use lib.ListN.{replicate}
 use Rattle.lists.specs.Lists.{if_then_else_}
 use Rattle.net.specs.declared.Net.{Net}
@@ -15,4 +15,6 @@ unfoldable pub unread : Net → State
 unread net = record { net = net; flying = 0; stations = replicate 32 blank; letters = replicate 4096 noLetter }
 
 unfoldable pub begunOf : Net → Begun
-begunOf net = if netHolds net then (record { answer = 0; state = stateOf net (fresh (networkOf net)) }) else (record { answer = 11; state = unread net })
+begunOf net =
+    if netHolds net then (record { answer = 0; state = stateOf net (fresh (networkOf net)) })
+    else (record { answer = 11; state = unread net })

@@ -1,5 +1,5 @@
 -- What a state value means, and which of them are well formed: the used places say what the world is, and unused ones are zero.
--- That a well-formed one is determined by its meaning: proofs/Meaning.antt. Assumes nothing.
+-- That a well-formed one is determined by its meaning: proofs/Meaning.antt.
 use Prim.Native.Nat.{ℕ, _^_, _<_}
 use mathlib.Core.Bool.{Bool, true, false, _&&_}
 use mathlib.Core.Path.{_≡_}

@@ -29,27 +29,11 @@ pub struct State {
 
 // ---- the test
 
-fn both(a: bool, b: bool) -> bool
-    ensures { λ r. ⌜ r ≡ (a && b) ⌝ }
-{
-    if a { b } else { false }
-}
-
 fn no_words(w: Words) -> bool
     ensures { λ r. ⌜ r ≡ noWord w ⌝ }
 {
-    let early = both(both(w.token == 0, w.turn == 0), w.testing == 0);
-    both(both(early, w.asked == 0), w.quiet == 0)
-}
-
-fn is_down(c: Condition) -> bool
-    ensures { λ r. ⌜ r ≡ isDown c ⌝ }
-{
-    match c {
-        Condition::Down => true,
-        Condition::Waiting => false,
-        Condition::Live => false,
-    }
+    let early = sets::both(sets::both(w.token == 0, w.turn == 0), w.testing == 0);
+    sets::both(sets::both(early, w.asked == 0), w.quiet == 0)
 }
 
 // Whether an unused place of the stations is zero.
@@ -57,7 +41,7 @@ fn is_blank(st: Station) -> bool
     ensures { λ r. ⌜ r ≡ isBlank st ⌝ }
 {
     let condition = st.condition;
-    if !both(is_down(condition), no_words(st.marks)) {
+    if !sets::both(station::is_down(condition), no_words(st.marks)) {
         return false;
     }
     for k in 0..64u8 {
@@ -111,7 +95,7 @@ fn in_room(link: u16) -> usize
 fn frame_holds(net: Net, flying: u16) -> bool
     ensures { λ r. ⌜ r ≡ (netHolds net && leb flying 4096) ⌝ }
 {
-    both(sheet_rules::keeps_sheet_rules(net), flying <= 4096)
+    sets::both(sheet_rules::keeps_sheet_rules(net), flying <= 4096)
 }
 
 // Whether the state is well formed. Where not, a call that is given it refuses with 11.

@@ -1,4 +1,4 @@
--- What the code asks of each of the 64 places is what a station must be. Assumes nothing.
+-- What the code asks of each of the 64 places is what a station must be.
 use Prim.Native.Nat.{ℕ, _+_, _-_, _≤_, _<_}
 use mathlib.Core.Bool.{Bool, true, false, _&&_, _||_}
 use mathlib.Core.Path.{_≡_, refl, sym, ap, ap₂, _∙_, subst, subst⁻¹}
@@ -60,9 +60,11 @@ module _ (own : Bool) (c : ℕ) (m : Marks) where
       let front = isCounter c && together m && (own || isOff m) in
       let f = and-l front _ t in
       let g = and-l (isCounter c && together m) _ f in
-      go x (and-l (isCounter c) _ g) (and-i (together m) _ (and-r (isCounter c) _ g) (and-r (isCounter c && together m) _ f)) (and-r front _ t)
+      go x (and-l (isCounter c) _ g) (and-i (together m) _ (and-r (isCounter c) _ g) (and-r (isCounter c && together m) _ f))
+      (and-r front _ t)
     where
-      go : (x : Condition) → T (isCounter c) → T (together m && (own || isOff m)) → T (conditionHolds x own c m) → T (marksTest x own m) × T (linkCounter x c)
+      go : (x : Condition) → T (isCounter c) → T (together m && (own || isOff m)) → T (conditionHolds x own c m)
+          → T (marksTest x own m) × T (linkCounter x c)
       go Down p q r = (and-i (together m && (own || isOff m)) _ q (and-r (eqb c 1) _ r), and-i (isCounter c) _ p (and-l (eqb c 1) _ r))
       go Waiting p q r = (and-i (together m && (own || isOff m)) _ q (and-r (eqb c 1) _ r), and-i (isCounter c) _ p (and-l (eqb c 1) _ r))
       go Live p q r = (and-i (together m && (own || isOff m)) _ q tt, and-i (isCounter c) _ p tt)
@@ -132,15 +134,18 @@ module _ (net : Net) (s : ℕ) (st : Station) where
         → slotHolds (holdingOf net st .condition) (isEnd (networkOf net) k s) (counter (holdingOf net st) k) (mark (holdingOf net st) k)
         ≡ slotHolds (st .condition) (isEnd (networkOf net) k s) (getD (st .counters) k 0) (marksAt (st .marks) k)
     slot-is k h =
-        ap (λ (x : Condition). slotHolds x (isEnd (networkOf net) k s) (counter (holdingOf net st) k) (mark (holdingOf net st) k)) (condition-of net st)
+        ap (λ (x : Condition). slotHolds x (isEnd (networkOf net) k s) (counter (holdingOf net st) k) (mark (holdingOf net st) k))
+        (condition-of net st)
         ∙ ap₂ (λ (c : ℕ) (m : Marks). slotHolds (st .condition) (isEnd (networkOf net) k s) c m)
         (ap (λ (l : List ℕ). counterIn l k) (table-of net st) ∙ counter-of net (st .counters) k size h) (mark-of net st k h)
 
     own-there : (k : ℕ) → k < linkCount net → ownMarks k ≡ marksTest (st .condition) (isEnd (networkOf net) k s) (marksAt (st .marks) k)
-    own-there k h = ap (λ (b : Bool). marksTest (st .condition) (b && isEnd (networkOf net) k s) (marksAt (st .marks) k)) (lt-ltb k (linkCount net) h)
+    own-there k h =
+        ap (λ (b : Bool). marksTest (st .condition) (b && isEnd (networkOf net) k s) (marksAt (st .marks) k)) (lt-ltb k (linkCount net) h)
 
     own-past : (k : ℕ) → linkCount net ≤ k → ownMarks k ≡ marksTest (st .condition) false (marksAt (st .marks) k)
-    own-past k h = ap (λ (b : Bool). marksTest (st .condition) (b && isEnd (networkOf net) k s) (marksAt (st .marks) k)) (le-ltb k (linkCount net) h)
+    own-past k h =
+        ap (λ (b : Bool). marksTest (st .condition) (b && isEnd (networkOf net) k s) (marksAt (st .marks) k)) (le-ltb k (linkCount net) h)
 
     counter-there : (k : ℕ) → k < linkCount net → ownCounter k ≡ linkCounter (st .condition) (getD (st .counters) k 0)
     counter-there k h = ap (λ (b : Bool). counterTest b (isLive (st .condition)) (getD (st .counters) k 0)) (lt-ltb k (linkCount net) h)
@@ -171,11 +176,13 @@ module _ (net : Net) (s : ℕ) (st : Station) where
         (at-rest (λ t. isOff (marksAt (st .marks) t)) (linkCount net) few
         (λ j g l. foreign-off (st .condition) (marksAt (st .marks) j) (subst T (own-past j g) (place-at ownMarks t j l))))
       where
-        slot : (k : ℕ) → k < linkCount net → T (slotHolds (holdingOf net st .condition) (isEnd (networkOf net) k s) (counter (holdingOf net st) k) (mark (holdingOf net st) k))
+        slot : (k : ℕ) → k < linkCount net → T (slotHolds (holdingOf net st .condition) (isEnd (networkOf net) k s)
+            (counter (holdingOf net st) k) (mark (holdingOf net st) k))
         slot k h =
             subst⁻¹ T (slot-is k h)
             (slot-join (isEnd (networkOf net) k s) (getD (st .counters) k 0) (marksAt (st .marks) k) (st .condition)
-            (subst T (own-there k h) (place-at ownMarks t k (omega arith))) (subst T (counter-there k h) (place-at ownCounter u k (omega arith))))
+            (subst T (own-there k h) (place-at ownMarks t k (omega arith)))
+            (subst T (counter-there k h) (place-at ownCounter u k (omega arith))))
 
     back : T (stationFormed net s st) → T (everyPlace ownMarks) × T (everyPlace ownCounter)
     unfolding stationFormed
@@ -183,11 +190,15 @@ module _ (net : Net) (s : ℕ) (st : Station) where
         let front = and-l (holdingHolds (networkOf net) s (holdingOf net st) && zeroes) offs t in
         let f = formed (networkOf net) s (holdingOf net st) (and-l (holdingHolds (networkOf net) s (holdingOf net st)) zeroes front) in
         let z = and-r (holdingHolds (networkOf net) s (holdingOf net st)) zeroes front in
-        let o = and-r (holdingHolds (networkOf net) s (holdingOf net st) && zeroes) offs t in
-        (at-place ownMarks (λ k l. marks k l f o (decLt k (linkCount net))), at-place ownCounter (λ k l. count k l f z (decLt k (linkCount net))))
+        let o = and-r (holdingHolds (networkOf net) s (holdingOf net st) && zeroes) offs t in (
+          at-place ownMarks (λ k l. marks k l f o (decLt k (linkCount net))),
+          at-place ownCounter
+              (λ k l. count k l f z (decLt k (linkCount net))),
+        )
       where
         both : (k : ℕ) → k < linkCount net → Formed (networkOf net) s (holdingOf net st)
-            → T (marksTest (st .condition) (isEnd (networkOf net) k s) (marksAt (st .marks) k)) × T (linkCounter (st .condition) (getD (st .counters) k 0))
+            → T (marksTest (st .condition) (isEnd (networkOf net) k s) (marksAt (st .marks) k)) × T
+            (linkCounter (st .condition) (getD (st .counters) k 0))
         both k h f =
             slot-split (isEnd (networkOf net) k s) (getD (st .counters) k 0) (marksAt (st .marks) k) (st .condition)
             (subst T (slot-is k h) (f .slots k (subst⁻¹ (λ (n : ℕ). k < n) (links-of net) h)))
@@ -196,7 +207,8 @@ module _ (net : Net) (s : ℕ) (st : Station) where
         marks k l f o (yes h) = subst⁻¹ T (own-there k h) (both k h f .0)
         marks k l f o (no h) =
             let g : linkCount net ≤ k = omega arith in
-            subst⁻¹ T (own-past k g) (off-foreign (st .condition) (marksAt (st .marks) k) (rest-at (λ t. isOff (marksAt (st .marks) t)) (linkCount net) few o k g l))
+            subst⁻¹ T (own-past k g) (off-foreign (st .condition) (marksAt (st .marks) k)
+            (rest-at (λ t. isOff (marksAt (st .marks) t)) (linkCount net) few o k g l))
 
         count : (k : ℕ) → k < 64 → Formed (networkOf net) s (holdingOf net st) → T zeroes → Dec (k < linkCount net) → T (ownCounter k)
         count k l f z (yes h) = subst⁻¹ T (counter-there k h) (both k h f .1)
@@ -225,12 +237,14 @@ module _ (net : Net) (s : ℕ) (st : Station) where
         unfolding everyPlace
         miscounted k h q =
             sym (and-no (everyPlace ownMarks))
-            ∙ ap (λ (b : Bool). everyPlace ownMarks && b) (sym (all-fails ownCounter 64 k h (ap₂ (λ (n : ℕ) (b : Bool). counterPlace n b k) (sym em) (sym el) ∙ q)))
+            ∙ ap (λ (b : Bool). everyPlace ownMarks && b)
+            (sym (all-fails ownCounter 64 k h (ap₂ (λ (n : ℕ) (b : Bool). counterPlace n b k) (sym em) (sym el) ∙ q)))
             ∙ parts
 
         pub well-formed : (k : ℕ) → k ≡ 64 → r ≡ true → every (counterPlace m live) (below k) ≡ true → true ≡ stationFormed net s st
         unfolding everyPlace
         well-formed k n q c =
             ap₂ (λ (a b : Bool). a && b) (sym q ∙ marks-read)
-            (sym c ∙ ap (λ (x : ℕ). every (counterPlace m live) (below x)) n ∙ ap₂ (λ (n : ℕ) (b : Bool). every (counterPlace n b) (below 64)) em el)
+            (sym c ∙ ap (λ (x : ℕ). every (counterPlace m live) (below x)) n
+            ∙ ap₂ (λ (n : ℕ) (b : Bool). every (counterPlace n b) (below 64)) em el)
             ∙ parts

@@ -1,4 +1,4 @@
--- Laws of a test of all 64 places at once, and of words that are compared: a comparison is a test of each place. Assumes nothing.
+-- Laws of a test of all 64 places at once, and of words that are compared: a comparison is a test of each place.
 use Prim.Native.Nat.{ℕ, _^_, _<_}
 use mathlib.Core.Bool.{Bool, true, false, not, _&&_}
 use mathlib.Core.Path.{_≡_, refl, sym, ap, _∙_, subst, subst⁻¹}
@@ -28,8 +28,10 @@ places-same p q e =
 pub places-both : (p q : ℕ → Bool) → (everyPlace p && everyPlace q) ≡ everyPlace (λ k. p k && q k)
 places-both p q =
     same-test (everyPlace p && everyPlace q) (everyPlace (λ k. p k && q k))
-    (λ t. at-place (λ k. p k && q k) (λ k h. and-i (p k) (q k) (place-at p (and-l (everyPlace p) _ t) k h) (place-at q (and-r (everyPlace p) _ t) k h)))
-    (λ t. and-i (everyPlace p) _ (at-place p (λ k h. and-l (p k) _ (place-at (λ k. p k && q k) t k h))) (at-place q (λ k h. and-r (p k) _ (place-at (λ k. p k && q k) t k h))))
+    (λ t. at-place (λ k. p k && q k) (λ k h. and-i (p k) (q k) (place-at p (and-l (everyPlace p) _ t) k h)
+    (place-at q (and-r (everyPlace p) _ t) k h)))
+    (λ t. and-i (everyPlace p) _ (at-place p (λ k h. and-l (p k) _ (place-at (λ k. p k && q k) t k h)))
+    (at-place q (λ k h. and-r (p k) _ (place-at (λ k. p k && q k) t k h))))
 
 -- ---- words
 abbrev pub same : Bool → Bool → Bool
@@ -57,7 +59,8 @@ in-of w f e t h = ap (λ (x : ℕ). inWord x t) e ∙ in-by f t h
 pub word-places : (w a : ℕ) (f : ℕ → Bool) → w ≡ wordBy f → a < 2 ^ 64 → eqb w a ≡ everyPlace (λ t. same (f t) (inWord a t))
 word-places w a f e l =
     same-test (eqb w a) (everyPlace (λ t. same (f t) (inWord a t)))
-    (λ u. at-place (λ t. same (f t) (inWord a t)) (λ t h. is-same (f t) (inWord a t) (sym (in-of w f e t h) ∙ ap (λ (x : ℕ). inWord x t) (eqb→eq w a u))))
+    (λ u. at-place (λ t. same (f t) (inWord a t)) (λ t h. is-same (f t) (inWord a t)
+    (sym (in-of w f e t h) ∙ ap (λ (x : ℕ). inWord x t) (eqb→eq w a u))))
     (λ u. eq→eqb w a (e ∙ sym (by-ext a f l (λ t h. sym (same-is (f t) (inWord a t) (place-at (λ t. same (f t) (inWord a t)) u t h))))))
 
 pub none-places : (w : ℕ) (f : ℕ → Bool) → w ≡ wordBy f → eqb w 0 ≡ everyPlace (λ t. not (f t))

@@ -1,4 +1,4 @@
--- Which letters are well formed. Assumes nothing.
+-- Which letters are well formed.
 use Prim.Native.Nat.{ℕ}
 use mathlib.Core.Bool.{Bool, _&&_, _||_}
 use lib.Dec.{eqb, ltb}

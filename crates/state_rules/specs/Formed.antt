@@ -1,4 +1,4 @@
--- Which station values are well formed. Assumes nothing.
+-- Which station values are well formed.
 use Prim.Native.Nat.{ℕ, _-_}
 use mathlib.Core.Bool.{Bool, _&&_}
 use lib.ListN.{drop}

@@ -113,15 +113,6 @@ pub fn station_formed(net: Net, s: u8, st: Station) -> bool
 
 // ---- Whether one letter is well formed: a part of the test of a whole state.
 
-fn ends_at(low: u8, high: u8, s: u16) -> bool
-    ensures { λ r. ⌜ r ≡ (eqb low s || eqb high s) ⌝ }
-{
-    if low as u16 == s {
-        return true;
-    }
-    high as u16 == s
-}
-
 // Whether a number may be a counter: none is 0.
 // Promise: equals `net.Letters.isCounter`: a number of 16 bits is a counter if it is no 0.
 fn counter_holds(c: u16) -> bool
@@ -141,7 +132,7 @@ pub fn letter_formed(links: u8, low: u8, high: u8, letter: Letter) -> bool
     if links as u16 <= letter.link {
         return false;
     }
-    if !ends_at(low, high, letter.sender) {
+    if !net::is_end(low, high, letter.sender) {
         return false;
     }
     net::body_holds(links, body)

@@ -1,5 +1,5 @@
 -- The receiver's answer to a letter: when it is which, by what the letter carries, and what each answer says of the station and the
--- letter. Assumes nothing.
+-- letter.
 use Prim.Native.Nat.{ℕ, _≤_, _<_}
 use mathlib.Core.Bool.{Bool, true, not, _&&_, _||_}
 use mathlib.Core.Path.{_≡_, refl, ap, _∙_, subst⁻¹}
@@ -65,10 +65,12 @@ module _ (s : ℕ) (x : Letter) (h : Holding) where
   notice-cases P j c e gone old takes = by-hearing P (Notice j c) e gone (λ t. if-elim P (newer (counter h j) c) (takes t) (old t))
 
   pub notice-taken : (j c : ℕ) → x .body ≡ Notice j c → T (heard x h) → T (newer (counter h j) c) → answer s x h ≡ Does (Takes j c)
-  notice-taken j c e t u = answer-body (Notice j c) e t ∙ ap (λ (b : Bool). if b then Does (Takes j c) else Nothing) (T-is (newer (counter h j) c) u)
+  notice-taken j c e t u =
+      answer-body (Notice j c) e t ∙ ap (λ (b : Bool). if b then Does (Takes j c) else Nothing) (T-is (newer (counter h j) c) u)
 
   pub notice-old : (j c : ℕ) → x .body ≡ Notice j c → T (heard x h) → T (not (newer (counter h j) c)) → answer s x h ≡ Nothing
-  notice-old j c e t u = answer-body (Notice j c) e t ∙ ap (λ (b : Bool). if b then Does (Takes j c) else Nothing) (T-not-is (newer (counter h j) c) u)
+  notice-old j c e t u =
+      answer-body (Notice j c) e t ∙ ap (λ (b : Bool). if b then Does (Takes j c) else Nothing) (T-not-is (newer (counter h j) c) u)
 
   -- ---- a reply: nothing without a test; to a test it overflows, or heals where either counter was odd, levels, or finds them equal
   module _ (c : ℕ) (e : x .body ≡ Reply c) where
@@ -91,7 +93,8 @@ module _ (s : ℕ) (x : Letter) (h : Holding) where
         (λ t. if-elim P tests (λ u. if-elim (λ (y : Healed). P (repliedBy own c y)) over (too t u) (fits t u)) (idle t))
 
     pub reply-idle : T (heard x h) → T (not (mark h (x .link) .testing)) → answer s x h ≡ Nothing
-    reply-idle t u = answer-body (Reply c) e t ∙ ap (λ (b : Bool). if b then repliedBy own c (healing own c) else Nothing) (T-not-is tests u)
+    reply-idle t u =
+        answer-body (Reply c) e t ∙ ap (λ (b : Bool). if b then repliedBy own c (healing own c) else Nothing) (T-not-is tests u)
 
     tested : T (heard x h) → T (mark h (x .link) .testing) → answer s x h ≡ byHealing over
     unfolding healing
@@ -165,7 +168,8 @@ module _ (net : Network) (s : ℕ) (x : Letter) (h : Holding) where
   body-fits r Request e p = request-cases s x h Fits e (λ t. tt) (λ t u. (t, and-l (mark h (x .link) .testing) _ u)) (λ t u. (t, tt))
   body-fits r (Reply c) e p =
       reply-cases s x h c e Fits (λ t. tt) (λ t u. tt) (λ t u v. tt)
-      (λ t u v. if-elim Fits (odd (counter h (x .link)) || odd c) (λ w. (t, replied u v)) (λ w. if-elim Fits (eqb (counter h (x .link)) c) (λ q. (t, u)) (λ q. (t, replied u v))))
+      (λ t u v. if-elim Fits (odd (counter h (x .link)) || odd c) (λ w. (t, replied u v))
+      (λ w. if-elim Fits (eqb (counter h (x .link)) c) (λ q. (t, u)) (λ q. (t, replied u v))))
     where
       replied : T (mark h (x .link) .testing) → T (not (ltb 65535 (healed (counter h (x .link)) c)))
           → Replied (x .link) (healed (counter h (x .link)) c) h
@@ -178,7 +182,15 @@ module _ (net : Network) (s : ℕ) (x : Letter) (h : Holding) where
           }
   body-fits r (Notice j c) e p =
       notice-cases s x h Fits j c e (λ t. tt) (λ t u. tt)
-      (λ t u. (t, record { there = ltb→lt j _ (and-l (ltb j (length (net .links))) _ p); above = ltb→lt (counter h j) c u; range = and-r (ltb j (length (net .links))) _ p }))
+      (λ t u. (
+        t,
+        record {
+          there = ltb→lt j _ (and-l (ltb j (length (net .links))) _ p);
+          above = ltb→lt (counter h j) c u;
+          range = and-r
+              (ltb j (length (net .links))) _ p;
+        },
+      ))
 
   pub answer-fits : T (isCounter (counter h (x .link))) → T (letterHolds net x) → HeardFits net (x .link) h (answer s x h)
   unfolding letterHolds

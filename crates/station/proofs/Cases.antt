@@ -1,5 +1,5 @@
 -- P6 to P10 of document 01 at one station, as one table. The middle station of a line 0-1-2 has the two links 0 and 1 for its
--- own, and tests link 0. antt computes both sides. Assumes nothing.
+-- own, and tests link 0. antt computes both sides.
 use Prim.Native.Nat.{ℕ}
 use mathlib.Core.Bool.{Bool, true, false, _&&_}
 use mathlib.Core.Path.{_≡_, refl}
@@ -62,7 +62,9 @@ timesOut h =
 -- a letter from station 0 on link 0: the same, then the paper's number and whether the letter is dropped, and what it does
 hears : Holding → Body → List ℕ
 unfolding line seen stands letterHolds answer healed healing doneBy ownLinks known purge
-hears h b = bit (stands line 1 h && letterHolds line (letter 0 0 b)) ∷ heardNumbers (answer 1 (letter 0 0 b) h) ++ seen (received line 1 (letter 0 0 b) h)
+hears h b =
+    bit (stands line 1 h && letterHolds line (letter 0 0 b)) ∷ heardNumbers (answer 1 (letter 0 0 b) h) ++ seen
+    (received line 1 (letter 0 0 b) h)
 
 pub table : List Case
 unfolding live timesOut hears
@@ -74,10 +76,16 @@ table =
     ∷ record {
       number = 7;
       got = hears (live true 7 4) (Reply 1);
-      want = (1 ∷ 0 ∷ 0 ∷ 2 ∷ 8 ∷ 8 ∷ []) ++ (0 ∷ 1 ∷ 35 ∷ 0 ∷ 8 ∷ []) ++ (1 ∷ 1 ∷ 35 ∷ 0 ∷ 8 ∷ []) ++ (0 ∷ 1 ∷ 35 ∷ 1 ∷ 4 ∷ []) ++ (1 ∷ 1 ∷ 35 ∷ 1 ∷ 4 ∷ []);
+      want =
+          (1 ∷ 0 ∷ 0 ∷ 2 ∷ 8 ∷ 8 ∷ []) ++ (0 ∷ 1 ∷ 35 ∷ 0 ∷ 8 ∷ []) ++ (1 ∷ 1 ∷ 35 ∷ 0 ∷ 8 ∷ []) ++ (0 ∷ 1 ∷ 35 ∷ 1 ∷ 4 ∷ []) ++ (1 ∷ 1 ∷
+          35 ∷ 1 ∷ 4 ∷ []);
     }
     -- P8 own 6, carried 8: 8, a level (3), and this link alone is sent
-    ∷ record { number = 8; got = hears (live true 6 4) (Reply 8); want = (1 ∷ 0 ∷ 0 ∷ 3 ∷ 8 ∷ 8 ∷ []) ++ (0 ∷ 1 ∷ 35 ∷ 0 ∷ 8 ∷ []) ++ (1 ∷ 1 ∷ 35 ∷ 0 ∷ 8 ∷ []) }
+    ∷ record {
+      number = 8;
+      got = hears (live true 6 4) (Reply 8);
+      want = (1 ∷ 0 ∷ 0 ∷ 3 ∷ 8 ∷ 8 ∷ []) ++ (0 ∷ 1 ∷ 35 ∷ 0 ∷ 8 ∷ []) ++ (1 ∷ 1 ∷ 35 ∷ 0 ∷ 8 ∷ []);
+    }
     -- P9 own 65,533, carried 1: 65,534; own 65,535: refusal 8, and nothing happens
     ∷ record {
       number = 9;
@@ -87,7 +95,11 @@ table =
     ∷ record { number = 9; got = hears (live true 65535 1) (Reply 1); want = 1 ∷ 8 ∷ 0 ∷ 65535 ∷ [] }
     -- P10 notice equal to the own counter: nothing sent; one more: taken (5) and sent on
     ∷ record { number = 10; got = hears (live false 2 4) (Notice 0 2); want = 1 ∷ 0 ∷ 0 ∷ 2 ∷ [] }
-    ∷ record { number = 10; got = hears (live false 2 4) (Notice 0 3); want = (1 ∷ 0 ∷ 0 ∷ 5 ∷ 0 ∷ 3 ∷ 3 ∷ []) ++ (1 ∷ 1 ∷ 35 ∷ 0 ∷ 3 ∷ []) }
+    ∷ record {
+      number = 10;
+      got = hears (live false 2 4) (Notice 0 3);
+      want = (1 ∷ 0 ∷ 0 ∷ 5 ∷ 0 ∷ 3 ∷ 3 ∷ []) ++ (1 ∷ 1 ∷ 35 ∷ 0 ∷ 3 ∷ []);
+    }
     ∷ []
 
 -- the single claim

@@ -1,7 +1,7 @@
 -- How many letters each act sends, on which links, and that the notices of one link are alike. Start, stop and quiet end: none.
 -- An interval: at most one. A recovery: at most one on each own link. A timeout and a notice taken: alike notices on own links
 -- that aren't quiet, at most one fewer than there are own links, since none goes on the link itself or where the notice came from.
--- A request: at most a notice of each other link, then the reply. A reply: subjects times open own links. Assumes nothing.
+-- A request: at most a notice of each other link, then the reply. A reply: subjects times open own links.
 use Prim.Native.Nat.{ℕ, _+_, _-_, _*_, _≤_, _<_, zero-le}
 use mathlib.Core.Bool.{Bool, true, false, not, _&&_, _||_}
 use mathlib.Core.Path.{_≡_, refl, sym, ap₂, _∙_, subst, subst⁻¹}
@@ -90,14 +90,16 @@ module _ (net : Network) (s : ℕ) where
   -- ---- an interval: at most one
   pub interval-few : (k : ℕ) (h : Holding) → length (interval net s k h .sent) ≤ 1
   unfolding doneBy
-  interval-few k h = if-elim (λ (y : Sends). length (sentOf net s h (h .table) y) ≤ 1) (intervalTests (mark h k)) (λ t. omega arith) (λ t. omega arith)
+  interval-few k h =
+      if-elim (λ (y : Sends). length (sentOf net s h (h .table) y) ≤ 1) (intervalTests (mark h k)) (λ t. omega arith) (λ t. omega arith)
 
   -- ---- a recovery: at most one on each own link
   pub recovered-few : (h : Holding) → length (recovered net s h .sent) ≤ length (own net s)
   unfolding doneBy ownLinks
   recovered-few h =
       subst⁻¹ (λ (n : ℕ). n ≤ length (own net s)) (on-each-count s Request (ownLinks net s intervalTests h))
-      (keep-fewer (λ k. isEnd net k s && intervalTests (mark h k)) (λ k. isEnd net k s) (λ k t. and-l (isEnd net k s) _ t) (linkNumbers net))
+      (keep-fewer (λ k. isEnd net k s && intervalTests (mark h k)) (λ k. isEnd net k s) (λ k t. and-l (isEnd net k s) _ t)
+      (linkNumbers net))
 
   -- ---- own links that aren't quiet
   -- an own link of the station that isn't quiet
@@ -111,14 +113,17 @@ module _ (net : Network) (s : ℕ) where
 
     pub open-few : length (openLinks net s h) ≤ length (own net s)
     unfolding ownLinks
-    open-few = keep-fewer (λ k. isEnd net k s && not (mark h k .quiet)) (λ k. isEnd net k s) (λ k t. and-l (isEnd net k s) _ t) (linkNumbers net)
+    open-few =
+        keep-fewer (λ k. isEnd net k s && not (mark h k .quiet)) (λ k. isEnd net k s) (λ k t. and-l (isEnd net k s) _ t) (linkNumbers net)
 
     pub open-open : T (every (openOwn h) (openLinks net s h))
     unfolding ownLinks
     open-open =
         let p : ℕ → Bool = λ k. isEnd net k s && not (mark h k .quiet) in
-        every-both (ownLink net s) (λ k. not (mark h k .quiet)) (keep p (linkNumbers net)) (own-kept net s p (λ k t. and-l (isEnd net k s) _ t))
-        (every-imp p (λ k. not (mark h k .quiet)) (λ k t. and-r (isEnd net k s) _ t) (keep p (linkNumbers net)) (every-kept p (linkNumbers net)))
+        every-both (ownLink net s) (λ k. not (mark h k .quiet)) (keep p (linkNumbers net))
+        (own-kept net s p (λ k t. and-l (isEnd net k s) _ t))
+        (every-imp p (λ k. not (mark h k .quiet)) (λ k t. and-r (isEnd net k s) _ t) (keep p (linkNumbers net))
+        (every-kept p (linkNumbers net)))
 
     module _ (k : ℕ) where
       abbrev but : ℕ → Bool
@@ -128,7 +133,8 @@ module _ (net : Network) (s : ℕ) where
       pub open-less-few : k < length (net .links) → T (isEnd net k s) → length (less k (openLinks net s h)) ≤ length (own net s) - 1
       unfolding ownLinks
       open-less-few l o =
-          subst⁻¹ (λ (ks : List ℕ). length ks ≤ length (own net s) - 1) (keep-keep (λ j. isEnd net j s && not (mark h j .quiet)) (λ j. not (eqb j k)) (linkNumbers net))
+          subst⁻¹ (λ (ks : List ℕ). length ks ≤ length (own net s) - 1)
+          (keep-keep (λ j. isEnd net j s && not (mark h j .quiet)) (λ j. not (eqb j k)) (linkNumbers net))
           (keep-one-fewer but (λ j. isEnd net j s) (λ j t. and-l (isEnd net j s) _ (and-l (isEnd net j s && not (mark h j .quiet)) _ t)) k
           (refuse (isEnd net k s && not (mark h k .quiet)) (eqb k k) (eqb-refl k)) o (length (net .links)) l)
 
@@ -158,7 +164,9 @@ module _ (net : Network) (s : ℕ) where
         let ks = less k (openLinks net s h) in
         record {
           few = subst⁻¹ (λ (n : ℕ). n ≤ length (own net s) - 1) (on-each-count s (Notice j c) ks) (open-less-few h k l o);
-          alike = on-each-every (λ x. isNotice j c (x .body)) s (Notice j c) ks (every-imp (λ i. true) (λ i. eqb j j && eqb c c) (λ i t. and-i (eqb j j) _ (eqb-refl j) (eqb-refl c)) ks (always ks));
+          alike =
+              on-each-every (λ x. isNotice j c (x .body)) s (Notice j c) ks
+              (every-imp (λ i. true) (λ i. eqb j j && eqb c c) (λ i t. and-i (eqb j j) _ (eqb-refl j) (eqb-refl c)) ks (always ks));
           away = on-each-every (λ x. not (eqb (x .link) k)) s (Notice j c) ks (open-less-away h k);
           ways = on-each-every (λ x. openOwn h (x .link)) s (Notice j c) ks (open-less-open h k);
         }
@@ -182,7 +190,8 @@ module _ (net : Network) (s : ℕ) where
   unfolding doneBy
   notice-spreads h x l o j c e =
       let none = no-letters h (x .link) l o j c in
-      notice-cases s x h (λ (a : Heard). Spreads (x .link) j c h (heardOn net s (x .link) h a .sent)) j c e (λ t. none) (λ t u. none) (λ t u. takes-spreads h (x .link) l o j c)
+      notice-cases s x h (λ (a : Heard). Spreads (x .link) j c h (heardOn net s (x .link) h a .sent)) j c e (λ t. none) (λ t u. none)
+      (λ t u. takes-spreads h (x .link) l o j c)
 
   -- ---- a request that is answered on link k: at most a notice of each other known link, then the reply, all of it on k
   module _ (h : Holding) (k : ℕ) where
@@ -205,10 +214,17 @@ module _ (net : Network) (s : ℕ) where
     pub known-less-few : k < length (net .links) → length (less k (known net (h .table))) ≤ length (net .links) - 1
     known-less-few l =
         subst⁻¹ (λ (ks : List ℕ). length ks ≤ length (net .links) - 1) known-less
-        (omega (arith, keep-one-fewer knows (λ j. true) (λ j t. tt) k not-itself tt (length (net .links)) l, keep-le (λ j. true) (linkNumbers net), length-from 0 (length (net .links))))
+        (omega (
+          arith,
+          keep-one-fewer knows (λ j. true) (λ j t. tt) k not-itself tt (length (net .links)) l,
+          keep-le (λ j. true)
+              (linkNumbers net),
+          length-from 0 (length (net .links)),
+        ))
 
     -- and, where k is known, one fewer than the known ones
-    pub known-less-known : k < length (net .links) → T (ltb 1 (counter h k)) → length (less k (known net (h .table))) ≤ length (known net (h .table)) - 1
+    pub known-less-known : k < length (net .links) → T (ltb 1 (counter h k))
+        → length (less k (known net (h .table))) ≤ length (known net (h .table)) - 1
     unfolding known
     known-less-known l t =
         subst⁻¹ (λ (ks : List ℕ). length ks ≤ length (known net (h .table)) - 1) known-less
@@ -223,8 +239,11 @@ module _ (net : Network) (s : ℕ) where
     answers-back =
         record {
           few = subst⁻¹ (λ (n : ℕ). n ≤ length (less k (known net (h .table))) + 1) (length-append news last)
-              (if-elim (λ (xs : List Letter). length xs + 1 ≤ length (less k (known net (h .table))) + 1) (odd (counter h k)) (λ u. told-few) (λ u. omega arith));
-          back = every-joined (λ x. eqb (x .link) k) news last (told (λ x. eqb (x .link) k) (λ b. eqb-refl k)) (and-i (eqb k k) _ (eqb-refl k) tt);
+              (if-elim (λ (xs : List Letter). length xs + 1 ≤ length (less k (known net (h .table))) + 1) (odd (counter h k))
+              (λ u. told-few) (λ u. omega arith));
+          back =
+              every-joined (λ x. eqb (x .link) k) news last (told (λ x. eqb (x .link) k) (λ b. eqb-refl k))
+              (and-i (eqb k k) _ (eqb-refl k) tt);
         }
       where
         news : List Letter
@@ -239,7 +258,8 @@ module _ (net : Network) (s : ℕ) where
         told : (p : Letter → Bool) → ((b : Body) → T (p (letter s k b))) → T (every p news)
         told p f =
             if-elim (λ (xs : List Letter). T (every p xs)) (odd (counter h k))
-            (λ u. tell-every p s (counter h) (less k (known net (h .table))) (k ∷ []) (λ j. and-i (p (letter s k (Notice j (counter h j)))) _ (f (Notice j (counter h j))) tt))
+            (λ u. tell-every p s (counter h) (less k (known net (h .table))) (k ∷ [])
+            (λ j. and-i (p (letter s k (Notice j (counter h j)))) _ (f (Notice j (counter h j))) tt))
             (λ u. tt)
 
     -- so no more than there are links
@@ -252,12 +272,14 @@ module _ (net : Network) (s : ℕ) where
   unfolding doneBy
   request-few h x l e =
       request-cases s x h (λ (a : Heard). length (heardOn net s (x .link) h a .sent) ≤ length (net .links)) e (λ t. zero-le)
-      (λ t u. subst⁻¹ (λ (xs : List Letter). length xs ≤ length (net .links)) (defers-sends h (x .link)) zero-le) (λ t u. answers-few h (x .link) l)
+      (λ t u. subst⁻¹ (λ (xs : List Letter). length xs ≤ length (net .links)) (defers-sends h (x .link)) zero-le)
+      (λ t u. answers-few h (x .link) l)
 
   -- ---- a reply to a test on link k, with c for the new counter
   module _ (h : Holding) (k c : ℕ) where
     -- either was odd, a healing: subjects times open own links
-    pub heals-count : length (effectOn net s k h (Heals c) .sent) ≡ length (known net (replied net s k c h .table)) * length (openLinks net s h)
+    pub heals-count : length (effectOn net s k h (Heals c) .sent) ≡ length (known net (replied net s k c h .table)) * length
+        (openLinks net s h)
     unfolding doneBy
     heals-count =
         let next = replied net s k c h in
@@ -275,7 +297,9 @@ module _ (net : Network) (s : ℕ) where
         let ks = openLinks net s h in
         record {
           few = subst⁻¹ (λ (n : ℕ). n ≤ length (own net s)) (on-each-count s (Notice k c) ks) (open-few h);
-          alike = on-each-every (λ x. isNotice k c (x .body)) s (Notice k c) ks (every-imp (λ i. true) (λ i. eqb k k && eqb c c) (λ i t. and-i (eqb k k) _ (eqb-refl k) (eqb-refl c)) ks (always ks));
+          alike =
+              on-each-every (λ x. isNotice k c (x .body)) s (Notice k c) ks
+              (every-imp (λ i. true) (λ i. eqb k k && eqb c c) (λ i t. and-i (eqb k k) _ (eqb-refl k) (eqb-refl c)) ks (always ks));
           ways = on-each-every (λ x. openOwn h (x .link)) s (Notice k c) ks (open-open h);
         }
 
@@ -286,12 +310,15 @@ module _ (net : Network) (s : ℕ) where
 
     -- in every case no more than links times own links
     pub heals-few : length (effectOn net s k h (Heals c) .sent) ≤ length (net .links) * length (own net s)
-    heals-few = subst⁻¹ (λ (n : ℕ). n ≤ length (net .links) * length (own net s)) heals-count (mul-le-mul (known-few (replied net s k c h)) (open-few h))
+    heals-few =
+        subst⁻¹ (λ (n : ℕ). n ≤ length (net .links) * length (own net s)) heals-count
+        (mul-le-mul (known-few (replied net s k c h)) (open-few h))
 
     pub levels-few : k < length (net .links) → length (effectOn net s k h (Levels c) .sent) ≤ length (net .links) * length (own net s)
     levels-few l =
         le-trans (levels-alike .few)
-        (subst (λ (n : ℕ). n ≤ length (net .links) * length (own net s)) (one-mul (length (own net s))) (mul-le-mul-right (length (own net s)) (omega arith)))
+        (subst (λ (n : ℕ). n ≤ length (net .links) * length (own net s)) (one-mul (length (own net s)))
+        (mul-le-mul-right (length (own net s)) (omega arith)))
 
   pub reply-few : (h : Holding) (x : Letter) → x .link < length (net .links) → (c : ℕ) → x .body ≡ Reply c
       → length (received net s x h .sent) ≤ length (net .links) * length (own net s)

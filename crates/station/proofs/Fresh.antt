@@ -1,4 +1,4 @@
--- A station that is down, in words: counters 1, no mark, and the unused room zero. Assumes nothing.
+-- A station that is down, in words: counters 1, no mark, and the unused room zero.
 use Prim.Native.Nat.{ℕ}
 use mathlib.Core.Bool.{false}
 use mathlib.Core.Path.{_≡_, refl, sym, ap, _∙_}

@@ -1,5 +1,5 @@
 -- A well-formed holding as facts, and what keeps it well formed: marks or a counter of one link set anew, a purge, marks set at
--- every link. The letters that a station sends on its own links are good. Assumes nothing.
+-- every link. The letters that a station sends on its own links are good.
 use Prim.Native.Nat.{ℕ, _<_}
 use mathlib.Core.Bool.{Bool, not, _&&_}
 use mathlib.Core.Path.{_≡_, _∙_, subst⁻¹}
@@ -77,7 +77,8 @@ module _ (net : Network) where
         go j i (no e) = rw (getD-set-other (h .table) k j c 1 e) (f .slots j i)
 
     pub recounted-formed : (k c : ℕ) → k < length (net .links) → T (isLive (h .condition)) → T (isCounter c) → Formed s (counted k c h)
-    recounted-formed k c l v p = counted-formed k c l (slot-recount (h .condition) (isEnd net k s) (counter h k) c (mark h k) v p (f .slots k l))
+    recounted-formed k c l v p =
+        counted-formed k c l (slot-recount (h .condition) (isEnd net k s) (counter h k) c (mark h k) v p (f .slots k l))
 
     -- a purge: it only sets counters to 1
     pub purged-formed : Formed s (purged net s h)
@@ -87,7 +88,8 @@ module _ (net : Network) where
           marks-length = f .marks-length;
           slots = λ j i.
               ⊎-elim (λ e. subst⁻¹ (λ (c : ℕ). T (slotHolds (h .condition) (isEnd net j s) c (mark h j))) e (f .slots j i))
-              (λ e. subst⁻¹ (λ (c : ℕ). T (slotHolds (h .condition) (isEnd net j s) c (mark h j))) e (slot-one (h .condition) (isEnd net j s) (counter h j) (mark h j) (f .slots j i)))
+              (λ e. subst⁻¹ (λ (c : ℕ). T (slotHolds (h .condition) (isEnd net j s) c (mark h j))) e
+              (slot-one (h .condition) (isEnd net j s) (counter h j) (mark h j) (f .slots j i)))
               (purged-lowers net s h j);
         }
 
@@ -115,13 +117,16 @@ module _ (net : Network) where
   own-is s k l o = and-i (ltb k (length (net .links))) _ (lt→ltb k _ l) o
 
   kept-below : (p : ℕ → Bool) → T (every (λ k. ltb k (length (net .links))) (keep p (linkNumbers net)))
-  kept-below p = every-keep (λ k. ltb k (length (net .links))) p (linkNumbers net) (at-below (λ k. ltb k (length (net .links))) (length (net .links)) (λ k l. lt→ltb k _ l))
+  kept-below p =
+      every-keep (λ k. ltb k (length (net .links))) p (linkNumbers net)
+      (at-below (λ k. ltb k (length (net .links))) (length (net .links)) (λ k l. lt→ltb k _ l))
 
   -- links that are kept by a test which only own links pass
   pub own-kept : (s : ℕ) (p : ℕ → Bool) → ((k : ℕ) → T (p k) → T (isEnd net k s)) → T (every (ownLink s) (keep p (linkNumbers net)))
   own-kept s p f =
       every-imp (λ k. ltb k (length (net .links)) && p k) (ownLink s)
-      (λ k t. and-i (ltb k (length (net .links))) _ (and-l (ltb k (length (net .links))) _ t) (f k (and-r (ltb k (length (net .links))) _ t)))
+      (λ k t. and-i (ltb k (length (net .links))) _ (and-l (ltb k (length (net .links))) _ t)
+      (f k (and-r (ltb k (length (net .links))) _ t)))
       (keep p (linkNumbers net))
       (every-both (λ k. ltb k (length (net .links))) p (keep p (linkNumbers net)) (kept-below p) (every-kept p (linkNumbers net)))
 
@@ -154,7 +159,8 @@ module _ (net : Network) where
     known-tell f =
         every-keep (mayTell (counter h)) (λ k. ltb 1 (counter h k)) (linkNumbers net)
         (at-below (mayTell (counter h)) (length (net .links))
-        (λ k l. and-i (ltb k (length (net .links))) _ (lt→ltb k _ l) (slot-counter (h .condition) (isEnd net k s) (counter h k) (mark h k) (f .slots k l))))
+        (λ k l. and-i (ltb k (length (net .links))) _ (lt→ltb k _ l)
+        (slot-counter (h .condition) (isEnd net k s) (counter h k) (mark h k) (f .slots k l))))
 
     pub known-less-tell : Formed s h → (k : ℕ) → T (every (mayTell (counter h)) (less k (known net (h .table))))
     known-less-tell f k = every-keep (mayTell (counter h)) (λ j. not (eqb j k)) (known net (h .table)) (known-tell f)

@@ -1,6 +1,6 @@
 -- Each act keeps what the station holds well formed, and each letter that it sends is good: document 01, "Well formed means".
 -- What the caller shows is what the numbers that say no test: what the event names is there (6), it is allowed (7), no counter would
--- be 65,536 (8). The sheet rules are not needed here. All eight events together: Rules. Assumes nothing.
+-- be 65,536 (8). The sheet rules are not needed here. All eight events together: Rules.
 use Prim.Native.Nat.{ℕ, _<_}
 use mathlib.Core.Bool.{Bool, true, false, not, _&&_}
 use mathlib.Core.Path.{subst⁻¹}
@@ -52,7 +52,8 @@ module _ (net : Network) (s : ℕ) where
   stopped-keeps =
       kept (record { condition = Down; table = map (λ k. 1) (linkNumbers net); marks = map (λ k. noMarks) (linkNumbers net) }) []
       (anew-formed net s Down (map (λ k. 1) (linkNumbers net)) (λ k. noMarks) (length-map-below (λ k. 1) (length (net .links)))
-      (λ k l. subst⁻¹ (λ (c : ℕ). T (slotHolds Down (isEnd net k s) c noMarks)) (getD-map-below (λ k. 1) (length (net .links)) k 1 l) (stopped-slot (isEnd net k s))))
+      (λ k l. subst⁻¹ (λ (c : ℕ). T (slotHolds Down (isEnd net k s) c noMarks)) (getD-map-below (λ k. 1) (length (net .links)) k 1 l)
+      (stopped-slot (isEnd net k s))))
       tt
 
   module _ (h : Holding) (ok : T (holdingHolds net s h)) where
@@ -63,7 +64,12 @@ module _ (net : Network) (s : ℕ) where
     pub started-keeps : T (isDown (h .condition)) → Kept (started net s h)
     unfolding doneBy
     started-keeps d =
-        kept (record { condition = Waiting; table = h .table; marks = map (λ k. if isEnd net k s then setToken true noMarks else noMarks) (linkNumbers net) }) []
+        kept (record {
+          condition = Waiting;
+          table = h .table;
+          marks = map (λ k. if isEnd net k s then setToken true noMarks else noMarks)
+              (linkNumbers net);
+        }) []
         (anew-formed net s Waiting (h .table) (λ k. if isEnd net k s then setToken true noMarks else noMarks) (f .table-length)
         (λ k l. started-slot (h .condition) (isEnd net k s) (counter h k) (mark h k) d (f .slots k l)))
         tt
@@ -72,7 +78,12 @@ module _ (net : Network) (s : ℕ) where
     pub recovered-keeps : T (isWaiting (h .condition)) → Kept (recovered net s h)
     unfolding doneBy
     recovered-keeps w =
-        kept (record { condition = Live; table = h .table; marks = map (λ k. if isEnd net k s then intervalMarks (mark h k) else mark h k) (linkNumbers net) })
+        kept (record {
+          condition = Live;
+          table = h .table;
+          marks = map (λ k. if isEnd net k s then intervalMarks (mark h k) else mark h k)
+              (linkNumbers net);
+        })
         (onEach s Request (ownLinks net s intervalTests h))
         (anew-formed net s Live (h .table) (λ k. if isEnd net k s then intervalMarks (mark h k) else mark h k) (f .table-length)
         (λ k l. recovered-slot (h .condition) (isEnd net k s) (counter h k) (mark h k) w (f .slots k l)))
@@ -112,14 +123,19 @@ module _ (net : Network) (s : ℕ) where
       pub interval-keeps : T (mayEnd (h .condition) (mark h k)) → Kept (interval net s k h)
       unfolding doneBy
       interval-keeps a =
-          kept (marked k (intervalMarks (mark h k)) h) (sentOf net s h (h .table) (if intervalTests (mark h k) then requests (theLink k) else nothing))
-          (remarked (λ m. not (m .testing) && not (m .quiet)) intervalMarks tt (and-l (isLive (h .condition)) _ a) (and-r (isLive (h .condition)) _ a))
-          (if-elim (λ (y : Sends). T (every (letterHolds net) (sentOf net s h (h .table) y))) (intervalTests (mark h k)) (λ t. on-each-holds net s Request (k ∷ []) tt own-one) (λ t. tt))
+          kept (marked k (intervalMarks (mark h k)) h) (sentOf net s h (h .table)
+          (if intervalTests (mark h k) then requests (theLink k) else nothing))
+          (remarked (λ m. not (m .testing) && not (m .quiet)) intervalMarks tt (and-l (isLive (h .condition)) _ a)
+          (and-r (isLive (h .condition)) _ a))
+          (if-elim (λ (y : Sends). T (every (letterHolds net) (sentOf net s h (h .table) y))) (intervalTests (mark h k))
+          (λ t. on-each-holds net s Request (k ∷ []) tt own-one) (λ t. tt))
 
       -- ---- 5. Timeout ends
       pub timeout-keeps : T (mark h k .testing) → Kept (timeout net s k h)
       unfolding doneBy
-      timeout-keeps a = if-elim (λ (y : Act). Kept (doneBy net s h y)) (even (counter h k)) raises (λ e. kept (marked k (testEnded (mark h k)) h) [] (remarked (λ m. m .testing) testEnded tt v a) tt)
+      timeout-keeps a =
+          if-elim (λ (y : Act). Kept (doneBy net s h y)) (even (counter h k)) raises
+          (λ e. kept (marked k (testEnded (mark h k)) h) [] (remarked (λ m. m .testing) testEnded tt v a) tt)
         where
           v : T (isLive (h .condition))
           v = is-live (rule (λ m. m .testing) busy tt (mark h k) a)
@@ -138,13 +154,15 @@ module _ (net : Network) (s : ℕ) where
           raises e =
               kept (purged net s raised) (onEach s (Notice k c) (less k (openLinks net s h)))
               (purged-formed net s raised (renewed (λ m. m .testing) (λ m. setQuiet true (testEnded m)) c tt v a (fits e)))
-              (on-each-holds net s (Notice k c) (less k (openLinks net s h)) (and-i (ltb k (length (net .links))) _ (lt→ltb k _ l) (fits e)) (open-less-own net s h k))
+              (on-each-holds net s (Notice k c) (less k (openLinks net s h)) (and-i (ltb k (length (net .links))) _ (lt→ltb k _ l) (fits e))
+              (open-less-own net s h k))
 
       -- ---- 6. Quiet ends
       pub spoken-keeps : T (mark h k .quiet) → Kept (spoken net s k h)
       unfolding doneBy
       spoken-keeps a =
-          kept (marked k (setQuiet false (mark h k)) h) [] (remarked (λ m. m .quiet) (setQuiet false) tt (is-live (rule (λ m. m .quiet) busy tt (mark h k) a)) a) tt
+          kept (marked k (setQuiet false (mark h k)) h) []
+          (remarked (λ m. m .quiet) (setQuiet false) tt (is-live (rule (λ m. m .quiet) busy tt (mark h k) a)) a) tt
 
       -- ---- 7. what a letter does at a live station
       module _ (v : T (isLive (h .condition))) where
@@ -155,25 +173,32 @@ module _ (net : Network) (s : ℕ) where
         unfolding doneBy
         effect-keeps Defers p = kept (marked k (setAsked true (mark h k)) h) [] (remarked (λ m. m .testing) (setAsked true) tt v p) tt
         effect-keeps Answers p =
-            kept (marked k (requestedMarks (mark h k)) h) (news ++ (letter s k (Reply (counter h k)) ∷ [])) (remarked (λ m. true) requestedMarks tt v tt)
+            kept (marked k (requestedMarks (mark h k)) h) (news ++ (letter s k (Reply (counter h k)) ∷ []))
+            (remarked (λ m. true) requestedMarks tt v tt)
             (every-joined (letterHolds net) news (letter s k (Reply (counter h k)) ∷ [])
-            (if-elim (λ xs. T (every (letterHolds net) xs)) (odd (counter h k)) (λ u. tell-holds net s (counter h) (less k (known net (h .table))) (k ∷ []) (known-less-tell net s h f k) own-one) (λ u. tt))
+            (if-elim (λ xs. T (every (letterHolds net) xs)) (odd (counter h k))
+            (λ u. tell-holds net s (counter h) (less k (known net (h .table))) (k ∷ []) (known-less-tell net s h f k) own-one) (λ u. tt))
             (on-each-holds net s (Reply (counter h k)) (k ∷ []) own-counter own-one))
           where
             news : List Letter
             news = if odd (counter h k) then tell s (counter h) (less k (known net (h .table))) (k ∷ []) else []
         effect-keeps (Heals c) p =
             let next = replied net s k c h in
-            kept (purged net s next) (tell s (counter next) (known net (next .table)) (openLinks net s h)) (purged-formed net s next (next-formed c (p .range)))
-            (tell-holds net s (counter next) (known net (next .table)) (openLinks net s h) (known-tell net s next (next-formed c (p .range))) (own-links-own net s h isOpen))
+            kept (purged net s next) (tell s (counter next) (known net (next .table)) (openLinks net s h))
+            (purged-formed net s next (next-formed c (p .range)))
+            (tell-holds net s (counter next) (known net (next .table)) (openLinks net s h)
+            (known-tell net s next (next-formed c (p .range))) (own-links-own net s h isOpen))
         effect-keeps (Levels c) p =
             let next = replied net s k c h in
             kept next (onEach s (Notice k c) (openLinks net s h)) (next-formed c (p .range))
-            (on-each-holds net s (Notice k c) (openLinks net s h) (and-i (ltb k (length (net .links))) _ (lt→ltb k _ l) (p .range)) (own-links-own net s h isOpen))
+            (on-each-holds net s (Notice k c) (openLinks net s h) (and-i (ltb k (length (net .links))) _ (lt→ltb k _ l) (p .range))
+            (own-links-own net s h isOpen))
         effect-keeps Equal p = kept (marked k (repliedMarks (mark h k)) h) [] (remarked (λ m. true) repliedMarks tt v tt) tt
         effect-keeps (Takes j c) p =
-            kept (counted j c h) (onEach s (Notice j c) (less k (openLinks net s h))) (recounted-formed net s h f j c (p .there) v (p .range))
-            (on-each-holds net s (Notice j c) (less k (openLinks net s h)) (and-i (ltb j (length (net .links))) _ (lt→ltb j _ (p .there)) (p .range)) (open-less-own net s h k))
+            kept (counted j c h) (onEach s (Notice j c) (less k (openLinks net s h)))
+            (recounted-formed net s h f j c (p .there) v (p .range))
+            (on-each-holds net s (Notice j c) (less k (openLinks net s h))
+            (and-i (ltb j (length (net .links))) _ (lt→ltb j _ (p .there)) (p .range)) (open-less-own net s h k))
 
       heard-keeps : (a : Heard) → HeardFits net k h a → Kept (heardOn net s k h a)
       unfolding doneBy

@@ -1,4 +1,4 @@
--- A station value that was changed at one link is its holding, changed at that link, laid over the old room. Assumes nothing.
+-- A station value that was changed at one link is its holding, changed at that link, laid over the old room.
 use Prim.Native.Nat.{ℕ, _+_, _-_, _^_, _≤_, _<_}
 use mathlib.Core.Bool.{Bool, true, false}
 use mathlib.Core.Path.{_≡_, refl, sym, ap, ap₂, _∙_, subst}
@@ -30,10 +30,13 @@ word-laid : (n : ℕ) → n ≤ 64 → (f : ℕ → Bool) (old : ℕ) (bs : List
     → ((t : ℕ) → n ≤ t → t < 64 → inWord old t ≡ f t) → wordBy f ≡ laidWord n old bs
 unfolding wordBy
 word-laid n l f old bs e first rest =
-    ap wordOf (ext-getD false (map f (below 64)) (bs ++ drop n (bitsOf old)) sizes (λ i h. at i (subst (λ (x : ℕ). i < x) (length-map-below f 64) h) (decLt i n)))
+    ap wordOf (ext-getD false (map f (below 64)) (bs ++ drop n (bitsOf old)) sizes
+    (λ i h. at i (subst (λ (x : ℕ). i < x) (length-map-below f 64) h) (decLt i n)))
   where
     sizes : length (map f (below 64)) ≡ length (bs ++ drop n (bitsOf old))
-    sizes = length-map-below f 64 ∙ sym (length-append bs (drop n (bitsOf old)) ∙ omega (arith, e, length-drop n (bitsOf old), length-map-below (inWord old) 64))
+    sizes =
+        length-map-below f 64 ∙ sym (length-append bs (drop n (bitsOf old))
+        ∙ omega (arith, e, length-drop n (bitsOf old), length-map-below (inWord old) 64))
 
     at : (i : ℕ) → i < 64 → Dec (i < n) → getD (map f (below 64)) i false ≡ getD (bs ++ drop n (bitsOf old)) i false
     at i h (yes m) = getD-map-below f 64 i false h ∙ sym (List·getD-append bs (drop n (bitsOf old)) false i (omega (arith, e)) ∙ first i m)
@@ -42,10 +45,13 @@ word-laid n l f old bs e first rest =
         let q : length bs + j ≡ i = omega (arith, e) in
         let q′ : n + j ≡ i = omega arith in
         getD-map-below f 64 i false h
-        ∙ sym (subst (λ (x : ℕ). getD (bs ++ drop n (bitsOf old)) x false ≡ getD (drop n (bitsOf old)) j false) q (getD-append-add bs (drop n (bitsOf old)) j false)
-        ∙ getD-drop n (bitsOf old) j false ∙ ap (λ (x : ℕ). getD (bitsOf old) x false) q′ ∙ getD-map-below (inWord old) 64 i false h ∙ rest i (omega arith) h)
+        ∙ sym (subst (λ (x : ℕ). getD (bs ++ drop n (bitsOf old)) x false ≡ getD (drop n (bitsOf old)) j false) q
+        (getD-append-add bs (drop n (bitsOf old)) j false)
+        ∙ getD-drop n (bitsOf old) j false ∙ ap (λ (x : ℕ). getD (bitsOf old) x false) q′ ∙ getD-map-below (inWord old) 64 i false h
+        ∙ rest i (omega arith) h)
 
-pub words-laid : (n : ℕ) → n ≤ 64 → (g : ℕ → Marks) (old : Words) (ms : List Marks) → length ms ≡ n → ((t : ℕ) → t < n → getD ms t noMarks ≡ g t)
+pub words-laid : (n : ℕ) → n ≤ 64 → (g : ℕ → Marks) (old : Words) (ms : List Marks) → length ms ≡ n
+    → ((t : ℕ) → t < n → getD ms t noMarks ≡ g t)
     → ((t : ℕ) → n ≤ t → t < 64 → marksAt old t ≡ g t) → wordsBy g ≡ laidWords n old ms
 words-laid n l g old ms e first rest = λ i. record {
   token = one (λ m. m .token) refl (old .token) (λ t. refl) i;
@@ -55,7 +61,8 @@ words-laid n l g old ms e first rest = λ i. record {
   quiet = one (λ m. m .quiet) refl (old .quiet) (λ t. refl) i;
 }
   where
-    one : (p : Marks → Bool) → p noMarks ≡ false → (w : ℕ) → ((t : ℕ) → inWord w t ≡ p (marksAt old t)) → wordBy (λ t. p (g t)) ≡ laidWord n w (map p ms)
+    one : (p : Marks → Bool) → p noMarks ≡ false → (w : ℕ) → ((t : ℕ) → inWord w t ≡ p (marksAt old t))
+        → wordBy (λ t. p (g t)) ≡ laidWord n w (map p ms)
     one p q w r =
         word-laid n l (λ t. p (g t)) w (map p ms) (length-map ms p ∙ e)
         (λ t h. ap (getD (map p ms) t) (sym q) ∙ List·getD-map p ms t noMarks ∙ ap p (first t h))
@@ -76,7 +83,9 @@ with-by w k m = λ i. record {
     over p false x y = refl
 
     one : (p : Marks → Bool) → wordBy (λ t. if eqb t k then p m else p (marksAt w t)) ≡ wordBy (λ t. p (if eqb t k then m else marksAt w t))
-    one p = by-same (λ t. if eqb t k then p m else p (marksAt w t)) (λ t. p (if eqb t k then m else marksAt w t)) (λ t h. over p (eqb t k) m (marksAt w t))
+    one p =
+        by-same (λ t. if eqb t k then p m else p (marksAt w t)) (λ t. p (if eqb t k then m else marksAt w t))
+        (λ t h. over p (eqb t k) m (marksAt w t))
 
 -- every word fits its 64 bits
 pub record Fit (w : Words) : Type 0 where
@@ -114,7 +123,8 @@ module _ (net : Net) (st : Station) where
   condition-of = refl
 
   -- ---- marks of one link
-  pub marks-laid : (k : ℕ) (m : Marks) → k < linkCount net → wordsWith (st .marks) k m ≡ laidWords (linkCount net) (st .marks) (set (map (marksAt (st .marks)) (below (linkCount net))) k m)
+  pub marks-laid : (k : ℕ) (m : Marks) → k < linkCount net
+      → wordsWith (st .marks) k m ≡ laidWords (linkCount net) (st .marks) (set (map (marksAt (st .marks)) (below (linkCount net))) k m)
   marks-laid k m h =
       with-by (st .marks) k m
       ∙ words-laid (linkCount net) (omega arith) (λ t. if eqb t k then m else marksAt (st .marks) t) (st .marks) (set olds k m)
@@ -131,7 +141,8 @@ module _ (net : Net) (st : Station) where
         where
           go : Dec (t ≡ k) → getD (set olds k m) t noMarks ≡ (if eqb t k then m else marksAt (st .marks) t)
           go (yes q) =
-              ap (λ (x : ℕ). getD (set olds k m) x noMarks) q ∙ getD-set-same olds k m noMarks (omega (arith, length-map-below (marksAt (st .marks)) (linkCount net)))
+              ap (λ (x : ℕ). getD (set olds k m) x noMarks) q
+              ∙ getD-set-same olds k m noMarks (omega (arith, length-map-below (marksAt (st .marks)) (linkCount net)))
               ∙ ap (λ (b : Bool). if b then m else marksAt (st .marks) t) (sym (eq-eqb t k q))
           go (no n) = getD-set-other olds k t m noMarks n ∙ getD-map-below (marksAt (st .marks)) (linkCount net) t noMarks l ∙ rest t n
 
@@ -139,7 +150,8 @@ module _ (net : Net) (st : Station) where
   same-laid f =
       by-same-words (st .marks) f
       ∙ words-laid (linkCount net) (omega arith) (marksAt (st .marks)) (st .marks) (map (marksAt (st .marks)) (below (linkCount net)))
-      (length-map-below (marksAt (st .marks)) (linkCount net)) (λ t h. getD-map-below (marksAt (st .marks)) (linkCount net) t noMarks h) (λ t g l. refl)
+      (length-map-below (marksAt (st .marks)) (linkCount net)) (λ t h. getD-map-below (marksAt (st .marks)) (linkCount net) t noMarks h)
+      (λ t g l. refl)
 
   -- ---- counters
   pub table-set : (k c : ℕ) → k < linkCount net → tableOf net (set (st .counters) k c) ≡ set (tableOf net (st .counters)) k c
@@ -151,7 +163,8 @@ module _ (net : Net) (st : Station) where
   pub counters-same : st .counters ≡ tableOf net (st .counters) ++ drop (linkCount net) (st .counters)
   counters-same = sym (take-append-drop (linkCount net) (st .counters))
 
-  pub counters-set : (k c : ℕ) → k < linkCount net → set (st .counters) k c ≡ set (tableOf net (st .counters)) k c ++ drop (linkCount net) (st .counters)
+  pub counters-set : (k c : ℕ) → k < linkCount net
+      → set (st .counters) k c ≡ set (tableOf net (st .counters)) k c ++ drop (linkCount net) (st .counters)
   counters-set k c h =
       sym (take-append-drop (linkCount net) (set (st .counters) k c)) ∙ ap₂ (λ (x y : List ℕ). x ++ y) (table-set k c h) (room-set k c h)
 
@@ -168,19 +181,28 @@ module _ (net : Net) (st : Station) where
 
   -- the marks of link k changed
   pub laid-marked : (k : ℕ) (m : Marks) → k < linkCount net
-      → _≡_ {A = Station} (record { condition = st .condition; counters = st .counters; marks = wordsWith (st .marks) k m }) (laid net st (marked k m (holdingOf net st)))
+      → _≡_ {A = Station} (record { condition = st .condition; counters = st .counters; marks = wordsWith (st .marks) k m })
+      (laid net st (marked k m (holdingOf net st)))
   unfolding holdingOf
-  laid-marked k m h = laid-is (record { condition = st .condition; counters = st .counters; marks = wordsWith (st .marks) k m }) (marked k m (holdingOf net st)) refl counters-same (marks-laid k m h)
+  laid-marked k m h =
+      laid-is (record { condition = st .condition; counters = st .counters; marks = wordsWith (st .marks) k m })
+      (marked k m (holdingOf net st)) refl counters-same (marks-laid k m h)
 
   -- a link that is not there: nothing to change
   pub marked-past : (k : ℕ) (m : Marks) → linkCount net ≤ k → marked k m (holdingOf net st) ≡ holdingOf net st
   unfolding holdingOf
-  marked-past k m h = ap (λ (ms : List Marks). record { condition = st .condition; table = tableOf net (st .counters); marks = ms }) (set-out (map (marksAt (st .marks)) (below (linkCount net))) k m (omega (arith, length-map-below (marksAt (st .marks)) (linkCount net))))
+  marked-past k m h =
+      ap (λ (ms : List Marks). record { condition = st .condition; table = tableOf net (st .counters); marks = ms })
+      (set-out (map (marksAt (st .marks)) (below (linkCount net))) k m
+      (omega (arith, length-map-below (marksAt (st .marks)) (linkCount net))))
 
   pub mark-past : (k : ℕ) → linkCount net ≤ k → mark (holdingOf net st) k ≡ noMarks
   unfolding holdingOf
-  mark-past k h = List·getD-eq-default (map (marksAt (st .marks)) (below (linkCount net))) noMarks {n = k} (omega (arith, length-map-below (marksAt (st .marks)) (linkCount net)))
+  mark-past k h =
+      List·getD-eq-default (map (marksAt (st .marks)) (below (linkCount net))) noMarks {n = k}
+      (omega (arith, length-map-below (marksAt (st .marks)) (linkCount net)))
 
   pub counter-past : (k : ℕ) → length (st .counters) ≡ 64 → linkCount net ≤ k → counter (holdingOf net st) k ≡ 1
   unfolding holdingOf
-  counter-past k e h = List·getD-eq-default (tableOf net (st .counters)) 1 {n = k} (omega (arith, length-take (linkCount net) (st .counters)))
+  counter-past k e h =
+      List·getD-eq-default (tableOf net (st .counters)) 1 {n = k} (omega (arith, length-take (linkCount net) (st .counters)))

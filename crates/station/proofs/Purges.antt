@@ -1,4 +1,4 @@
--- A purge at one station: it leaves a counter as it is or sets it to 1, and the counters of own links it leaves. Assumes nothing.
+-- A purge at one station: it leaves a counter as it is or sets it to 1, and the counters of own links it leaves.
 use Prim.Native.Nat.{ℕ, _≤_, _<_}
 use mathlib.Core.Bool.{Bool}
 use mathlib.Core.Path.{_≡_, refl, ap, _∙_, subst⁻¹}
@@ -57,7 +57,8 @@ module _ (net : Network) (s : ℕ) where
     pub purged-own : (k : ℕ) → s < net .stations → k < length (net .links) → T (isEnd net k s) → counter (purged net s h) k ≡ counter h k
     unfolding reached kept
     purged-own k real l o =
-        purged-at k l ∙ ap (λ (b : Bool). if b then counter h k else 1) (T-is (near net (reached (h .table)) k) (⊎-elim low high (or-cases (eqb (ends net k .low) s) _ o)))
+        purged-at k l ∙ ap (λ (b : Bool). if b then counter h k else 1)
+        (T-is (near net (reached (h .table)) k) (⊎-elim low high (or-cases (eqb (ends net k .low) s) _ o)))
       where
         here : T (reached (h .table) s)
         here = complete net (worksIn (h .table)) s s (reach-self real)

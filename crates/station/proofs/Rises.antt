@@ -1,5 +1,5 @@
 -- Which act changes which counter, and which way: only a timeout, a reply and a notice do, each at one link, before a purge that
--- lowers others to 1. A stop sets all to 1, and no counter is below that. How many are higher: Rules. Assumes nothing.
+-- lowers others to 1. A stop sets all to 1, and no counter is below that. How many are higher: Rules.
 use Prim.Native.Nat.{ℕ, zero, suc, _+_, _≤_, _<_}
 use mathlib.Core.Bool.{Bool, true, false, not, _||_}
 use mathlib.Core.Path.{_≡_, refl, sym, ap, _∙_, subst, subst⁻¹}
@@ -79,7 +79,9 @@ module _ (net : Network) (s : ℕ) where
   counter-positive h ok j = go (decLt j (length (net .links)))
     where
       go : Dec (j < length (net .links)) → 1 ≤ counter h j
-      go (yes l) = counter-range (counter h j) (slot-counter (h .condition) (isEnd net j s) (counter h j) (mark h j) (formed net s h ok .slots j l)) .0
+      go (yes l) =
+          counter-range (counter h j) (slot-counter (h .condition) (isEnd net j s) (counter h j) (mark h j)
+          (formed net s h ok .slots j l)) .0
       go (no l) = omega (arith, List·getD-eq-default (h .table) 1 {n = j} (omega (arith, formed net s h ok .table-length)))
 
   -- so a stop raises none
@@ -128,7 +130,8 @@ module _ (net : Network) (s : ℕ) where
           record {
             own = purged-own net s g k real l o ∙ ap (λ (t : List ℕ). counterIn t k) e ∙ set-own c;
             others = λ j n.
-                subst (λ (x : ℕ). Lowered x (counter (purged net s g) j)) (ap (λ (t : List ℕ). counterIn t j) e ∙ getD-set-other (h .table) k j c 1 n) (purged-lowers net s g j);
+                subst (λ (x : ℕ). Lowered x (counter (purged net s g) j))
+                (ap (λ (t : List ℕ). counterIn t j) e ∙ getD-set-other (h .table) k j c 1 n) (purged-lowers net s g j);
           }
 
       -- a timeout: an even counter is raised by one, then purge; with an odd one no counter changes
@@ -232,7 +235,9 @@ module _ (net : Network) (s : ℕ) where
         reply-sets real ok l o =
             reply-elim (Sets (x .link) new h) (heals-sets h ok (x .link) l real o new)
             (λ w q. record {
-              own = ap (λ (t : List ℕ). counterIn t (x .link)) (equal-table h (x .link)) ∙ sym (healed-equal own c (both-even (even own) (odd c) w) q);
+              own =
+                  ap (λ (t : List ℕ). counterIn t (x .link)) (equal-table h (x .link))
+                  ∙ sym (healed-equal own c (both-even (even own) (odd c) w) q);
               others = λ j n. inl (ap (λ (t : List ℕ). counterIn t j) (equal-table h (x .link)));
             })
             (levels-sets h ok (x .link) l new)
@@ -253,5 +258,6 @@ module _ (net : Network) (s : ℕ) where
             let Q : Heard → Type 0 = λ a. heardOn net s (x .link) h a .holding .table ≡ set (h .table) (x .link) new in
             subst⁻¹ (λ (d : Done). d .holding .table ≡ set (h .table) (x .link) new) (received-is _ (A.reply-even s x h c e t u v w))
             (if-elim Q (eqb own c)
-            (λ q. equal-table h (x .link) ∙ sym (ap (set (h .table) (x .link)) (healed-equal own c (both-even (even own) (odd c) w) (eqb→eq own c q)) ∙ set-getD (h .table) (x .link) 1))
+            (λ q. equal-table h (x .link) ∙ sym (ap (set (h .table) (x .link))
+            (healed-equal own c (both-even (even own) (odd c) w) (eqb→eq own c q)) ∙ set-getD (h .table) (x .link) 1))
             (λ q. levels-table h (x .link) new))

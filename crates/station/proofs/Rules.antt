@@ -1,6 +1,6 @@
 -- The eight events together, by their rules, at the station that they concern: each that is allowed keeps what the station holds well
 -- formed, and the number of raised counters that it counts is that of the counters which it leaves higher than before. And what the
--- event comes to: each number for its reason and no other. Assumes nothing.
+-- event comes to: each number for its reason and no other.
 use Prim.Native.Nat.{ℕ, _+_, _≤_, _<_, zero-le}
 use mathlib.Core.Bool.{Bool, true, false, not}
 use mathlib.Core.Path.{_≡_, refl, ap, _∙_, subst⁻¹}
@@ -78,13 +78,15 @@ risen net g h = sumOf (λ k. bit (ltb (counter g k) (counter h k))) (linkNumbers
 
 module _ (net : Network) (g h : Holding) where
   risen-none : ((k : ℕ) → counter h k ≤ counter g k) → risen net g h ≡ 0
-  risen-none f = sum-none (λ k. bit (ltb (counter g k) (counter h k))) (length (net .links)) (λ k l. ap bit (le-ltb (counter g k) (counter h k) (f k)))
+  risen-none f =
+      sum-none (λ k. bit (ltb (counter g k) (counter h k))) (length (net .links)) (λ k l. ap bit (le-ltb (counter g k) (counter h k) (f k)))
 
   -- no counter but k's is higher
   risen-one : (k : ℕ) → k < length (net .links) → ((j : ℕ) → j ≢ k → counter h j ≤ counter g j)
       → risen net g h ≡ bit (ltb (counter g k) (counter h k))
   risen-one k l f =
-      sum-only (λ k. bit (ltb (counter g k) (counter h k))) (length (net .links)) k l (λ j m n. ap bit (le-ltb (counter g j) (counter h j) (f j n)))
+      sum-only (λ k. bit (ltb (counter g k) (counter h k))) (length (net .links)) k l
+      (λ j m n. ap bit (le-ltb (counter g j) (counter h j) (f j n)))
 
   pub risen-same : h .table ≡ g .table → risen net g h ≡ 0
   risen-same e = risen-none (λ k. le-of-eq (ap (λ (t : List ℕ). counterIn t k) e))
@@ -99,7 +101,8 @@ module _ (net : Network) (s : ℕ) (real : s < net .stations) (h : Holding) (ok 
   module _ (k : ℕ) (l : k < length (net .links)) (o : T (isEnd net k s)) where
     sets-raises : (c : ℕ) (d : Done) → Sets net s k c h d → Raises (bit (ltb (counter h k) c)) d
     sets-raises c d p =
-        risen-one net h (d .holding) k l (λ j n. lowered-le (counter h j) (counter (d .holding) j) (counter-positive net s h ok j) (p .others j n))
+        risen-one net h (d .holding) k l (λ j n. lowered-le (counter h j) (counter (d .holding) j) (counter-positive net s h ok j)
+        (p .others j n))
         ∙ ap (λ (x : ℕ). bit (ltb (counter h k) x)) (p .own)
 
     timeout-raises : Raises (bit (even (counter h k))) (timeout net s k h)
@@ -135,7 +138,8 @@ module _ (net : Network) (s : ℕ) (real : s < net .stations) (h : Holding) (ok 
   received-raises x t o =
       let k = x .link in
       let l = letter-link net x t in
-      heard-raises k l o (answer s x h) (answer-fits net s x h (slot-counter (h .condition) (isEnd net k s) (counter h k) (mark h k) (formed net s h ok .slots k l)) t)
+      heard-raises k l o (answer s x h) (answer-fits net s x h
+      (slot-counter (h .condition) (isEnd net k s) (counter h k) (mark h k) (formed net s h ok .slots k l)) t)
 
   -- what the rule counts as raised is what is higher
   pub rule-raises : (k : Kind) (b : ℕ) (x : Letter) → Names net s k b x
@@ -256,13 +260,16 @@ module _ (there : Bool) (r : Rule) where
     comes-elim P refused taken = due-elim (h .condition) (λ d. P (carried d)) (λ n z. subst⁻¹ P (refused-is n) (refused n)) taken
 
 -- refused or not, by the rule of an event: well formed after it, and what it counts as raised is what is higher
-module _ (net : Network) (s : ℕ) (h : Holding) (ok : T (holdingHolds net s h)) (there : Bool) (k : Kind) (b : ℕ) (x : Letter) (n : T there → Names net s k b x) where
+module _ (net : Network) (s : ℕ) (h : Holding) (ok : T (holdingHolds net s h)) (there : Bool) (k : Kind) (b : ℕ) (x : Letter)
+    (n : T there → Names net s k b x) where
   pub comes-keeps : Kept net s (comesTo net s there (ruleAt s k b x h) h .done)
   comes-keeps =
-      comes-elim there (ruleAt s k b x h) net s h (λ (c : Comes). Kept net s (c .done)) (λ i. unchanged-keeps net s h ok) (λ t a o. rule-keeps net s h ok k b x (n t) a)
+      comes-elim there (ruleAt s k b x h) net s h (λ (c : Comes). Kept net s (c .done)) (λ i. unchanged-keeps net s h ok)
+      (λ t a o. rule-keeps net s h ok k b x (n t) a)
 
   pub comes-raises : s < net .stations
       → let c = comesTo net s there (ruleAt s k b x h) h in risen net h (c .done .holding) ≡ c .counts .raised
   comes-raises real =
-      comes-elim there (ruleAt s k b x h) net s h (λ (c : Comes). risen net h (c .done .holding) ≡ c .counts .raised) (λ i. risen-same net h h refl)
+      comes-elim there (ruleAt s k b x h) net s h (λ (c : Comes). risen net h (c .done .holding) ≡ c .counts .raised)
+      (λ i. risen-same net h h refl)
       (λ t a o. rule-raises net s real h ok k b x (n t))

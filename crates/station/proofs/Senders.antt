@@ -1,4 +1,4 @@
--- Every letter that an act of the station s sends names s as its sender. Assumes nothing.
+-- Every letter that an act of the station s sends names s as its sender.
 use Prim.Native.Nat.{ℕ}
 use mathlib.Core.Bool.{Bool, _&&_}
 use mathlib.Core.List.{List, [], _∷_}
@@ -36,7 +36,9 @@ on-each-by s b (k ∷ ks) = and-i (eqb s s) _ (eqb-refl s) (on-each-by s b ks)
 
 tell-by : (s : ℕ) (c : ℕ → ℕ) (js ks : List ℕ) → T (sentBy s (tell s c js ks))
 tell-by s c [] ks = tt
-tell-by s c (j ∷ js) ks = every-joined (λ x. eqb (x .sender) s) (onEach s (Notice j (c j)) ks) (tell s c js ks) (on-each-by s (Notice j (c j)) ks) (tell-by s c js ks)
+tell-by s c (j ∷ js) ks =
+    every-joined (λ x. eqb (x .sender) s) (onEach s (Notice j (c j)) ks) (tell s c js ks) (on-each-by s (Notice j (c j)) ks)
+    (tell-by s c js ks)
 
 module _ (net : Network) (s : ℕ) (h : Holding) where
   abbrev By : Done → Type 0
@@ -61,18 +63,24 @@ module _ (net : Network) (s : ℕ) (h : Holding) where
 
   pub interval-by : (k : ℕ) → By (interval net s k h)
   unfolding doneBy
-  interval-by k = if-elim (λ (l : Sends). T (sentBy s (sentOf net s h (h .table) l))) (intervalTests (mark h k)) (λ t. on-each-by s Request (k ∷ [])) (λ t. tt)
+  interval-by k =
+      if-elim (λ (l : Sends). T (sentBy s (sentOf net s h (h .table) l))) (intervalTests (mark h k)) (λ t. on-each-by s Request (k ∷ []))
+      (λ t. tt)
 
   pub timeout-by : (k : ℕ) → By (timeout net s k h)
   unfolding doneBy
-  timeout-by k = if-elim (λ (a : Act). By (doneBy net s h a)) (even (counter h k)) (λ t. on-each-by s (Notice k (timedOut (counter h k))) (less k (openLinks net s h))) (λ t. tt)
+  timeout-by k =
+      if-elim (λ (a : Act). By (doneBy net s h a)) (even (counter h k))
+      (λ t. on-each-by s (Notice k (timedOut (counter h k))) (less k (openLinks net s h))) (λ t. tt)
 
   pub effect-by : (k : ℕ) (e : Effect) → By (effectOn net s k h e)
   unfolding doneBy
   effect-by k Defers = tt
   effect-by k Answers =
-      every-joined (λ x. eqb (x .sender) s) (if odd (counter h k) then tell s (counter h) (less k (known net (h .table))) (k ∷ []) else []) (letter s k (Reply (counter h k)) ∷ [])
-      (if-elim (λ (xs : List Letter). T (sentBy s xs)) (odd (counter h k)) (λ u. tell-by s (counter h) (less k (known net (h .table))) (k ∷ [])) (λ u. tt))
+      every-joined (λ x. eqb (x .sender) s) (if odd (counter h k) then tell s (counter h) (less k (known net (h .table))) (k ∷ []) else [])
+      (letter s k (Reply (counter h k)) ∷ [])
+      (if-elim (λ (xs : List Letter). T (sentBy s xs)) (odd (counter h k))
+      (λ u. tell-by s (counter h) (less k (known net (h .table))) (k ∷ [])) (λ u. tt))
       (on-each-by s (Reply (counter h k)) (k ∷ []))
   effect-by k (Heals c) = let next = replied net s k c h in tell-by s (counter next) (known net (next .table)) (openLinks net s h)
   effect-by k (Levels c) = on-each-by s (Notice k c) (openLinks net s h)

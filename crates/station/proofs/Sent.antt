@@ -1,4 +1,4 @@
--- The letters that a sending means: its words are read as lists of links, rising. Assumes nothing.
+-- The letters that a sending means: its words are read as lists of links, rising.
 use Prim.Native.Nat.{ℕ, zero, suc, _+_, _-_, _≤_, _<_}
 use mathlib.Core.Bool.{Bool, true, false, _&&_}
 use mathlib.Core.Path.{_≡_, refl, sym, ap, ap₂, _∙_}
@@ -24,7 +24,8 @@ use Rattle.station.specs.Values.{membersOf, parts, lettersOf}
 keep-from : (p q : ℕ → Bool) (n i : ℕ) → ((t : ℕ) → i ≤ t → t < i + n → p t ≡ q t) → keep p (from i n) ≡ keep q (from i n)
 keep-from p q zero i e = refl
 keep-from p q (suc n) i e =
-    ap₂ (λ (b : Bool) (l : List ℕ). if b then (i ∷ l) else l) (e i (omega arith) (omega arith)) (keep-from p q n (suc i) (λ t h l. e t (omega arith) (omega arith)))
+    ap₂ (λ (b : Bool) (l : List ℕ). if b then (i ∷ l) else l) (e i (omega arith) (omega arith))
+    (keep-from p q n (suc i) (λ t h l. e t (omega arith) (omega arith)))
 
 pub keep-same : (p q : ℕ → Bool) (n : ℕ) → ((t : ℕ) → t < n → p t ≡ q t) → keep p (below n) ≡ keep q (below n)
 keep-same p q n e = keep-from p q n 0 (λ t h l. e t (omega arith))
@@ -40,21 +41,24 @@ keep-upto : (q : ℕ → Bool) (m n i : ℕ) → m ≤ i + n → i ≤ m → kee
 keep-upto q m zero i h l = ap (λ (x : ℕ). keep q (from i x)) {x = 0} {y = m - i} (omega arith)
 keep-upto q m (suc n) i h l = go (decLt i m) (λ a b. keep-upto q m n (suc i) a b)
   where
-    go : Dec (i < m) → (m ≤ suc i + n → suc i ≤ m → keep (upTo q m) (from (suc i) n) ≡ keep q (from (suc i) (m - suc i))) → keep (upTo q m) (from i (suc n)) ≡ keep q (from i (m - i))
+    go : Dec (i < m) → (m ≤ suc i + n → suc i ≤ m → keep (upTo q m) (from (suc i) n) ≡ keep q (from (suc i) (m - suc i)))
+        → keep (upTo q m) (from i (suc n)) ≡ keep q (from i (m - i))
     go (yes g) more =
         let e : suc (m - suc i) ≡ m - i = omega arith in
         ap₂ (λ (b : Bool) (r : List ℕ). if b then (i ∷ r) else r) (ap (λ (b : Bool). b && q i) (lt-ltb i m g)) (more (omega arith) g)
         ∙ ap₂ (λ (b : Bool) (x : ℕ). keep q (from i x)) (sym (lt-ltb i m g)) e
     go (no g) more =
         let e : 0 ≡ m - i = omega arith in
-        keep-none (upTo q m) (suc n) i (λ t a b. ap (λ (x : Bool). x && q t) (le-ltb t m (omega arith))) ∙ ap (λ (x : ℕ). keep q (from i x)) e
+        keep-none (upTo q m) (suc n) i (λ t a b. ap (λ (x : Bool). x && q t) (le-ltb t m (omega arith)))
+        ∙ ap (λ (x : ℕ). keep q (from i x)) e
 
 -- the members of a word made by a test, all of them below m
 pub members-upto : (q : ℕ → Bool) (m : ℕ) → m ≤ 64 → membersOf (wordBy (upTo q m)) ≡ keep q (below m)
 unfolding membersOf
 members-upto q m h =
     let e : m - 0 ≡ m = omega arith in
-    keep-same (inWord (wordBy (upTo q m))) (upTo q m) 64 (λ t l. in-by (upTo q m) t l) ∙ keep-upto q m 64 0 (omega arith) (omega arith) ∙ ap (λ (x : ℕ). keep q (from 0 x)) e
+    keep-same (inWord (wordBy (upTo q m))) (upTo q m) 64 (λ t l. in-by (upTo q m) t l) ∙ keep-upto q m 64 0 (omega arith) (omega arith)
+    ∙ ap (λ (x : ℕ). keep q (from 0 x)) e
 
 -- the same for a word known by its bits
 pub members-by : (f q : ℕ → Bool) (m : ℕ) → m ≤ 64 → ((t : ℕ) → t < 64 → f t ≡ upTo q m t) → membersOf (wordBy f) ≡ keep q (below m)
@@ -85,23 +89,28 @@ one-from k (suc n) i a b = go (ℕ-discrete i k) (λ x y. one-from k n (suc i) x
         ap (λ (b : Bool). if b then (i ∷ keep (oneAt k) (from (suc i) n)) else keep (oneAt k) (from (suc i) n)) (one-on k i c)
         ∙ ap₂ (λ (x : ℕ) (l : List ℕ). x ∷ l) c (keep-none (oneAt k) n (suc i) (λ t g l. one-off k t (λ m. omega arith)))
     go (no c) more =
-        ap (λ (b : Bool). if b then (i ∷ keep (oneAt k) (from (suc i) n)) else keep (oneAt k) (from (suc i) n)) (one-off k i c) ∙ more (omega arith) (omega arith)
+        ap (λ (b : Bool). if b then (i ∷ keep (oneAt k) (from (suc i) n)) else keep (oneAt k) (from (suc i) n)) (one-off k i c)
+        ∙ more (omega arith) (omega arith)
 
 pub members-one : (k : ℕ) → k < 64 → membersOf (wordBy (λ t. if eqb t k then true else inWord 0 t)) ≡ k ∷ []
 unfolding oneAt membersOf
-members-one k h = keep-same (inWord (wordBy (oneAt k))) (oneAt k) 64 (λ t l. in-by (oneAt k) t l) ∙ one-from k 64 0 (omega arith) (omega arith)
+members-one k h =
+    keep-same (inWord (wordBy (oneAt k))) (oneAt k) 64 (λ t l. in-by (oneAt k) t l) ∙ one-from k 64 0 (omega arith) (omega arith)
 
 -- ---- notices depend only on the counters of their subjects
-tell-from : (s : ℕ) (c d : ℕ → ℕ) (p : ℕ → Bool) (ways : List ℕ) (n i : ℕ) → ((j : ℕ) → i ≤ j → j < i + n → c j ≡ d j) → tell s c (keep p (from i n)) ways ≡ tell s d (keep p (from i n)) ways
+tell-from : (s : ℕ) (c d : ℕ → ℕ) (p : ℕ → Bool) (ways : List ℕ) (n i : ℕ) → ((j : ℕ) → i ≤ j → j < i + n → c j ≡ d j)
+    → tell s c (keep p (from i n)) ways ≡ tell s d (keep p (from i n)) ways
 tell-from s c d p ways zero i e = refl
 tell-from s c d p ways (suc n) i e = go (p i) (tell-from s c d p ways n (suc i) (λ j h l. e j (omega arith) (omega arith)))
   where
     go : (b : Bool) → tell s c (keep p (from (suc i) n)) ways ≡ tell s d (keep p (from (suc i) n)) ways
-        → tell s c (if b then (i ∷ keep p (from (suc i) n)) else keep p (from (suc i) n)) ways ≡ tell s d (if b then (i ∷ keep p (from (suc i) n)) else keep p (from (suc i) n)) ways
+        → tell s c (if b then (i ∷ keep p (from (suc i) n)) else keep p (from (suc i) n)) ways ≡ tell s d
+        (if b then (i ∷ keep p (from (suc i) n)) else keep p (from (suc i) n)) ways
     go true r = ap₂ (λ (x : ℕ) (l : List Letter). onEach s (Notice i x) ways ++ l) (e i (omega arith) (omega arith)) r
     go false r = r
 
-pub tell-same : (s : ℕ) (c d : ℕ → ℕ) (p : ℕ → Bool) (ways : List ℕ) (n : ℕ) → ((j : ℕ) → j < n → c j ≡ d j) → tell s c (keep p (below n)) ways ≡ tell s d (keep p (below n)) ways
+pub tell-same : (s : ℕ) (c d : ℕ → ℕ) (p : ℕ → Bool) (ways : List ℕ) (n : ℕ) → ((j : ℕ) → j < n → c j ≡ d j)
+    → tell s c (keep p (below n)) ways ≡ tell s d (keep p (below n)) ways
 tell-same s c d p ways n e = tell-from s c d p ways n 0 (λ j h l. e j (omega arith))
 
 -- one subject alone
@@ -113,7 +122,8 @@ abbrev lastOf : ℕ → Sending → Bool → List Letter
 lastOf s x b = if b then (letter s (x .link) (Reply (x .reply)) ∷ []) else []
 
 module _ (s : ℕ) (told : List ℕ) (x : Sending) where
-  by-parts : (ks js ways : List ℕ) (b : Bool) → membersOf (x .requests) ≡ ks → membersOf (x .subjects) ≡ js → membersOf (x .ways) ≡ ways → x .replies ≡ b
+  by-parts : (ks js ways : List ℕ) (b : Bool) → membersOf (x .requests) ≡ ks → membersOf (x .subjects) ≡ js → membersOf (x .ways) ≡ ways
+      → x .replies ≡ b
       → lettersOf s told x ≡ parts s ks (λ j. getD told j 0) js ways (lastOf s x b)
   unfolding lettersOf
   by-parts ks js ways b p q w r =
@@ -126,13 +136,16 @@ module _ (s : ℕ) (told : List ℕ) (x : Sending) where
   sent-nothing p q r = by-parts [] [] (membersOf (x .ways)) false (ap membersOf p ∙ members-none) (ap membersOf q ∙ members-none) refl r
 
   -- requests alone
-  pub sent-requests : (ks : List ℕ) → membersOf (x .requests) ≡ ks → x .subjects ≡ 0 → x .replies ≡ false → lettersOf s told x ≡ onEach s Request ks
-  sent-requests ks p q r = by-parts ks [] (membersOf (x .ways)) false p (ap membersOf q ∙ members-none) refl r ∙ append-nil (onEach s Request ks)
+  pub sent-requests : (ks : List ℕ) → membersOf (x .requests) ≡ ks → x .subjects ≡ 0 → x .replies ≡ false
+      → lettersOf s told x ≡ onEach s Request ks
+  sent-requests ks p q r =
+      by-parts ks [] (membersOf (x .ways)) false p (ap membersOf q ∙ members-none) refl r ∙ append-nil (onEach s Request ks)
 
   -- notices alone
   pub sent-notices : (js ways : List ℕ) → x .requests ≡ 0 → membersOf (x .subjects) ≡ js → membersOf (x .ways) ≡ ways → x .replies ≡ false
       → lettersOf s told x ≡ tell s (λ j. getD told j 0) js ways
-  sent-notices js ways p q w r = by-parts [] js ways false (ap membersOf p ∙ members-none) q w r ∙ append-nil (tell s (λ j. getD told j 0) js ways)
+  sent-notices js ways p q w r =
+      by-parts [] js ways false (ap membersOf p ∙ members-none) q w r ∙ append-nil (tell s (λ j. getD told j 0) js ways)
 
   -- notices, and the reply
   pub sent-reply : (js ways : List ℕ) → x .requests ≡ 0 → membersOf (x .subjects) ≡ js → membersOf (x .ways) ≡ ways → x .replies ≡ true

@@ -1,5 +1,5 @@
 -- One link at a station: its condition, whether the link is an own one, the counter and the marks. What of its well-formedness
--- stays when the counter or the marks are set anew. A rule of marks is tested at all 32 of them by computation. Assumes nothing.
+-- stays when the counter or the marks are set anew. A rule of marks is tested at all 32 of them by computation.
 use Prim.Native.Nat.{ℕ, _+_, _%_, _≤_, max}
 use mathlib.Core.Bool.{Bool, true, false, not, _&&_, _||_}
 use mathlib.Core.Path.{_≡_, refl, subst⁻¹}
@@ -25,15 +25,18 @@ both-at p t false = and-r (p true) _ t
 
 abbrev pub allMarks : (Marks → Bool) → Bool
 allMarks p =
-    bothBool (λ a. bothBool (λ b. bothBool (λ c. bothBool (λ d. bothBool (λ e. p (record { token = a; turn = b; testing = c; asked = d; quiet = e }))))))
+    bothBool (λ a. bothBool (λ b. bothBool (λ c. bothBool
+    (λ d. bothBool (λ e. p (record { token = a; turn = b; testing = c; asked = d; quiet = e }))))))
 
 marks-at : (p : Marks → Bool) → T (allMarks p) → (m : Marks) → T (p m)
 marks-at p t m =
     both-at (λ e. p (record { token = m .token; turn = m .turn; testing = m .testing; asked = m .asked; quiet = e }))
     (both-at (λ d. bothBool (λ e. p (record { token = m .token; turn = m .turn; testing = m .testing; asked = d; quiet = e })))
     (both-at (λ c. bothBool (λ d. bothBool (λ e. p (record { token = m .token; turn = m .turn; testing = c; asked = d; quiet = e }))))
-    (both-at (λ b. bothBool (λ c. bothBool (λ d. bothBool (λ e. p (record { token = m .token; turn = b; testing = c; asked = d; quiet = e })))))
-    (both-at (λ a. bothBool (λ b. bothBool (λ c. bothBool (λ d. bothBool (λ e. p (record { token = a; turn = b; testing = c; asked = d; quiet = e }))))))
+    (both-at (λ b. bothBool (λ c. bothBool (λ d. bothBool
+    (λ e. p (record { token = m .token; turn = b; testing = c; asked = d; quiet = e })))))
+    (both-at (λ a. bothBool (λ b. bothBool (λ c. bothBool
+    (λ d. bothBool (λ e. p (record { token = a; turn = b; testing = c; asked = d; quiet = e }))))))
     t (m .token)) (m .turn)) (m .testing)) (m .asked)) (m .quiet)
 
 imp-at : (a b : Bool) → T (implies a b) → T a → T b
@@ -59,7 +62,8 @@ module _ (x : Condition) (own : Bool) (c : ℕ) (m : Marks) where
   slot-condition t = and-r (isCounter c && together m && (own || isOff m)) _ t
 
   slot-of : T (isCounter c) → T (together m) → T (own || isOff m) → T (conditionHolds x own c m) → T (slotHolds x own c m)
-  slot-of p q r s = and-i (isCounter c && together m && (own || isOff m)) _ (and-i (isCounter c && together m) _ (and-i (isCounter c) _ p q) r) s
+  slot-of p q r s =
+      and-i (isCounter c && together m && (own || isOff m)) _ (and-i (isCounter c && together m) _ (and-i (isCounter c) _ p q) r) s
 
 live-condition : (x : Condition) (own : Bool) (c : ℕ) (m : Marks) → T (isLive x) → T (conditionHolds x own c m)
 live-condition Down own c m l = absurd l
@@ -67,10 +71,12 @@ live-condition Waiting own c m l = absurd l
 live-condition Live own c m l = tt
 
 -- ---- a live station: any counter, and on an own link any marks that may stand together
-pub own-slot : (x : Condition) (own : Bool) (c : ℕ) (m : Marks) → T (isLive x) → T own → T (isCounter c) → T (together m) → T (slotHolds x own c m)
+pub own-slot : (x : Condition) (own : Bool) (c : ℕ) (m : Marks) → T (isLive x) → T own → T (isCounter c) → T (together m)
+    → T (slotHolds x own c m)
 own-slot x own c m l h p q = slot-of x own c m p q (or-left own (isOff m) h) (live-condition x own c m l)
 
-pub slot-recount : (x : Condition) (own : Bool) (c d : ℕ) (m : Marks) → T (isLive x) → T (isCounter d) → T (slotHolds x own c m) → T (slotHolds x own d m)
+pub slot-recount : (x : Condition) (own : Bool) (c d : ℕ) (m : Marks) → T (isLive x) → T (isCounter d) → T (slotHolds x own c m)
+    → T (slotHolds x own d m)
 slot-recount x own c d m l p t = slot-of x own d m p (slot-together x own c m t) (slot-foreign x own c m t) (live-condition x own d m l)
 
 -- ---- any station: a counter may be set to 1
@@ -80,7 +86,8 @@ condition-one Waiting own c m t = and-r (eqb c 1) _ t
 condition-one Live own c m t = tt
 
 pub slot-one : (x : Condition) (own : Bool) (c : ℕ) (m : Marks) → T (slotHolds x own c m) → T (slotHolds x own 1 m)
-slot-one x own c m t = slot-of x own 1 m tt (slot-together x own c m t) (slot-foreign x own c m t) (condition-one x own c m (slot-condition x own c m t))
+slot-one x own c m t =
+    slot-of x own 1 m tt (slot-together x own c m t) (slot-foreign x own c m t) (condition-one x own c m (slot-condition x own c m t))
 
 -- ---- testing or quiet stands only at a live station
 abbrev pub busy : Marks → Bool
@@ -103,16 +110,20 @@ stopped-slot true = tt
 stopped-slot false = tt
 
 -- down to waiting: token alone on each own link
-pub started-slot : (x : Condition) (own : Bool) (c : ℕ) (m : Marks) → T (isDown x) → T (slotHolds x own c m) → T (slotHolds Waiting own c (if own then setToken true noMarks else noMarks))
+pub started-slot : (x : Condition) (own : Bool) (c : ℕ) (m : Marks) → T (isDown x) → T (slotHolds x own c m)
+    → T (slotHolds Waiting own c (if own then setToken true noMarks else noMarks))
 started-slot Waiting own c m d t = absurd d
 started-slot Live own c m d t = absurd d
 started-slot Down true c m d t =
-    slot-of Waiting true c (setToken true noMarks) (slot-counter Down true c m t) tt tt (and-i (eqb c 1) _ (and-l (eqb c 1) _ (slot-condition Down true c m t)) tt)
+    slot-of Waiting true c (setToken true noMarks) (slot-counter Down true c m t) tt tt
+    (and-i (eqb c 1) _ (and-l (eqb c 1) _ (slot-condition Down true c m t)) tt)
 started-slot Down false c m d t =
-    slot-of Waiting false c noMarks (slot-counter Down false c m t) tt tt (and-i (eqb c 1) _ (and-l (eqb c 1) _ (slot-condition Down false c m t)) tt)
+    slot-of Waiting false c noMarks (slot-counter Down false c m t) tt tt
+    (and-i (eqb c 1) _ (and-l (eqb c 1) _ (slot-condition Down false c m t)) tt)
 
 -- waiting to live: an interval's work on each own link
-pub recovered-slot : (x : Condition) (own : Bool) (c : ℕ) (m : Marks) → T (isWaiting x) → T (slotHolds x own c m) → T (slotHolds Live own c (if own then intervalMarks m else m))
+pub recovered-slot : (x : Condition) (own : Bool) (c : ℕ) (m : Marks) → T (isWaiting x) → T (slotHolds x own c m)
+    → T (slotHolds Live own c (if own then intervalMarks m else m))
 recovered-slot Down own c m w t = absurd w
 recovered-slot Live own c m w t = absurd w
 recovered-slot Waiting true c m w t =
@@ -143,7 +154,8 @@ counter-healed o c t u =
 -- the larger of the two, or one more: above both, and even
 pub healed-above : (o c : ℕ) → (o ≤ healed o c) × (c ≤ healed o c)
 unfolding healed
-healed-above o c = if-elim (λ (m : ℕ). (o ≤ m) × (c ≤ m)) (even (max o c)) (λ e. (omega arith, omega arith)) (λ e. (omega arith, omega arith))
+healed-above o c =
+    if-elim (λ (m : ℕ). (o ≤ m) × (c ≤ m)) (even (max o c)) (λ e. (omega arith, omega arith)) (λ e. (omega arith, omega arith))
 
 pub healed-works : (o c : ℕ) → T (even (healed o c))
 unfolding healed

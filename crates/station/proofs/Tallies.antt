@@ -1,5 +1,5 @@
 -- What each event adds to the tally beside raised counters (Rules): a notice that is taken off the list is settled, and a letter that is
--- lost, or delivered where it is not heard, is dropped. A delivery that is not heard is as a loss in all else too. Assumes nothing.
+-- lost, or delivered where it is not heard, is dropped. A delivery that is not heard is as a loss in all else too.
 use Prim.Native.Nat.{ℕ}
 use mathlib.Core.Bool.{Bool, true, false, not, _&&_, _||_}
 use mathlib.Core.Path.{_≡_, refl, sym, ap}

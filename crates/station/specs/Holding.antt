@@ -1,5 +1,4 @@
 -- What a station holds: its condition, a counter for every link, and five marks for each link. Which of it is well formed.
--- Assumes nothing.
 use Prim.Native.Nat.{ℕ}
 use mathlib.Core.Bool.{Bool, true, false, not, _&&_, _||_}
 use mathlib.Core.List.{List, []}
@@ -78,7 +77,8 @@ implies a b = not a || b
 -- testing never stands with token, turn or quiet; token never with turn; asked only with testing
 abbrev pub together : Marks → Bool
 together m =
-    implies (m .testing) (not (m .token) && not (m .turn) && not (m .quiet)) && implies (m .token) (not (m .turn)) && implies (m .asked) (m .testing)
+    implies (m .testing) (not (m .token) && not (m .turn) && not (m .quiet)) && implies (m .token) (not (m .turn)) && implies (m .asked)
+    (m .testing)
 
 abbrev pub isOff : Marks → Bool
 isOff m = not (m .token || m .turn || m .testing || m .asked || m .quiet)

@@ -1,4 +1,4 @@
--- What the code's values mean. Assumes nothing.
+-- What the code's values mean.
 use Prim.Native.Nat.{ℕ}
 use mathlib.Core.Bool.{Bool}
 use mathlib.Core.List.{List, [], _∷_, _++_, map}

@@ -3,7 +3,7 @@
 // station_plan.
 // Inner doors: the calls are in docs/CALLS.md.
 ghost use mathlib.Core.Path.{_≡_};
-ghost use Rattle.station.specs.Holding.{isLive};
+ghost use Rattle.station.specs.Holding.{isLive, isDown, isWaiting};
 ghost use Prim.Native.Nat.{min};
 ghost use lib.ListN.{replicate};
 ghost use Rattle.station.specs.Events.{kindOf};
@@ -65,6 +65,30 @@ pub fn is_live(c: Condition) -> bool
         Condition::Down => false, // nothing is heard
         Condition::Waiting => false,
         Condition::Live => true,
+    }
+}
+
+// Whether it is down: nothing but a start moves it.
+// Promise: it is down.
+pub fn is_down(c: Condition) -> bool
+    ensures { λ r. ⌜ r ≡ isDown c ⌝ }
+{
+    match c {
+        Condition::Down => true, // only it
+        Condition::Waiting => false, // it has started
+        Condition::Live => false,
+    }
+}
+
+// Whether it waits for its recovery.
+// Promise: it is waiting.
+pub fn is_waiting(c: Condition) -> bool
+    ensures { λ r. ⌜ r ≡ isWaiting c ⌝ }
+{
+    match c {
+        Condition::Down => false, // it has not started
+        Condition::Waiting => true, // only it
+        Condition::Live => false, // it has recovered
     }
 }
 

@@ -44,7 +44,8 @@ module _ (there : Bool) (e : Kind) (own s k : ℕ) (l : Letter) (c told : ℕ) (
   lost settled n q = q ∙ ap (λ (m : ℕ). stays 0 m 1 x w) n
 
   -- whose own links do not matter in either case do not matter at all
-  own-free : (b : Bool) (d e : Due) → planOf own w d ≡ planOf 0 w d → planOf own w e ≡ planOf 0 w e → planOf 0 w (if b then d else e) ≡ planOf own w (if b then d else e)
+  own-free : (b : Bool) (d e : Due) → planOf own w d ≡ planOf 0 w d → planOf own w e ≡ planOf 0 w e
+      → planOf 0 w (if b then d else e) ≡ planOf own w (if b then d else e)
   own-free true d e p q = sym p
   own-free false d e p q = sym q
 
@@ -65,10 +66,17 @@ module _ (there : Bool) (e : Kind) (own s k : ℕ) (l : Letter) (c told : ℕ) (
   pub is-interval : r ≡ ownPlan IntervalEnd 0 k 0 x w → r ≡ eventPlan true IntervalEnd own s k l c told x w
   unfolding eventPlan dueOf
   is-interval q =
-      q ∙ own-free (not (mayEnd x (marksAt w k))) (refusing 7 x) (record { number = 0; act = intervalAct x k (marksAt w k); counts = counting 0 0 0 }) refl (go (intervalTests (marksAt w k)))
+      q ∙ own-free (not (mayEnd x (marksAt w k))) (refusing 7 x)
+      (record { number = 0; act = intervalAct x k (marksAt w k); counts = counting 0 0 0 }) refl (go (intervalTests (marksAt w k)))
     where
       asking : Bool → Due
-      asking b = record { number = 0; act = act x (onLink k intervalMarks) kept (if b then requests (theLink k) else nothing); counts = counting 0 0 0 }
+      asking b =
+          record {
+            number = 0;
+            act = act x (onLink k intervalMarks) kept (if b then requests (theLink k) else nothing);
+            counts = counting 0
+                0 0;
+          }
 
       go : (b : Bool) → planOf own w (asking b) ≡ planOf 0 w (asking b)
       go true = refl

@@ -27,7 +27,8 @@ use Rattle.station_plan.specs.Plans.{everyLink, putting, linksWord, planOf, don
 use Rattle.station_plan.specs.Comes.{eventPlan}
 
 module _ (own k c settled : ℕ) (x : Condition) (w : Words) where
-  pub answer-is : (ws : Words) (e : Bool) (rest subjects ways : ℕ) (t : Tally) → ws ≡ wordsWith w k (requestedMarks (marksAt w k)) → e ≡ even c → rest ≡ putting everyLink k false
+  pub answer-is : (ws : Words) (e : Bool) (rest subjects ways : ℕ) (t : Tally) → ws ≡ wordsWith w k (requestedMarks (marksAt w k))
+      → e ≡ even c → rest ≡ putting everyLink k false
       → subjects ≡ (if not e then rest else 0) → ways ≡ putting 0 k true → t ≡ counting settled 0 0
       → _≡_ {A = Plan} (record {
         answer = 0;
@@ -59,13 +60,17 @@ module _ (own k c settled : ℕ) (x : Condition) (w : Words) where
       told : subjects ≡ (if odd c then putting everyLink k false else 0)
       told = es ∙ ap₂ (λ (b : Bool) (n : ℕ). if not b then n else 0) ee er
 
-  pub reply-is : (raised to : ℕ) (heals : Bool) (ws : Words) (alone subjects ways : ℕ) (t : Tally) (r : Plan) → ws ≡ wordsWith w k (repliedMarks (marksAt w k)) → alone ≡ putting 0 k true
-      → subjects ≡ (if heals then everyLink else alone) → ways ≡ linksWord own w (allOwn isOpen) → t ≡ counting settled raised 0 → r ≡ tells x ws k to heals heals subjects ways t
+  pub reply-is : (raised to : ℕ) (heals : Bool) (ws : Words) (alone subjects ways : ℕ) (t : Tally) (r : Plan)
+      → ws ≡ wordsWith w k (repliedMarks (marksAt w k)) → alone ≡ putting 0 k true
+      → subjects ≡ (if heals then everyLink else alone) → ways ≡ linksWord own w (allOwn isOpen) → t ≡ counting settled raised 0
+      → r ≡ tells x ws k to heals heals subjects ways t
       → r ≡ donePlan own w (effectAct x k c (if heals then Heals to else Levels to)) (counting settled raised 0)
   reply-is raised to true ws alone subjects ways t r ew ea es ey et q = q ∙ (λ i. tells x (ew i) k to true true (es i) (ey i) (et i))
-  reply-is raised to false ws alone subjects ways t r ew ea es ey et q = q ∙ (λ i. tells x (ew i) k to false false ((es ∙ ea) i) (ey i) (et i))
+  reply-is raised to false ws alone subjects ways t r ew ea es ey et q =
+      q ∙ (λ i. tells x (ew i) k to false false ((es ∙ ea) i) (ey i) (et i))
 
-  pub take-is : (j to subjects loud ways : ℕ) (t : Tally) (r : Plan) → subjects ≡ putting 0 j true → loud ≡ linksWord own w (allOwn isOpen) → ways ≡ putting loud k false → t ≡ counting settled 1 0
+  pub take-is : (j to subjects loud ways : ℕ) (t : Tally) (r : Plan) → subjects ≡ putting 0 j true → loud ≡ linksWord own w (allOwn isOpen)
+      → ways ≡ putting loud k false → t ≡ counting settled 1 0
       → r ≡ tells x w j to false false subjects ways t → r ≡ donePlan own w (effectAct x k c (Takes j to)) (counting settled 1 0)
   take-is j to subjects loud ways t r es eo ey et q =
       q ∙ (λ i. tells x w j to false false (es i) ((ey ∙ ap (λ (n : ℕ). putting n k false) eo) i) (et i))
@@ -74,7 +79,8 @@ module _ (own k c settled : ℕ) (x : Condition) (w : Words) where
   abbrev effectPlan : ℕ → Effect → Plan
   effectPlan raised e = donePlan own w (effectAct x k c e) (counting settled raised 0)
 
-  pub by-effect : (e f : Effect) (raised : ℕ) (r : Plan) → e ≡ f → raised ≡ raisedEffect c f → r ≡ donePlan own w (effectAct x k c f) (counting settled raised 0)
+  pub by-effect : (e f : Effect) (raised : ℕ) (r : Plan) → e ≡ f → raised ≡ raisedEffect c f
+      → r ≡ donePlan own w (effectAct x k c f) (counting settled raised 0)
       → r ≡ donePlan own w (effectAct x k c e) (counting settled (raisedEffect c e) 0)
   by-effect e f raised r p n q = q ∙ ap (λ (m : ℕ). effectPlan m f) n ∙ ap (λ (y : Effect). effectPlan (raisedEffect c y) y) (sym p)
 
@@ -89,7 +95,13 @@ module _ (own k c settled : ℕ) (x : Condition) (w : Words) where
   -- the plan by the answer
   abbrev heardPlan : ℕ → Heard → Plan
   heardPlan n said =
-      planOf own w (dueOf true (record { allowed = true; over = isOver said; act = heardAct x k c said; counts = counting n (raisedBy c said) (bit (isGone said)) }) x)
+      planOf own w (dueOf true (record {
+        allowed = true;
+        over = isOver said;
+        act = heardAct x k c said;
+        counts = counting n
+            (raisedBy c said) (bit (isGone said));
+      }) x)
 
   drops-is : (said : Heard) → Drops said → dropPlan said settled x w ≡ heardPlan settled said
   unfolding dropPlan dueOf
@@ -99,7 +111,8 @@ module _ (own k c settled : ℕ) (x : Condition) (w : Words) where
   drops-is (Does e) t = absurd (⊎-elim (λ p. omega arith) (λ u. ⊎-elim (λ p. omega arith) (λ p. omega arith) u) t)
 
   -- ---- by the answer to the letter
-  module _ (s told : ℕ) (l : Letter) (said : Heard) (es : settled ≡ bit (isNotice (l .body))) (eh : said ≡ answerBy s x (marksAt w k) c told l) where
+  module _ (s told : ℕ) (l : Letter) (said : Heard) (es : settled ≡ bit (isNotice (l .body)))
+      (eh : said ≡ answerBy s x (marksAt w k) c told l) where
     by-answer : heardPlan settled said ≡ eventPlan true Delivery own s k l c told x w
     unfolding eventPlan
     by-answer = ap₂ heardPlan es eh
@@ -107,6 +120,7 @@ module _ (own k c settled : ℕ) (x : Condition) (w : Words) where
     pub letter-drops : (r : Plan) → Drops said → r ≡ dropPlan said settled x w → r ≡ eventPlan true Delivery own s k l c told x w
     letter-drops r t q = q ∙ drops-is said t ∙ by-answer
 
-    pub letter-does : (e : Effect) (r : Plan) → said ≡ Does e → r ≡ donePlan own w (effectAct x k c e) (counting settled (raisedEffect c e) 0) → r ≡ eventPlan true Delivery own s k l c told x w
+    pub letter-does : (e : Effect) (r : Plan) → said ≡ Does e
+        → r ≡ donePlan own w (effectAct x k c e) (counting settled (raisedEffect c e) 0) → r ≡ eventPlan true Delivery own s k l c told x w
     unfolding dueOf
     letter-does e r p q = q ∙ ap (heardPlan settled) (sym p) ∙ by-answer

@@ -18,13 +18,15 @@ tests-bit true false true = refl
 tests-bit true false false = refl
 tests-bit false k u = refl
 
-pub tests-are : (own : ℕ) (w : Words) (a n r : ℕ) → a ≡ wordBy (λ t. inWord own t && not (inWord (w .token) t)) → n ≡ wordBy (λ t. inWord a t && not (inWord (w .turn) t))
+pub tests-are : (own : ℕ) (w : Words) (a n r : ℕ) → a ≡ wordBy (λ t. inWord own t && not (inWord (w .token) t))
+    → n ≡ wordBy (λ t. inWord a t && not (inWord (w .turn) t))
     → r ≡ wordBy (λ t. inWord own t && not (inWord n t)) → r ≡ linksWord own w (allOwn intervalTests)
 tests-are own w a n r ea en er =
     er ∙ by-same (λ t. inWord own t && not (inWord n t)) (λ t. inWord own t && intervalTests (marksAt w t))
     (λ t h. ap (λ (b : Bool). inWord own t && not b)
     (ap (λ (x : ℕ). inWord x t) en ∙ in-by (λ t. inWord a t && not (inWord (w .turn) t)) t h
-    ∙ ap (λ (b : Bool). b && not (inWord (w .turn) t)) (ap (λ (x : ℕ). inWord x t) ea ∙ in-by (λ t. inWord own t && not (inWord (w .token) t)) t h))
+    ∙ ap (λ (b : Bool). b && not (inWord (w .turn) t))
+    (ap (λ (x : ℕ). inWord x t) ea ∙ in-by (λ t. inWord own t && not (inWord (w .token) t)) t h))
     ∙ tests-bit (inWord own t) (inWord (w .token) t) (inWord (w .turn) t))
 
 -- the five marks, told apart
@@ -39,7 +41,8 @@ token-bit true false false x a q = refl
 token-bit false true u x a q = refl
 token-bit false false u x a q = refl
 
-turn-bit : (o k u x a q : Bool) → ((u && not (o && not k)) || ((o && not k) && not u)) ≡ (if o then intervalMarks (five k u x a q) else five k u x a q) .turn
+turn-bit : (o k u x a q : Bool) → ((u && not (o && not k)) || ((o && not k) && not u)) ≡ (if o then intervalMarks (five k u x a q) else five
+    k u x a q) .turn
 unfolding five
 turn-bit true true true x a q = refl
 turn-bit true true false x a q = refl
@@ -83,15 +86,19 @@ module _ (own : ℕ) (w : Words) (fits-asked : w .asked < 2 ^ 64) (fits-quiet : 
       → back ≡ wordBy (λ t. inWord (w .turn) t && not (inWord flips t)) → forth ≡ wordBy (λ t. inWord flips t && not (inWord (w .turn) t))
       → turn ≡ wordBy (λ t. inWord back t || inWord forth t) → tests ≡ wordBy (λ t. inWord own t && intervalTests (marksAt w t))
       → testing ≡ wordBy (λ t. inWord (w .testing) t || inWord tests t) → token ≡ wordBy (λ t. inWord (w .token) t && not (inWord own t))
-      → _≡_ {A = Words} (record { token = token; turn = turn; testing = testing; asked = w .asked; quiet = w .quiet }) (marksBy own w (recoveryAct .marks))
+      → _≡_ {A = Words} (record { token = token; turn = turn; testing = testing; asked = w .asked; quiet = w .quiet })
+      (marksBy own w (recoveryAct .marks))
   unfolding five
-  words-are flips back forth turn tests testing token ef eb eo eu et ex ek = λ i. record { token = tokens i; turn = turns i; testing = tested i; asked = put-off i; quiet = silent i }
+  words-are flips back forth turn tests testing token ef eb eo eu et ex ek =
+      λ i. record { token = tokens i; turn = turns i; testing = tested i; asked = put-off i; quiet = silent i }
     where
       bit : (r t : ℕ) (f : ℕ → Bool) → t < 64 → r ≡ wordBy f → inWord r t ≡ f t
       bit r t f h e = ap (λ (x : ℕ). inWord x t) e ∙ in-by f t h
 
       tokens : token ≡ wordBy (λ t. afterFour t .token)
-      tokens = ek ∙ by-same _ (λ t. afterFour t .token) (λ t h. token-bit (inWord own t) (inWord (w .token) t) (inWord (w .turn) t) (inWord (w .testing) t) (inWord (w .asked) t) (inWord (w .quiet) t))
+      tokens =
+          ek ∙ by-same _ (λ t. afterFour t .token) (λ t h. token-bit (inWord own t) (inWord (w .token) t) (inWord (w .turn) t)
+          (inWord (w .testing) t) (inWord (w .asked) t) (inWord (w .quiet) t))
 
       turns : turn ≡ wordBy (λ t. afterFour t .turn)
       turns =
@@ -100,16 +107,24 @@ module _ (own : ℕ) (w : Words) (fits-asked : w .asked < 2 ^ 64) (fits-quiet : 
           ap₂ (λ (x y : Bool). x || y)
           (bit back t (λ t. inWord (w .turn) t && not (inWord flips t)) h eb ∙ ap (λ (b : Bool). inWord (w .turn) t && not b) f)
           (bit forth t (λ t. inWord flips t && not (inWord (w .turn) t)) h eo ∙ ap (λ (b : Bool). b && not (inWord (w .turn) t)) f)
-          ∙ turn-bit (inWord own t) (inWord (w .token) t) (inWord (w .turn) t) (inWord (w .testing) t) (inWord (w .asked) t) (inWord (w .quiet) t))
+          ∙ turn-bit (inWord own t) (inWord (w .token) t) (inWord (w .turn) t) (inWord (w .testing) t) (inWord (w .asked) t)
+          (inWord (w .quiet) t))
 
       tested : testing ≡ wordBy (λ t. afterFour t .testing)
       tested =
           ex ∙ by-same _ (λ t. afterFour t .testing) (λ t h.
           ap (λ (b : Bool). inWord (w .testing) t || b) (bit tests t (λ t. inWord own t && intervalTests (marksAt w t)) h et)
-          ∙ testing-bit (inWord own t) (inWord (w .token) t) (inWord (w .turn) t) (inWord (w .testing) t) (inWord (w .asked) t) (inWord (w .quiet) t))
+          ∙ testing-bit (inWord own t) (inWord (w .token) t) (inWord (w .turn) t) (inWord (w .testing) t) (inWord (w .asked) t)
+          (inWord (w .quiet) t))
 
       put-off : w .asked ≡ wordBy (λ t. afterFour t .asked)
-      put-off = by-ext (w .asked) (λ t. afterFour t .asked) fits-asked (λ t h. asked-bit (inWord own t) (inWord (w .token) t) (inWord (w .turn) t) (inWord (w .testing) t) (inWord (w .asked) t) (inWord (w .quiet) t))
+      put-off =
+          by-ext (w .asked) (λ t. afterFour t .asked) fits-asked
+          (λ t h. asked-bit (inWord own t) (inWord (w .token) t) (inWord (w .turn) t) (inWord (w .testing) t) (inWord (w .asked) t)
+          (inWord (w .quiet) t))
 
       silent : w .quiet ≡ wordBy (λ t. afterFour t .quiet)
-      silent = by-ext (w .quiet) (λ t. afterFour t .quiet) fits-quiet (λ t h. quiet-bit (inWord own t) (inWord (w .token) t) (inWord (w .turn) t) (inWord (w .testing) t) (inWord (w .asked) t) (inWord (w .quiet) t))
+      silent =
+          by-ext (w .quiet) (λ t. afterFour t .quiet) fits-quiet
+          (λ t h. quiet-bit (inWord own t) (inWord (w .token) t) (inWord (w .turn) t) (inWord (w .testing) t) (inWord (w .asked) t)
+          (inWord (w .quiet) t))

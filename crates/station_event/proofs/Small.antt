@@ -47,7 +47,8 @@ module _ (e : Kind) (own k c : ℕ) (x : Condition) (w : Words) where
   unfolding eventPlan dueOf
   refused r n q = rw n q
 
-  pub done : (r : Plan) → ruled .allowed ≡ true → ruled .over ≡ false → r ≡ donePlan own w (ruled .act) (ruled .counts) → r ≡ ownPlan e own k c x w
+  pub done : (r : Plan) → ruled .allowed ≡ true → ruled .over ≡ false → r ≡ donePlan own w (ruled .act) (ruled .counts)
+      → r ≡ ownPlan e own k c x w
   unfolding eventPlan dueOf
   done r y o q = rw y (rw o q)
 
@@ -69,14 +70,16 @@ module _ (own : ℕ) (fits : own < 2 ^ 64) (w : Words) where
       shows true = refl
       shows false = refl
 
-      over : (p : Marks → Bool) (b : Bool) → p (setToken true noMarks) ≡ false → p noMarks ≡ false → p (if b then setToken true noMarks else noMarks) ≡ false
+      over : (p : Marks → Bool) (b : Bool) → p (setToken true noMarks) ≡ false → p noMarks ≡ false
+          → p (if b then setToken true noMarks else noMarks) ≡ false
       over p true y z = y
       over p false y z = z
 
       none : (p : Marks → Bool) → p (setToken true noMarks) ≡ false → p noMarks ≡ false → _≡_ {A = ℕ} 0 (wordBy (λ t. p (given t)))
       none p y z = by-none (λ t. p (given t)) (λ t h. over p (inWord own t) y z)
 
-  pub start-done : (x : Condition) (r : Plan) → isDown x ≡ true → r ≡ turns Waiting (record { token = own; turn = 0; testing = 0; asked = 0; quiet = 0 }) 0 false → r ≡ ownPlan Start own 0 0 x w
+  pub start-done : (x : Condition) (r : Plan) → isDown x ≡ true
+      → r ≡ turns Waiting (record { token = own; turn = 0; testing = 0; asked = 0; quiet = 0 }) 0 false → r ≡ ownPlan Start own 0 0 x w
   start-done x r y q = done Start own 0 0 x w r y refl (q ∙ ap (λ (v : Words). turns Waiting v 0 false) started)
 
 -- ---- 2. Stop: no mark
@@ -90,7 +93,8 @@ module _ (x : Condition) (w : Words) where
   stop-done r y q = done Stop 0 0 0 x w r (ap not y) refl (q ∙ ap (λ (v : Words). turns Down v 0 true) stopped)
 
   -- ---- 3. Recovery wait ends
-  pub recovery-done : (own tests : ℕ) (ws : Words) (r : Plan) → isWaiting x ≡ true → ws ≡ marksBy own w (recoveryAct .marks) → tests ≡ linksWord own w (allOwn intervalTests)
+  pub recovery-done : (own tests : ℕ) (ws : Words) (r : Plan) → isWaiting x ≡ true → ws ≡ marksBy own w (recoveryAct .marks)
+      → tests ≡ linksWord own w (allOwn intervalTests)
       → r ≡ turns Live ws tests false → r ≡ ownPlan Recovery own 0 0 x w
   recovery-done own tests ws r y ew et q = done Recovery own 0 0 x w r y refl (q ∙ ap₂ (λ (v : Words) (n : ℕ). turns Live v n false) ew et)
 
@@ -111,11 +115,13 @@ module _ (x : Condition) (w : Words) where
           go t false = zero-is-out 0 t (none-in t)
 
       asked : (tests : Bool) → intervalTests (marksAt w k) ≡ tests
-          → turns x (wordsWith w k (intervalMarks (marksAt w k))) (putting 0 k tests) false ≡ donePlan 0 w (intervalAct x k (marksAt w k)) (counting 0 0 0)
+          → turns x (wordsWith w k (intervalMarks (marksAt w k))) (putting 0 k tests) false ≡ donePlan 0 w (intervalAct x k (marksAt w k))
+          (counting 0 0 0)
       asked true e = rw e refl
       asked false e = rw e (ap (λ (n : ℕ). turns x (wordsWith w k (intervalMarks (marksAt w k))) n false) nothing-put)
 
-      pub interval-done : (tests : Bool) (next : Marks) (ws : Words) (asks : ℕ) (r : Plan) → b ≡ true → tests ≡ intervalTests m → asks ≡ putting 0 k tests
+      pub interval-done : (tests : Bool) (next : Marks) (ws : Words) (asks : ℕ) (r : Plan) → b ≡ true → tests ≡ intervalTests m
+          → asks ≡ putting 0 k tests
           → next ≡ intervalMarks m → ws ≡ wordsWith w k next → r ≡ turns x ws asks false → r ≡ ownPlan IntervalEnd 0 k 0 x w
       interval-done tests next ws asks r v et er en ew q =
           done IntervalEnd 0 k 0 x w r (sym may ∙ v) refl
@@ -124,21 +130,25 @@ module _ (x : Condition) (w : Words) where
 
     -- ---- 5. Timeout ends
     module _ (own c : ℕ) (e : Bool) (ht : inWord (w .testing) k ≡ true) (ee : e ≡ even c) where
-      pub timeout-odd : (ws : Words) (r : Plan) → e ≡ false → ws ≡ wordsWith w k (testEnded (marksAt w k)) → r ≡ turns x ws 0 false → r ≡ ownPlan TimeoutEnd own k c x w
+      pub timeout-odd : (ws : Words) (r : Plan) → e ≡ false → ws ≡ wordsWith w k (testEnded (marksAt w k)) → r ≡ turns x ws 0 false
+          → r ≡ ownPlan TimeoutEnd own k c x w
       timeout-odd ws r v ew q =
           done TimeoutEnd own k c x w r ht refl (rw (sym ee ∙ v) (q ∙ ap (λ (a : Words). turns x a 0 false) ew))
 
-      pub timeout-even : (ws : Words) (subjects loud ways up : ℕ) (r : Plan) → e ≡ true → ws ≡ wordsWith w k (failed (marksAt w k)) → subjects ≡ putting 0 k true
+      pub timeout-even : (ws : Words) (subjects loud ways up : ℕ) (r : Plan) → e ≡ true → ws ≡ wordsWith w k (failed (marksAt w k))
+          → subjects ≡ putting 0 k true
           → loud ≡ linksWord own w (allOwn isOpen) → ways ≡ putting loud k false → up ≡ timedOut c
           → r ≡ tells x ws k up true false subjects ways (counting 0 1 0) → r ≡ ownPlan TimeoutEnd own k c x w
       timeout-even ws subjects loud ways up r v ew es eo ey eu q =
           done TimeoutEnd own k c x w r ht refl (told ∙ sym worked)
         where
-          told : r ≡ tells x (wordsWith w k (failed (marksAt w k))) k (timedOut c) true false (putting 0 k true) (putting (linksWord own w (allOwn isOpen)) k false) (counting 0 1 0)
+          told : r ≡ tells x (wordsWith w k (failed (marksAt w k))) k (timedOut c) true false (putting 0 k true)
+              (putting (linksWord own w (allOwn isOpen)) k false) (counting 0 1 0)
           told = q ∙ (λ i. tells x (ew i) k (eu i) true false (es i) ((ey ∙ ap (λ (a : ℕ). putting a k false) eo) i) (counting 0 1 0))
 
           worked : donePlan own w (timeoutAct x k c) (counting 0 (bit (even c)) 0)
-              ≡ tells x (wordsWith w k (failed (marksAt w k))) k (timedOut c) true false (putting 0 k true) (putting (linksWord own w (allOwn isOpen)) k false) (counting 0 1 0)
+              ≡ tells x (wordsWith w k (failed (marksAt w k))) k (timedOut c) true false (putting 0 k true)
+              (putting (linksWord own w (allOwn isOpen)) k false) (counting 0 1 0)
           worked = ap (λ (b : Bool). donePlan own w (byEven b) (counting 0 (bit b) 0)) (sym ee ∙ v)
             where
               byEven : Bool → Act
@@ -147,5 +157,6 @@ module _ (x : Condition) (w : Words) where
                   else act x (onLink k testEnded) kept nothing
 
     -- ---- 6. Quiet ends
-    pub quiet-done : (ws : Words) (r : Plan) → inWord (w .quiet) k ≡ true → ws ≡ wordsWith w k (setQuiet false (marksAt w k)) → r ≡ turns x ws 0 false → r ≡ ownPlan QuietEnd 0 k 0 x w
+    pub quiet-done : (ws : Words) (r : Plan) → inWord (w .quiet) k ≡ true → ws ≡ wordsWith w k (setQuiet false (marksAt w k))
+        → r ≡ turns x ws 0 false → r ≡ ownPlan QuietEnd 0 k 0 x w
     quiet-done ws r y e q = done QuietEnd 0 k 0 x w r y refl (q ∙ ap (λ (v : Words). turns x v 0 false) e)

@@ -142,26 +142,6 @@ fn tests_on(own: u64, w: Words) -> u64
 
 // ---- events 1 to 6, each by its number in document 01
 
-fn is_down(c: Condition) -> bool
-    ensures { λ r. ⌜ r ≡ isDown c ⌝ }
-{
-    match c {
-        Condition::Down => true,
-        Condition::Waiting => false,
-        Condition::Live => false,
-    }
-}
-
-fn is_waiting(c: Condition) -> bool
-    ensures { λ r. ⌜ r ≡ isWaiting c ⌝ }
-{
-    match c {
-        Condition::Down => false,
-        Condition::Waiting => true,
-        Condition::Live => false,
-    }
-}
-
 // Whether an interval may end on a link with these marks.
 fn may_end(condition: Condition, m: Marks) -> bool
     ensures { λ r. ⌜ r ≡ mayEnd condition m ⌝ }
@@ -179,7 +159,7 @@ fn may_end(condition: Condition, m: Marks) -> bool
 fn plan_start(own: u64, condition: Condition, w: Words) -> Plan
     ensures { λ r. ⌜ r ≡ ownPlan Start own 0 0 condition w ⌝ }
 {
-    if !is_down(condition) {
+    if !station::is_down(condition) {
         return crate::staying(7, 0, 0, condition, w);
     }
     let token = Words {
@@ -196,7 +176,7 @@ fn plan_start(own: u64, condition: Condition, w: Words) -> Plan
 fn plan_stop(condition: Condition, w: Words) -> Plan
     ensures { λ r. ⌜ r ≡ ownPlan Stop 0 0 0 condition w ⌝ }
 {
-    if is_down(condition) {
+    if station::is_down(condition) {
         return crate::staying(7, 0, 0, condition, w);
     }
     let none = Words {
@@ -213,7 +193,7 @@ fn plan_stop(condition: Condition, w: Words) -> Plan
 fn plan_recovery(own: u64, condition: Condition, w: Words) -> Plan
     ensures { λ r. ⌜ r ≡ ownPlan Recovery own 0 0 condition w ⌝ }
 {
-    if !is_waiting(condition) {
+    if !station::is_waiting(condition) {
         return crate::staying(7, 0, 0, condition, w);
     }
     let requests = tests_on(own, w);

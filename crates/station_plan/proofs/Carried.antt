@@ -38,7 +38,8 @@ use Rattle.station_plan.specs.Plans.{stationBy, lettersBy}
 use Rattle.station_plan.specs.Planned.{Acts}
 use Rattle.station_plan.proofs.Sets.{LinksFit, links-are, known-are, known-less, tell-known, tell-known-less}
 
-module _ (net : Net) (s : ℕ) (st : Station) (own : ℕ) (eo : own ≡ wordBy (ownAt net s)) (fit : Fit (st .marks)) (size : length (st .counters) ≡ 64) where
+module _ (net : Net) (s : ℕ) (st : Station) (own : ℕ) (eo : own ≡ wordBy (ownAt net s)) (fit : Fit (st .marks))
+    (size : length (st .counters) ≡ 64) where
   abbrev H : Holding
   H = holdingOf net st
 
@@ -91,19 +92,23 @@ module _ (net : Net) (s : ℕ) (st : Station) (own : ℕ) (eo : own ≡ wordBy (
 
   -- ---- the marks
   own-in : (t : ℕ) → t < linkCount net → inWord own t ≡ isEnd N t s
-  own-in t h = ap (λ (x : ℕ). inWord x t) eo ∙ in-by (ownAt net s) t (omega arith) ∙ ap (λ (b : Bool). b && isEnd N t s) (lt-ltb t (linkCount net) h)
+  own-in t h =
+      ap (λ (x : ℕ). inWord x t) eo ∙ in-by (ownAt net s) t (omega arith) ∙ ap (λ (b : Bool). b && isEnd N t s) (lt-ltb t (linkCount net) h)
 
   own-past : (t : ℕ) → linkCount net ≤ t → t < 64 → inWord own t ≡ false
-  own-past t h l = ap (λ (x : ℕ). inWord x t) eo ∙ in-by (ownAt net s) t l ∙ ap (λ (b : Bool). b && isEnd N t s) (le-ltb t (linkCount net) h)
+  own-past t h l =
+      ap (λ (x : ℕ). inWord x t) eo ∙ in-by (ownAt net s) t l ∙ ap (λ (b : Bool). b && isEnd N t s) (le-ltb t (linkCount net) h)
 
-  marks-are : (m : Marking) (old : Words) → MarkingFits m → MarksRoom old m → marksBy own W m ≡ laidWords (linkCount net) old (marksAfter N s H m)
+  marks-are : (m : Marking) (old : Words) → MarkingFits m → MarksRoom old m
+      → marksBy own W m ≡ laidWords (linkCount net) old (marksAfter N s H m)
   marks-are asBefore old f r =
       same-laid net st fit ∙ ap₂ (λ (w : Words) (ms : List Marks). laidWords (linkCount net) w ms) (sym r) (sym (marks-of net st))
   marks-are (onLink k g) old f r =
       ap (λ (m : Marks). wordsWith W k (g m)) (sym (mark-of net st k f)) ∙ marks-laid net st k (g (mark H k)) f
       ∙ ap₂ (λ (w : Words) (ms : List Marks). laidWords (linkCount net) w (set ms k (g (mark H k)))) (sym r) (sym (marks-of net st))
   marks-are (onEvery g) old f r =
-      words-laid (linkCount net) (omega arith) (λ t. g (inWord own t) (marksAt W t)) old (map each (below (linkCount net))) (length-map-below each (linkCount net))
+      words-laid (linkCount net) (omega arith) (λ t. g (inWord own t) (marksAt W t)) old (map each (below (linkCount net)))
+      (length-map-below each (linkCount net))
       (λ t h. getD-map-below each (linkCount net) t noMarks h ∙ ap₂ g (sym (own-in t h)) (mark-of net st t h))
       (λ t h l. r t h l ∙ ap (λ (b : Bool). g b (marksAt W t)) (sym (own-past t h l)))
       ∙ ap (λ (n : ℕ). laidWords (linkCount net) old (map each (below n))) (sym (links-of net))
@@ -127,7 +132,8 @@ module _ (net : Net) (s : ℕ) (st : Station) (own : ℕ) (eo : own ≡ wordBy (
       counters-set net st j c f ∙ ap (λ (x : List ℕ). set (tableOf net (st .counters)) j c ++ drop (linkCount net) x) (sym r)
   table-are (sets j c true) l old f r =
       ap₂ (λ (t d : List ℕ). purge N (worksIn t) s t ++ d) (table-set net st j c f) (room-set net st j c f)
-      ∙ ap (λ (x : List ℕ). purge N (worksIn (set (tableOf net (st .counters)) j c)) s (set (tableOf net (st .counters)) j c) ++ drop (linkCount net) x) (sym r)
+      ∙ ap (λ (x : List ℕ). purge N (worksIn (set (tableOf net (st .counters)) j c)) s (set (tableOf net (st .counters)) j c) ++ drop
+      (linkCount net) x) (sym r)
 
   -- ---- the letters
   told-size : (t : Tabling) → length (toldOf t) ≡ 64
@@ -148,7 +154,8 @@ module _ (net : Net) (s : ℕ) (st : Station) (own : ℕ) (eo : own ≡ wordBy (
 
     replied : (tells : Bool) (k c : ℕ) → k < linkCount net → Told (reply tells k c)
     replied true k c h =
-        sent-reply s told (narrow (reply true k c)) (less k (known N (tableOf net told))) (k ∷ []) refl (known-less net told long k) (members-one k (omega arith)) refl
+        sent-reply s told (narrow (reply true k c)) (less k (known N (tableOf net told))) (k ∷ []) refl (known-less net told long k)
+        (members-one k (omega arith)) refl
         ∙ ap (λ (l : List Letter). l ++ (letter s k (Reply c) ∷ [])) (tell-known-less net told long s k (k ∷ []))
     replied false k c h = sent-reply s told (narrow (reply false k c)) [] (k ∷ []) refl members-none (members-one k (omega arith)) refl
 
@@ -157,12 +164,14 @@ module _ (net : Net) (s : ℕ) (st : Station) (own : ℕ) (eo : own ≡ wordBy (
 
     noticed : (j c : ℕ) (ways : Links) → j < linkCount net → getD told j 0 ≡ c → LinksFit net ways → Told (notices j c ways)
     noticed j c ways h e f =
-        sent-notices s told (narrow (notices j c ways)) (j ∷ []) (linksOf N s H ways) refl (members-one j (omega arith)) (links-are net s st own eo ways f) refl
+        sent-notices s told (narrow (notices j c ways)) (j ∷ []) (linksOf N s H ways) refl (members-one j (omega arith))
+        (links-are net s st own eo ways f) refl
         ∙ tell-one s (λ i. getD told i 0) j (linksOf N s H ways) ∙ ap (λ (n : ℕ). onEach s (Notice j n) (linksOf N s H ways)) e
 
     all-told : (ways : Links) → LinksFit net ways → Told (allKnown ways)
     all-told ways f =
-        sent-notices s told (narrow (allKnown ways)) (known N (tableOf net told)) (linksOf N s H ways) refl (known-are net told long) (links-are net s st own eo ways f) refl
+        sent-notices s told (narrow (allKnown ways)) (known N (tableOf net told)) (linksOf N s H ways) refl (known-are net told long)
+        (links-are net s st own eo ways f) refl
         ∙ tell-known net told long s (linksOf N s H ways)
 
     sends-are : (t : Tabling) (l : Sends) → told ≡ toldOf t → SendsFit t l → Told l
@@ -173,38 +182,53 @@ module _ (net : Net) (s : ℕ) (st : Station) (own : ℕ) (eo : own ≡ wordBy (
     sends-are t (reply tells k c) e f = replied tells k c f
 
   -- the told table, on the holding's side
-  told-front : (t : Tabling) (l : Sends) → TablingFits t l → sentOf N s H (tableOf net (toldOf t)) l ≡ sentOf N s H (toldTable N (H .table) t) l
+  told-front : (t : Tabling) (l : Sends) → TablingFits t l
+      → sentOf N s H (tableOf net (toldOf t)) l ≡ sentOf N s H (toldTable N (H .table) t) l
   unfolding holdingOf
   told-front kept l f = refl
   told-front ones l f = ap (sentOf N s H (tableOf net (st .counters))) f ∙ sym (ap (sentOf N s H (map (λ k. 1) (linkNumbers N))) f)
   told-front (sets j c purges) l f = ap (λ (x : List ℕ). sentOf N s H x l) (table-set net st j c f)
 
   -- ---- the whole
-  pub carried-out : (d : Due) (room : Station) → d .number ≡ 0 → Fits (d .act) → MarksRoom (room .marks) (d .act .marks) → TableRoom (room .counters) (d .act .table)
+  pub carried-out : (d : Due) (room : Station) → d .number ≡ 0 → Fits (d .act) → MarksRoom (room .marks) (d .act .marks)
+      → TableRoom (room .counters) (d .act .table)
       → Acts net s st room (doneBy N s H (d .act)) (d .counts) (planOf own W d)
   unfolding doneBy stationBy lettersBy
-  carried-out d room z f m t = go (d .act .table) (f .table) t (sends-are (toldOf (d .act .table)) (told-size (d .act .table)) (d .act .table) (d .act .sends) refl (f .sends))
+  carried-out d room z f m t =
+      go (d .act .table) (f .table) t (sends-are (toldOf (d .act .table)) (told-size (d .act .table)) (d .act .table) (d .act .sends) refl
+      (f .sends))
     where
       go : (y : Tabling) → TablingFits y (d .act .sends) → TableRoom (room .counters) y → Told (toldOf y) (told-size y) (d .act .sends)
-          → Acts net s st room (doneBy N s H (record { condition = d .act .condition; marks = d .act .marks; table = y; sends = d .act .sends })) (d .counts) (tabledPlan own W d y)
+          → Acts net s st room (doneBy N s H (record {
+            condition = d .act .condition;
+            marks = d .act .marks;
+            table = y;
+            sends = d .act .sends;
+          })) (d .counts) (tabledPlan own W d y)
       go kept g r p =
           record {
             answer = z;
-            station = laid-is net room _ _ refl (table-are kept (d .act .sends) (room .counters) g r) (marks-are (d .act .marks) (room .marks) (f .marks) m);
+            station =
+                laid-is net room _ _ refl (table-are kept (d .act .sends) (room .counters) g r)
+                (marks-are (d .act .marks) (room .marks) (f .marks) m);
             sent = p ∙ told-front kept (d .act .sends) g;
             counts = refl;
           }
       go ones g r p =
           record {
             answer = z;
-            station = laid-is net room _ _ refl (table-are ones (d .act .sends) (room .counters) g r) (marks-are (d .act .marks) (room .marks) (f .marks) m);
+            station =
+                laid-is net room _ _ refl (table-are ones (d .act .sends) (room .counters) g r)
+                (marks-are (d .act .marks) (room .marks) (f .marks) m);
             sent = p ∙ told-front ones (d .act .sends) g;
             counts = refl;
           }
       go (sets j c purges) g r p =
           record {
             answer = z;
-            station = laid-is net room _ _ refl (table-are (sets j c purges) (d .act .sends) (room .counters) g r) (marks-are (d .act .marks) (room .marks) (f .marks) m);
+            station =
+                laid-is net room _ _ refl (table-are (sets j c purges) (d .act .sends) (room .counters) g r)
+                (marks-are (d .act .marks) (room .marks) (f .marks) m);
             sent = p ∙ told-front (sets j c purges) (d .act .sends) g;
             counts = refl;
           }

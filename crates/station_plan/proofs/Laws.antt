@@ -56,7 +56,8 @@ module _ (s : ℕ) (x : Condition) (m : Marks) (own told : ℕ) (l : Letter) whe
       requested true p = cc
       requested false p = cc
 
-      evens : (c n : ℕ) (a b : Bool) → (if a then Does (Heals n) else (if b then Does Equal else Does (Levels n))) ≡ Does (Takes j d) → _≡_ {A = ℕ} 0 1
+      evens : (c n : ℕ) (a b : Bool) → (if a then Does (Heals n) else (if b then Does Equal else Does (Levels n))) ≡ Does (Takes j d)
+          → _≡_ {A = ℕ} 0 1
       evens c n true b p = cc
       evens c n false true p = cc
       evens c n false false p = cc
@@ -124,7 +125,8 @@ module _ (net : Net) (s : ℕ) (st : Station) (own : ℕ) (eo : Own own net s) (
     same-rule QuietEnd m = on-link QuietEnd (m .link tt)
     same-rule Delivery m =
         on-link Delivery (m .link tt)
-        ∙ ap₂ (λ (i n : ℕ). ruleOf s i l (H .condition) (mark H i) (counter H i) n Delivery) (sym (m .letter tt)) (m .tells tt ∙ sym (counter-at (subjectOf (l .body)) (m .subject tt)))
+        ∙ ap₂ (λ (i n : ℕ). ruleOf s i l (H .condition) (mark H i) (counter H i) n Delivery) (sym (m .letter tt))
+        (m .tells tt ∙ sym (counter-at (subjectOf (l .body)) (m .subject tt)))
     same-rule Loss m = refl
 
     -- ---- the act names what is there
@@ -174,7 +176,8 @@ module _ (net : Net) (s : ℕ) (st : Station) (own : ℕ) (eo : Own own net s) (
 
     -- ---- the room under it
     abbrev Roomy : Station → Act → Type 0
-    Roomy room a = MarksRoom net s st own eo fit size (room .marks) (a .marks) × TableRoom net s st own eo fit size (room .counters) (a .table)
+    Roomy room a =
+        MarksRoom net s st own eo fit size (room .marks) (a .marks) × TableRoom net s st own eo fit size (room .counters) (a .table)
 
     effect-room : (e : Effect) → Roomy st (effectAct X k c e)
     effect-room Defers = (refl, refl)
@@ -209,13 +212,16 @@ module _ (net : Net) (s : ℕ) (st : Station) (own : ℕ) (eo : Own own net s) (
         due-elim there (ruled e) X (λ d. Planned net s st (roomOf e st) (comesOf (networkOf net) s H d) (planOf own W d))
         (λ n z. record { answer = refl; counts = refl; done = λ q. absurd (z q); refused = λ q. refl })
         (λ t a o.
-        let done = carried-out net s st own eo fit size (record { number = 0; act = ruled e .act; counts = ruled e .counts }) (roomOf e st) refl (act-fits e (m t)) (act-room e .0) (act-room e .1) in
+        let done = carried-out net s st own eo fit size (record { number = 0; act = ruled e .act; counts = ruled e .counts }) (roomOf e st)
+        refl (act-fits e (m t)) (act-room e .0) (act-room e .1) in
         record { answer = done .answer; counts = done .counts; done = λ q. done; refused = λ q. absurd (q refl) })
 
-    here-plans : (there : Bool) (e : Kind) → (T there → Meant net st e k l told) → Plans e net s k l st there (eventPlan there e own s k l c told X W)
+    here-plans : (there : Bool) (e : Kind) → (T there → Meant net st e k l told)
+        → Plans e net s k l st there (eventPlan there e own s k l c told X W)
     unfolding eventPlan comesTo holdingOf dueOf
     here-plans true e m =
-        subst (λ (r : Rule). Planned net s st (roomOf e st) (comesOf (networkOf net) s H (dueOf true r X)) (planOf own W (dueOf true (ruled e) X))) (same-rule e (m tt)) (due-plans true e m)
+        subst (λ (r : Rule). Planned net s st (roomOf e st) (comesOf (networkOf net) s H (dueOf true r X))
+        (planOf own W (dueOf true (ruled e) X))) (same-rule e (m tt)) (due-plans true e m)
     here-plans false e m = due-plans false e m
 
 pub event-plans : (own s k : ℕ) (l : Letter) (c told : ℕ) (x : Condition) (w : Words) → Fit w → (there : Bool) (e : Kind)

@@ -35,11 +35,14 @@ module _ (net : Net) where
   abbrev N : Network
   N = networkOf net
 
-  kept-links : (p q : ℕ → Bool) → ((j : ℕ) → j < linkCount net → p j ≡ q j) → membersOf (wordBy (upTo p (linkCount net))) ≡ keep q (linkNumbers N)
-  kept-links p q e = members-upto p (linkCount net) (omega arith) ∙ keep-same p q (linkCount net) e ∙ ap (λ (n : ℕ). keep q (below n)) (sym (links-of net))
+  kept-links : (p q : ℕ → Bool) → ((j : ℕ) → j < linkCount net → p j ≡ q j)
+      → membersOf (wordBy (upTo p (linkCount net))) ≡ keep q (linkNumbers N)
+  kept-links p q e =
+      members-upto p (linkCount net) (omega arith) ∙ keep-same p q (linkCount net) e ∙ ap (λ (n : ℕ). keep q (below n)) (sym (links-of net))
 
   -- a set without k, where the set is that of a test
-  word-less : (p : ℕ → Bool) (v k : ℕ) → v ≡ wordBy (upTo p (linkCount net)) → putting v k false ≡ wordBy (upTo (λ j. p j && not (eqb j k)) (linkCount net))
+  word-less : (p : ℕ → Bool) (v k : ℕ) → v ≡ wordBy (upTo p (linkCount net))
+      → putting v k false ≡ wordBy (upTo (λ j. p j && not (eqb j k)) (linkCount net))
   word-less p v k e =
       by-same (λ t. if eqb t k then false else inWord v t) (upTo (λ j. p j && not (eqb j k)) (linkCount net))
       (λ t h. ap (λ (b : Bool). if eqb t k then false else b) (ap (λ (x : ℕ). inWord x t) e ∙ in-by (upTo p (linkCount net)) t h)
@@ -78,7 +81,8 @@ module _ (net : Net) where
     links-are (theLink k) h = members-one k (omega arith)
     links-are (allOwn test) h =
         ap membersOf (own-word test)
-        ∙ kept-links (ownAs test) (λ j. isEnd N j s && test (mark H j)) (λ j l. ap (λ (m : Marks). isEnd N j s && test m) (sym (mark-of net st j l)))
+        ∙ kept-links (ownAs test) (λ j. isEnd N j s && test (mark H j))
+        (λ j l. ap (λ (m : Marks). isEnd N j s && test m) (sym (mark-of net st j l)))
     links-are (otherOwn k test) h =
         ap membersOf (word-less (ownAs test) (linksWord own (st .marks) (allOwn test)) k (own-word test))
         ∙ kept-links (λ j. ownAs test j && not (eqb j k)) (λ j. (isEnd N j s && test (mark H j)) && not (eqb j k))
@@ -105,10 +109,12 @@ module _ (net : Net) where
         ∙ kept-links (λ j. ltb 1 (getD told j 0)) (λ j. ltb 1 (counterIn table j)) (λ j l. ap (ltb 1) (counter-is j l))
 
     -- but one
-    pub known-less : (k : ℕ) → membersOf (wordBy (λ j. inWord (putting everyLink k false) j && knownIn (linkCount net) told j)) ≡ less k (known N table)
+    pub known-less : (k : ℕ) → membersOf (wordBy (λ j. inWord (putting everyLink k false) j && knownIn (linkCount net) told j)) ≡ less k
+        (known N table)
     unfolding known
     known-less k =
-        ap membersOf (by-same (λ j. inWord (putting everyLink k false) j && knownIn (linkCount net) told j) (upTo (λ j. ltb 1 (getD told j 0) && not (eqb j k)) (linkCount net)) same)
+        ap membersOf (by-same (λ j. inWord (putting everyLink k false) j && knownIn (linkCount net) told j)
+        (upTo (λ j. ltb 1 (getD told j 0) && not (eqb j k)) (linkCount net)) same)
         ∙ kept-links (λ j. ltb 1 (getD told j 0) && not (eqb j k)) (λ j. ltb 1 (counterIn table j) && not (eqb j k))
         (λ j l. ap (λ (n : ℕ). ltb 1 n && not (eqb j k)) (counter-is j l))
         ∙ sym (keep-keep (λ j. ltb 1 (counterIn table j)) (λ j. not (eqb j k)) (linkNumbers N))
@@ -121,24 +127,28 @@ module _ (net : Net) where
         cases false b true = refl
         cases false b false = refl
 
-        same : (t : ℕ) → t < 64 → (inWord (putting everyLink k false) t && knownIn (linkCount net) told t) ≡ upTo (λ j. ltb 1 (getD told j 0) && not (eqb j k)) (linkCount net) t
+        same : (t : ℕ) → t < 64 → (inWord (putting everyLink k false) t && knownIn (linkCount net) told t) ≡ upTo
+            (λ j. ltb 1 (getD told j 0) && not (eqb j k)) (linkCount net) t
         same t l =
             ap (λ (b : Bool). b && knownIn (linkCount net) told t)
             (in-by (λ t. if eqb t k then false else inWord everyLink t) t l ∙ ap (λ (b : Bool). if eqb t k then false else b) (all-in t l))
             ∙ cases (ltb t (linkCount net)) (ltb 1 (getD told t 0)) (eqb t k)
 
     -- notices of known links depend only on the counters of the links that are there
-    pub tell-known : (s : ℕ) (ways : List ℕ) → tell s (λ j. getD told j 0) (known N table) ways ≡ tell s (counterIn table) (known N table) ways
+    pub tell-known : (s : ℕ) (ways : List ℕ) → tell s (λ j. getD told j 0) (known N table) ways ≡ tell s (counterIn table) (known N table)
+        ways
     unfolding known
     tell-known s ways =
         tell-same s (λ j. getD told j 0) (counterIn table) (λ j. ltb 1 (counterIn table j)) ways (length (N .links))
         (λ j l. counter-is j (subst (λ (n : ℕ). j < n) (links-of net) l))
 
-    pub tell-known-less : (s k : ℕ) (ways : List ℕ) → tell s (λ j. getD told j 0) (less k (known N table)) ways ≡ tell s (counterIn table) (less k (known N table)) ways
+    pub tell-known-less : (s k : ℕ) (ways : List ℕ)
+        → tell s (λ j. getD told j 0) (less k (known N table)) ways ≡ tell s (counterIn table) (less k (known N table)) ways
     unfolding known
     tell-known-less s k ways =
         let q : ℕ → Bool = λ j. ltb 1 (counterIn table j) && not (eqb j k) in
         let e = keep-keep (λ j. ltb 1 (counterIn table j)) (λ j. not (eqb j k)) (linkNumbers N) in
         ap (λ (l : List ℕ). tell s (λ j. getD told j 0) l ways) e
-        ∙ tell-same s (λ j. getD told j 0) (counterIn table) q ways (length (N .links)) (λ j l. counter-is j (subst (λ (n : ℕ). j < n) (links-of net) l))
+        ∙ tell-same s (λ j. getD told j 0) (counterIn table) q ways (length (N .links))
+        (λ j l. counter-is j (subst (λ (n : ℕ). j < n) (links-of net) l))
         ∙ ap (λ (l : List ℕ). tell s (counterIn table) l ways) (sym e)

@@ -43,10 +43,25 @@ module _ (n : ℕ) (table : List ℕ) (x : Sending) where
   narrow-not knows e = sym (ap (λ (b : Bool). narrowed b n table x) e)
 
   pub narrow-is : (knows : Bool) (known unknown subjects : ℕ) → knows ≡ true → known ≡ wordBy (knownIn n table)
-      → unknown ≡ wordBy (λ t. inWord (x .subjects) t && not (inWord known t)) → subjects ≡ wordBy (λ t. inWord (x .subjects) t && not (inWord unknown t))
-      → _≡_ {A = Sending} (record { requests = x .requests; subjects = subjects; ways = x .ways; replies = x .replies; reply = x .reply; link = x .link }) (narrowed knows n table x)
+      → unknown ≡ wordBy (λ t. inWord (x .subjects) t && not (inWord known t))
+      → subjects ≡ wordBy (λ t. inWord (x .subjects) t && not (inWord unknown t))
+      → _≡_ {A = Sending} (record {
+        requests = x .requests;
+        subjects = subjects;
+        ways = x .ways;
+        replies = x .replies;
+        reply = x .reply;
+        link = x .link;
+      }) (narrowed knows n table x)
   narrow-is knows known unknown subjects e k u s =
-      ap (λ (w : ℕ). record { requests = x .requests; subjects = w; ways = x .ways; replies = x .replies; reply = x .reply; link = x .link })
+      ap (λ (w : ℕ). record {
+        requests = x .requests;
+        subjects = w;
+        ways = x .ways;
+        replies = x .replies;
+        reply = x .reply;
+        link = x .link;
+      })
       (s ∙ by-same (λ t. inWord (x .subjects) t && not (inWord unknown t)) (λ t. inWord (x .subjects) t && knownIn n table t) same)
       ∙ sym (ap (λ (b : Bool). narrowed b n table x) e)
     where

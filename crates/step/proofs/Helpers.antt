@@ -1,4 +1,4 @@
--- What the small steps of the code answer, return by return. Assumes nothing.
+-- What the small steps of the code answer, return by return.
 use Prim.Native.Nat.{ℕ, _+_, _-_, _≤_, _<_}
 use mathlib.Core.Bool.{Bool, true, false, not}
 use mathlib.Core.Path.{_≡_, refl, sym, ap, _∙_, subst⁻¹}
@@ -9,7 +9,7 @@ use Rattle.lists.specs.Lists.{if_then_else_}
 use Rattle.lists.proofs.Tests.{if-elim}
 use Rattle.net.specs.declared.Letter.{Letter}
 use Rattle.world.specs.World.{noLetter}
-use Rattle.step.specs.Concerned.{inRoom}
+use Rattle.sets.specs.Rooms.{inRoom}
 use Rattle.step.specs.Parts.{placeBy, fewerBy, numberBy}
 
 pub place-there : (a : ℕ) → a < 4096 → a ≡ placeBy a

@@ -40,7 +40,7 @@ use Rattle.world.proofs.Keeps.{Formed, Posted, meant-posted, concerned-real, na
 use Rattle.state.specs.declared.State.{State}
 use Rattle.state.specs.State.{stationIn, letterIn, worldOf, stateHolds, Sized}
 use Rattle.state.proofs.Meaning as M
-use Rattle.step.specs.Concerned.{inRoom}
+use Rattle.sets.specs.Rooms.{inRoom}
 use Rattle.step_rules.specs.Step.{event}
 use Rattle.step.specs.Parts.{placeBy}
 
@@ -58,7 +58,8 @@ link-few net s Delivery b x n t = letter-link net x (n .0)
 link-few net s Loss b x n t = absurd t
 
 -- and only that link matters to its rule
-rule-link : (s : ℕ) (e : Kind) (k b : ℕ) (x : Letter) (h : Holding) → (T (onLink e) → k ≡ linkOf e b x) → ruleAt s e k x h ≡ ruleAt s e b x h
+rule-link : (s : ℕ) (e : Kind) (k b : ℕ) (x : Letter) (h : Holding) → (T (onLink e) → k ≡ linkOf e b x)
+    → ruleAt s e k x h ≡ ruleAt s e b x h
 rule-link s NoSuch k b x h f = refl
 rule-link s Start k b x h f = refl
 rule-link s Stop k b x h f = refl
@@ -85,143 +86,145 @@ pub record Seen (s : State) (kind a b place me : ℕ) (named : Bool) (k about ow
   pub link : k ≡ linkOf (kindOf kind) b (letterIn s place) % 64
   pub subject : about ≡ subjectOf (letterIn s place .body) % 64
   pub mine : own ≡ wordBy (ownAt (s .net) me)
-  pub plans : EventPlans named (kindOf kind) own me k (letterIn s place) (getD (stationIn s me .counters) k 0) (getD (stationIn s me .counters) about 0)
+  pub plans : EventPlans named (kindOf kind) own me k (letterIn s place) (getD (stationIn s me .counters) k 0)
+      (getD (stationIn s me .counters) about 0)
       (stationIn s me .condition) (stationIn s me .marks) p
 
-module _ {s : State} {kind a b place me : ℕ} {named : Bool} {k about own : ℕ} {p : Plan} (f : Seen s kind a b place me named k about own p) where
-  abbrev pub w : World
-  w = worldOf s
+module _ {s : State} {kind a b place me : ℕ} {named : Bool} {k about own : ℕ} {p : Plan} (f : Seen s kind a b place me named k about own p)
+  where
+    abbrev pub w : World
+    w = worldOf s
 
-  abbrev pub E : Event
-  E = event kind a b
+    abbrev pub E : Event
+    E = event kind a b
 
-  abbrev pub K : Kind
-  K = kindOf kind
+    abbrev pub K : Kind
+    K = kindOf kind
 
-  abbrev pub st : Station
-  st = stationIn s me
+    abbrev pub st : Station
+    st = stationIn s me
 
-  abbrev x : Letter
-  x = letterIn s place
+    abbrev x : Letter
+    x = letterIn s place
 
-  abbrev H : Holding
-  H = holdingOf (s .net) st
+    abbrev H : Holding
+    H = holdingOf (s .net) st
 
-  pub ok : Formed w
-  ok = M.world-formed s (f .sized) (f .holds)
+    pub ok : Formed w
+    ok = M.world-formed s (f .sized) (f .holds)
 
-  net-is : w .net ≡ networkOf (s .net)
-  net-is = M.net-is s (f .sized) (f .holds)
+    net-is : w .net ≡ networkOf (s .net)
+    net-is = M.net-is s (f .sized) (f .holds)
 
-  links-are : length (w .net .links) ≡ linkCount (s .net)
-  links-are = ap (λ (n : Network). length (n .links)) net-is ∙ links-of (s .net)
+    links-are : length (w .net .links) ≡ linkCount (s .net)
+    links-are = ap (λ (n : Network). length (n .links)) net-is ∙ links-of (s .net)
 
-  stations-are : (w .net .stations ≡ s .net .stations) × (s .net .stations ≤ 32)
-  stations-are = (ap (λ (n : Network). n .stations) net-is ∙ M.count-is s (f .sized) (f .holds), M.few s (f .sized) (f .holds))
+    stations-are : (w .net .stations ≡ s .net .stations) × (s .net .stations ≤ 32)
+    stations-are = (ap (λ (n : Network). n .stations) net-is ∙ M.count-is s (f .sized) (f .holds), M.few s (f .sized) (f .holds))
 
-  named-is : named ≡ exists w E
-  unfolding exists
-  named-is = f .names ∙ ap₂ (λ (n : Network) (m : ℕ). existsAs K n m a b) (sym net-is) (sym (M.world-flying s (f .sized) (f .holds)))
+    named-is : named ≡ exists w E
+    unfolding exists
+    named-is = f .names ∙ ap₂ (λ (n : Network) (m : ℕ). existsAs K n m a b) (sym net-is) (sym (M.world-flying s (f .sized) (f .holds)))
 
-  -- ---- where there is what the event names
-  module _ (q : T (exists w E)) where
-    pub few-a : a < 4096
-    few-a = go (takesLetter K) refl
+    -- ---- where there is what the event names
+    module _ (q : T (exists w E)) where
+      pub few-a : a < 4096
+      few-a = go (takesLetter K) refl
+        where
+          go : (t : Bool) → takesLetter K ≡ t → a < 4096
+          go true e = omega (arith, letter-there w E (subst⁻¹ T e tt) q, ok .room)
+          go false e = omega (arith, station-there w E (subst⁻¹ (λ (t : Bool). T (not t)) e tt) q, stations-are .0, stations-are .1)
+
+      pub place-is : place ≡ a
+      place-is = f .at ∙ ap (λ (c : Bool). if c then a else 0) (lt-ltb a 4096 few-a)
+
+      pub letter-is : x ≡ letterAt w a
+      letter-is = ap (letterIn s) place-is ∙ go (decLt a (s .flying))
+        where
+          go : Dec (a < s .flying) → letterIn s a ≡ letterAt w a
+          go (yes l) = sym (M.world-letter s (f .sized) (f .holds) a l)
+          go (no l) =
+              M.letter-unused s (f .sized) (f .holds) a (omega arith) few-a
+              ∙ sym (List·getD-eq-default (w .letters) noLetter {n = a} (omega (arith, M.world-flying s (f .sized) (f .holds), l)))
+
+      pub me-is : me ≡ concerned w E
+      unfolding concerned
+      me-is =
+          f .who ∙ ap₂ (λ (n : Network) (l : Letter). inRoom (concernedBy K n a l)) (sym net-is) letter-is
+          ∙ ap (λ (c : Bool). if c then concernedBy K (w .net) a (letterAt w a) else 0)
+          (lt-ltb (concernedBy K (w .net) a (letterAt w a)) 32 (omega (arith, concerned-real w ok E q, stations-are .0, stations-are .1)))
+
+      pub me-real : me < s .net .stations
+      me-real = omega (arith, me-is, concerned-real w ok E q, stations-are .0)
+
+      held-is : H ≡ holdingAt w (concerned w E)
+      held-is = sym (M.world-holding s (f .sized) (f .holds) me me-real) ∙ ap (holdingAt w) me-is
+
+      -- ---- the link and the subject
+      mod-few : (n : ℕ) → n < length (w .net .links) → n % 64 ≡ n
+      mod-few n h = mod-eq-of-lt (omega (arith, h, links-are))
+
+      link-there : T (onLink K) → linkOf K b x < length (w .net .links)
+      link-there t =
+          subst⁻¹ (λ (l : Letter). linkOf K b l < length (w .net .links)) letter-is
+          (link-few (w .net) (concerned w E) K b (letterAt w a) (names w ok E q) t)
+
+      link-is : T (onLink K) → k ≡ linkOf K b x
+      link-is t = f .link ∙ mod-few (linkOf K b x) (link-there t)
+
+      posted : T (takesLetter K) → Posted w x
+      posted t = subst⁻¹ (Posted w) letter-is (meant-posted w ok E q t)
+
+      meant : Meant (s .net) st K k x (getD (st .counters) about 0)
+      meant = record {
+        link = λ t. omega (arith, link-is t, link-there t, links-are);
+        letter = λ t.
+            sym (f .link ∙ ap (λ (c : Bool). (if c then x .link else b) % 64) (T-is (takesLetter K) t) ∙ mod-few (x .link) (posted t .link));
+        subject = λ t. omega (arith, subject-there t, links-are);
+        tells = λ t. ap (λ (i : ℕ). getD (st .counters) i 0) (f .subject ∙ mod-few (subjectOf (x .body)) (subject-there t));
+      }
+        where
+          subject-there : T (takesLetter K) → subjectOf (x .body) < length (w .net .links)
+          subject-there t = let o = posted t .link in subject-few (w .net) (x .body) (posted t .body) (omega arith)
+
+      -- ---- what it comes to
+      rule-is : ruleAt me K k x H ≡ rule w E
+      unfolding rule
+      rule-is =
+          rule-link me K k b x H link-is
+          ∙ ap (λ (i : ℕ). ruleAt i K b x H) me-is
+          ∙ ap₂ (λ (l : Letter) (h : Holding). ruleAt (concerned w E) K b l h) letter-is held-is
+
+      comes-is : comesTo (networkOf (s .net)) me named (ruleAt me K k x H) H ≡ comes w E
+      unfolding comes
+      comes-is =
+          ap (λ (c : Bool). comesTo (networkOf (s .net)) me c (ruleAt me K k x H) H) named-is
+          ∙ ap₂ (λ (n : Network) (i : ℕ). comesTo n i (exists w E) (ruleAt me K k x H) H) (sym net-is) me-is
+          ∙ ap₂ (λ (r : Rule) (h : Holding). comesTo (w .net) (concerned w E) (exists w E) r h) rule-is held-is
+
+    -- ---- the plan is the world's
+    planned : (i : me < 32) → Planned (s .net) me st (roomOf K st) (comesTo (networkOf (s .net)) me named (ruleAt me K k x H) H) p
+    planned i =
+        f .plans (s .net) st (record { condition = refl; words = refl; size = f .sized .each me i .counters }) (f .mine) refl
+        (λ t. meant (subst T named-is t))
+
+    abbrev six : Comes → ℕ
+    six c = c .number
+
+    pub number-is : me < 32 → p .answer ≡ comes w E .number
+    unfolding comesTo dueOf
+    number-is i = go (exists w E) refl
       where
-        go : (t : Bool) → takesLetter K ≡ t → a < 4096
-        go true e = omega (arith, letter-there w E (subst⁻¹ T e tt) q, ok .room)
-        go false e = omega (arith, station-there w E (subst⁻¹ (λ (t : Bool). T (not t)) e tt) q, stations-are .0, stations-are .1)
+        go : (c : Bool) → exists w E ≡ c → p .answer ≡ comes w E .number
+        go true e = planned i .answer ∙ ap (λ (y : Comes). y .number) (comes-is (is-T _ e))
+        go false e =
+            planned i .answer ∙ ap (λ (c : Bool). comesTo (networkOf (s .net)) me c (ruleAt me K k x H) H .number) (named-is ∙ e)
+            ∙ sym (ap (λ (y : Comes). y .number) (absent-six w E (subst⁻¹ (λ (t : Bool). T (not t)) e tt)))
 
-    pub place-is : place ≡ a
-    place-is = f .at ∙ ap (λ (c : Bool). if c then a else 0) (lt-ltb a 4096 few-a)
+    -- where the plan refuses nothing
+    module _ (i : me < 32) (z : comes w E .number ≡ 0) where
+      pub there : T (exists w E)
+      there = passes w E z .exists
 
-    pub letter-is : x ≡ letterAt w a
-    letter-is = ap (letterIn s) place-is ∙ go (decLt a (s .flying))
-      where
-        go : Dec (a < s .flying) → letterIn s a ≡ letterAt w a
-        go (yes l) = sym (M.world-letter s (f .sized) (f .holds) a l)
-        go (no l) =
-            M.letter-unused s (f .sized) (f .holds) a (omega arith) few-a
-            ∙ sym (List·getD-eq-default (w .letters) noLetter {n = a} (omega (arith, M.world-flying s (f .sized) (f .holds), l)))
-
-    pub me-is : me ≡ concerned w E
-    unfolding concerned
-    me-is =
-        f .who ∙ ap₂ (λ (n : Network) (l : Letter). inRoom (concernedBy K n a l)) (sym net-is) letter-is
-        ∙ ap (λ (c : Bool). if c then concernedBy K (w .net) a (letterAt w a) else 0)
-        (lt-ltb (concernedBy K (w .net) a (letterAt w a)) 32 (omega (arith, concerned-real w ok E q, stations-are .0, stations-are .1)))
-
-    pub me-real : me < s .net .stations
-    me-real = omega (arith, me-is, concerned-real w ok E q, stations-are .0)
-
-    held-is : H ≡ holdingAt w (concerned w E)
-    held-is = sym (M.world-holding s (f .sized) (f .holds) me me-real) ∙ ap (holdingAt w) me-is
-
-    -- ---- the link and the subject
-    mod-few : (n : ℕ) → n < length (w .net .links) → n % 64 ≡ n
-    mod-few n h = mod-eq-of-lt (omega (arith, h, links-are))
-
-    link-there : T (onLink K) → linkOf K b x < length (w .net .links)
-    link-there t =
-        subst⁻¹ (λ (l : Letter). linkOf K b l < length (w .net .links)) letter-is
-        (link-few (w .net) (concerned w E) K b (letterAt w a) (names w ok E q) t)
-
-    link-is : T (onLink K) → k ≡ linkOf K b x
-    link-is t = f .link ∙ mod-few (linkOf K b x) (link-there t)
-
-    posted : T (takesLetter K) → Posted w x
-    posted t = subst⁻¹ (Posted w) letter-is (meant-posted w ok E q t)
-
-    meant : Meant (s .net) st K k x (getD (st .counters) about 0)
-    meant = record {
-      link = λ t. omega (arith, link-is t, link-there t, links-are);
-      letter = λ t.
-          sym (f .link ∙ ap (λ (c : Bool). (if c then x .link else b) % 64) (T-is (takesLetter K) t) ∙ mod-few (x .link) (posted t .link));
-      subject = λ t. omega (arith, subject-there t, links-are);
-      tells = λ t. ap (λ (i : ℕ). getD (st .counters) i 0) (f .subject ∙ mod-few (subjectOf (x .body)) (subject-there t));
-    }
-      where
-        subject-there : T (takesLetter K) → subjectOf (x .body) < length (w .net .links)
-        subject-there t = let o = posted t .link in subject-few (w .net) (x .body) (posted t .body) (omega arith)
-
-    -- ---- what it comes to
-    rule-is : ruleAt me K k x H ≡ rule w E
-    unfolding rule
-    rule-is =
-        rule-link me K k b x H link-is
-        ∙ ap (λ (i : ℕ). ruleAt i K b x H) me-is
-        ∙ ap₂ (λ (l : Letter) (h : Holding). ruleAt (concerned w E) K b l h) letter-is held-is
-
-    comes-is : comesTo (networkOf (s .net)) me named (ruleAt me K k x H) H ≡ comes w E
-    unfolding comes
-    comes-is =
-        ap (λ (c : Bool). comesTo (networkOf (s .net)) me c (ruleAt me K k x H) H) named-is
-        ∙ ap₂ (λ (n : Network) (i : ℕ). comesTo n i (exists w E) (ruleAt me K k x H) H) (sym net-is) me-is
-        ∙ ap₂ (λ (r : Rule) (h : Holding). comesTo (w .net) (concerned w E) (exists w E) r h) rule-is held-is
-
-  -- ---- the plan is the world's
-  planned : (i : me < 32) → Planned (s .net) me st (roomOf K st) (comesTo (networkOf (s .net)) me named (ruleAt me K k x H) H) p
-  planned i =
-      f .plans (s .net) st (record { condition = refl; words = refl; size = f .sized .each me i .counters }) (f .mine) refl
-      (λ t. meant (subst T named-is t))
-
-  abbrev six : Comes → ℕ
-  six c = c .number
-
-  pub number-is : me < 32 → p .answer ≡ comes w E .number
-  unfolding comesTo dueOf
-  number-is i = go (exists w E) refl
-    where
-      go : (c : Bool) → exists w E ≡ c → p .answer ≡ comes w E .number
-      go true e = planned i .answer ∙ ap (λ (y : Comes). y .number) (comes-is (is-T _ e))
-      go false e =
-          planned i .answer ∙ ap (λ (c : Bool). comesTo (networkOf (s .net)) me c (ruleAt me K k x H) H .number) (named-is ∙ e)
-          ∙ sym (ap (λ (y : Comes). y .number) (absent-six w E (subst⁻¹ (λ (t : Bool). T (not t)) e tt)))
-
-  -- where the plan refuses nothing
-  module _ (i : me < 32) (z : comes w E .number ≡ 0) where
-    pub there : T (exists w E)
-    there = passes w E z .exists
-
-    pub acts : Acts (s .net) me st (roomOf K st) (comes w E .done) (comes w E .counts) p
-    acts = subst (λ (y : Comes). Planned (s .net) me st (roomOf K st) y p) (comes-is there) (planned i) .done z
+      pub acts : Acts (s .net) me st (roomOf K st) (comes w E .done) (comes w E .counts) p
+      acts = subst (λ (y : Comes). Planned (s .net) me st (roomOf K st) y p) (comes-is there) (planned i) .done z

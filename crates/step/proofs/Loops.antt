@@ -1,4 +1,4 @@
--- What stays between the turns of the two loops: they change the letters' room and nothing else. Assumes nothing.
+-- What stays between the turns of the two loops: they change the letters' room and nothing else.
 use Prim.Native.Nat.{ℕ, _+_, _≤_, _<_}
 use mathlib.Core.Path.{_≡_, refl, sym, ap, _∙_}
 use mathlib.Core.List.{List}

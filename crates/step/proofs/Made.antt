@@ -60,7 +60,8 @@ module _ (s : State) (kind a b : ℕ) where
   good-number t = ap (λ (c : Bool). if c then refusal (worldOf s) e else 11) (T-is (stateHolds s) t)
 
   pub refused-event : T (stateHolds s) → (n : ℕ) → n ≡ refusal (worldOf s) e → (n ≡ 0 → ⊥) → refusing n s ≡ steppedOf s kind a b
-  refused-event t n q h = sym (ap (λ (c : Bool). if c then accepting s e else refusing n s) (ne-eqb n 0 h)) ∙ by-number n (good-number t ∙ sym q)
+  refused-event t n q h =
+      sym (ap (λ (c : Bool). if c then accepting s e else refusing n s) (ne-eqb n 0 h)) ∙ by-number n (good-number t ∙ sym q)
 
   pub accepted-event : T (stateHolds s) → refusal (worldOf s) e ≡ 0 → accepting s e ≡ steppedOf s kind a b
   accepted-event t q = by-number 0 (good-number t ∙ q)
@@ -92,11 +93,13 @@ module _ (xs : List Letter) (few : length xs ≤ 4096) where
       ≡ roomed 4096 noLetter (if t then without a xs else xs)
   closed-as true a place last f g =
       let h = f refl in
-      ap (λ (i : ℕ). set (closing i room last) last noLetter) (h .0) ∙ roomed-less 4096 noLetter xs a last (h .1) few (omega (arith, h .1, g))
+      ap (λ (i : ℕ). set (closing i room last) last noLetter) (h .0)
+      ∙ roomed-less 4096 noLetter xs a last (h .1) few (omega (arith, h .1, g))
   closed-as false a place last f g =
       ap (λ (l : List Letter). set l place (getD room place noLetter)) (closing-none last room) ∙ set-getD room place noLetter
 
-left-count : (t : Bool) (a : ℕ) (xs : List Letter) → (t ≡ true → a < length xs) → length (if t then without a xs else xs) ≡ fewerBy t (length xs)
+left-count : (t : Bool) (a : ℕ) (xs : List Letter) → (t ≡ true → a < length xs)
+    → length (if t then without a xs else xs) ≡ fewerBy t (length xs)
 left-count true a xs h = omega (arith, length-without a xs (h refl))
 left-count false a xs h = refl
 
@@ -104,7 +107,8 @@ left-count false a xs h = refl
 pub posted-none : (ls new : List Letter) → roomed 4096 noLetter ls ≡ roomed 4096 noLetter (ls ++ take 0 new)
 posted-none ls new = ap (roomed 4096 noLetter) (sym (append-nil ls))
 
-pub posted-more : (ls new : List Letter) (k at : ℕ) (y : Letter) → length ls + length new ≤ 4096 → k < length new → at ≡ length ls + k → y ≡ getD new k noLetter
+pub posted-more : (ls new : List Letter) (k at : ℕ) (y : Letter) → length ls + length new ≤ 4096 → k < length new → at ≡ length ls + k
+    → y ≡ getD new k noLetter
     → set (roomed 4096 noLetter (ls ++ take k new)) at y ≡ roomed 4096 noLetter (ls ++ take (k + 1) new)
 posted-more ls new k at y few h p q =
     let n : length (take k new) ≡ k = length-take-le k new (omega arith) in
@@ -116,7 +120,8 @@ posted-more ls new k at y few h p q =
     ∙ ap (λ (l : List Letter). ls ++ l) (sym (take-suc new k noLetter h) ∙ ap (λ (i : ℕ). take i new) (sym (add-one k))))
 
 -- ---- what the code knows when it has its answer
-pub record Facts (s : State) (kind a b place me : ℕ) (named : Bool) (k about own : ℕ) (p : Plan) (told : List ℕ) (send : Sending) (count left answer : ℕ)
+pub record Facts (s : State) (kind a b place me : ℕ) (named : Bool) (k about own : ℕ) (p : Plan) (told : List ℕ) (send : Sending)
+    (count left answer : ℕ)
     (leaves : Bool) : Type 0 where
   pub seen : Seen s kind a b place me named k about own p
   pub within : me < 32
@@ -127,7 +132,8 @@ pub record Facts (s : State) (kind a b place me : ℕ) (named : Bool) (k about o
   pub stays : left ≡ fewerBy leaves (s .flying)
   pub says : answer ≡ numberBy (p .answer) left count
 
-module _ {s : State} {kind a b place me : ℕ} {named : Bool} {k about own : ℕ} {p : Plan} {told : List ℕ} {send : Sending} {count left₀ answer : ℕ} {leaves : Bool}
+module _ {s : State} {kind a b place me : ℕ} {named : Bool} {k about own : ℕ} {p : Plan} {told : List ℕ} {send : Sending}
+    {count left₀ answer : ℕ} {leaves : Bool}
     (f : Facts s kind a b place me named k about own p told send count left₀ answer leaves) where
   abbrev w : World
   w = worldOf s
@@ -171,12 +177,15 @@ module _ {s : State} {kind a b place me : ℕ} {named : Bool} {k about own : ℕ
         ∙ ap {B = ℕ} (λ (c : Bool). if c then 0 else 9)
         (ap₂ (λ (m n : ℕ). leb (m + n) 4096) (sym left-length₀) count-is ∙ sym (fits-is w E))
       where
-        by : Dec (4096 < left₀ + count) → _≡_ {A = ℕ} (if ltb 4096 (left₀ + count) then 9 else 0) (if leb (left₀ + count) 4096 then 0 else 9)
+        by : Dec (4096 < left₀ + count) → _≡_ {A = ℕ} (if ltb 4096 (left₀ + count) then 9 else 0)
+            (if leb (left₀ + count) 4096 then 0 else 9)
         by (yes d) =
-            ap {B = ℕ} (λ (c : Bool). if c then 9 else 0) (lt-ltb 4096 (left₀ + count) d) ∙ sym (ap {B = ℕ} (λ (c : Bool). if c then 0 else 9) (lt-leb (left₀ + count) 4096 d))
+            ap {B = ℕ} (λ (c : Bool). if c then 9 else 0) (lt-ltb 4096 (left₀ + count) d)
+            ∙ sym (ap {B = ℕ} (λ (c : Bool). if c then 0 else 9) (lt-leb (left₀ + count) 4096 d))
         by (no d) =
             let g : left₀ + count ≤ 4096 = omega arith in
-            ap {B = ℕ} (λ (c : Bool). if c then 9 else 0) (le-ltb 4096 (left₀ + count) g) ∙ sym (ap {B = ℕ} (λ (c : Bool). if c then 0 else 9) (le-leb (left₀ + count) 4096 g))
+            ap {B = ℕ} (λ (c : Bool). if c then 9 else 0) (le-ltb 4096 (left₀ + count) g)
+            ∙ sym (ap {B = ℕ} (λ (c : Bool). if c then 0 else 9) (le-leb (left₀ + count) 4096 g))
 
   planned : p .answer ≡ comes w E .number
   planned = K.number-is (f .seen) (f .within)
@@ -228,7 +237,8 @@ module _ {s : State} {kind a b place me : ℕ} {named : Bool} {k about own : ℕ
     few-after = go (decLt 4096 (left₀ + count))
       where
         nine : 4096 < left₀ + count → answer ≡ 9
-        nine d = by-plan true (eq-eqb (p .answer) 0 none-planned) ∙ ap {B = ℕ} (λ (c : Bool). if c then 9 else 0) (lt-ltb 4096 (left₀ + count) d)
+        nine d =
+            by-plan true (eq-eqb (p .answer) 0 none-planned) ∙ ap {B = ℕ} (λ (c : Bool). if c then 9 else 0) (lt-ltb 4096 (left₀ + count) d)
 
         go : Dec (4096 < left₀ + count) → left₀ + count ≤ 4096
         go (yes d) = absurd (let n = nine d in omega (arith, n, q))
@@ -247,12 +257,14 @@ module _ {s : State} {kind a b place me : ℕ} {named : Bool} {k about own : ℕ
     abbrev pub stored : List ℕ → Station
     stored kept = record { condition = p .condition; counters = kept; marks = p .marks }
 
-    station-is : (kept : List ℕ) → kept ≡ keptBy (s .net) me (p .resets) (p .purges) told → stored kept ≡ laid (s .net) blank (comes w E .done .holding)
+    station-is : (kept : List ℕ) → kept ≡ keptBy (s .net) me (p .resets) (p .purges) told
+        → stored kept ≡ laid (s .net) blank (comes w E .done .holding)
     unfolding stationBy
     station-is kept e =
         ap stored (e ∙ ap (keptBy (s .net) me (p .resets) (p .purges)) (f .tells))
         ∙ K.acts (f .seen) (f .within) z₀ .station
-        ∙ room-spare (s .net) (kindOf kind) st (comes w E .done .holding) (M.station-spare s (f .seen .sized) (f .seen .holds) me (K.me-real (f .seen) named₀))
+        ∙ room-spare (s .net) (kindOf kind) st (comes w E .done .holding)
+        (M.station-spare s (f .seen .sized) (f .seen .holds) me (K.me-real (f .seen) named₀))
 
     pub stations-set : (kept : List ℕ) → kept ≡ keptBy (s .net) me (p .resets) (p .purges) told
         → set (s .stations) me (stored kept) ≡ roomed 32 blank (map (laid (s .net) blank) (after w E .holdings))
@@ -261,29 +273,41 @@ module _ {s : State} {kind a b place me : ℕ} {named : Bool} {k about own : ℕ
         ap₂ (λ (l : List Station) (x : Station). set l me x) old-stations (station-is kept e)
         ∙ roomed-set 32 blank (map (laid (s .net) blank) (w .holdings)) me (laid (s .net) blank (comes w E .done .holding)) there-laid
         ∙ ap (roomed 32 blank) (map-set (laid (s .net) blank) (w .holdings) me (comes w E .done .holding))
-        ∙ ap (λ (i : ℕ). roomed 32 blank (map (laid (s .net) blank) (set (w .holdings) i (comes w E .done .holding)))) (K.me-is (f .seen) named₀)
+        ∙ ap (λ (i : ℕ). roomed 32 blank (map (laid (s .net) blank) (set (w .holdings) i (comes w E .done .holding))))
+        (K.me-is (f .seen) named₀)
       where
         there-laid : me < length (map (laid (s .net) blank) (w .holdings))
         there-laid =
-            omega (arith, K.me-real (f .seen) named₀, length-map (w .holdings) (laid (s .net) blank), M.world-holdings s (f .seen .sized) (f .seen .holds))
+            omega (
+              arith,
+              K.me-real (f .seen) named₀,
+              length-map (w .holdings) (laid (s .net) blank),
+              M.world-holdings s (f .seen .sized)
+                  (f .seen .holds),
+            )
 
     -- ---- the letters
-    pub closed-up : (from last free : ℕ) (unused : Letter) → last ≡ left₀ → from ≡ (if leaves then place else last) → free ≡ (if leaves then last else place)
-        → unused ≡ (if leaves then noLetter else letterIn s place) → set (closing from (s .letters) last) free unused ≡ roomed 4096 noLetter leftLetters
+    pub closed-up : (from last free : ℕ) (unused : Letter) → last ≡ left₀ → from ≡ (if leaves then place else last)
+        → free ≡ (if leaves then last else place)
+        → unused ≡ (if leaves then noLetter else letterIn s place)
+        → set (closing from (s .letters) last) free unused ≡ roomed 4096 noLetter leftLetters
     unfolding left
     closed-up from last free unused l x y u =
         ap₂ (λ (i : ℕ) (v : Letter). set (closing i (s .letters) last) free v) x u
-        ∙ ap₂ (λ (j : ℕ) (r : List Letter). set (closing (if leaves then place else last) r last) j (if leaves then noLetter else getD r place noLetter)) y old-letters
+        ∙ ap₂ (λ (j : ℕ) (r : List Letter). set (closing (if leaves then place else last) r last) j
+        (if leaves then noLetter else getD r place noLetter)) y old-letters
         ∙ closed-as (w .letters) (K.ok (f .seen) .room) leaves a place last
         (λ t. (K.place-is (f .seen) named₀, taken-there z₀ (sym (f .goes) ∙ t)))
         (l ∙ f .stays ∙ ap (fewerBy leaves) (sym flying-is))
         ∙ ap (λ (c : Bool). roomed 4096 noLetter (if c then without a (w .letters) else w .letters)) (f .goes)
 
     -- a loop that closes up stays within the room
-    pub closes-within : (from last : ℕ) → last ≡ left₀ → from ≡ (if leaves then place else last) → (from ≤ last) × (from < last → last < 4096)
+    pub closes-within : (from last : ℕ) → last ≡ left₀ → from ≡ (if leaves then place else last)
+        → (from ≤ last) × (from < last → last < 4096)
     closes-within from last l x = go leaves (f .goes) x (f .stays)
       where
-        go : (c : Bool) → c ≡ takesLetter (kindOf kind) → from ≡ (if c then place else last) → left₀ ≡ fewerBy c (s .flying) → (from ≤ last) × (from < last → last < 4096)
+        go : (c : Bool) → c ≡ takesLetter (kindOf kind) → from ≡ (if c then place else last) → left₀ ≡ fewerBy c (s .flying)
+            → (from ≤ last) × (from < last → last < 4096)
         go true g x y =
             let i = K.place-is (f .seen) named₀ in
             let j = taken-there z₀ (sym g) in
@@ -304,12 +328,18 @@ module _ {s : State} {kind a b place me : ℕ} {named : Bool} {k about own : ℕ
     pub made : (net : Net) (stations : List Station) (letters : List Letter) (flying : ℕ) (kept : List ℕ) → net ≡ s .net
         → kept ≡ keptBy (s .net) me (p .resets) (p .purges) told → stations ≡ set (s .stations) me (stored kept)
         → letters ≡ roomed 4096 noLetter (leftLetters ++ newLetters) → flying ≡ left₀ + count
-        → _≡_ {A = Stepped} (record { answer = 0; counts = p .counts; state = record { net = net; flying = flying; stations = stations; letters = letters } })
+        → _≡_ {A = Stepped} (record {
+          answer = 0;
+          counts = p .counts;
+          state = record
+              { net = net; flying = flying; stations = stations; letters = letters };
+        })
         (steppedOf s kind a b)
     unfolding stateOf after
     made net stations letters flying kept c k x y v =
         let t : p .counts ≡ comes w E .counts = K.acts (f .seen) (f .within) z₀ .counts in
-        let n : flying ≡ length (leftLetters ++ newLetters) = v ∙ ap₂ (λ (i j : ℕ). i + j) (sym left-length) (sym new-length) ∙ sym (length-append leftLetters newLetters) in
+        let n : flying ≡ length (leftLetters ++ newLetters) = v ∙ ap₂ (λ (i j : ℕ). i + j) (sym left-length) (sym new-length)
+        ∙ sym (length-append leftLetters newLetters) in
         let g = x ∙ stations-set kept k in
         (λ i. record { answer = 0; counts = t i; state = record { net = c i; flying = n i; stations = g i; letters = y i } })
         ∙ accepted-event s kind a b (f .seen .holds) none-refused

@@ -15,7 +15,7 @@ use Rattle.net.proofs.ValueLaws.{links-of}
 use Rattle.station.specs.declared.Kind.{Kind}
 use Rattle.station.specs.Events.{takesLetter, linkOf}
 use Rattle.world.specs.World.{isLinkAt, receiverIn, concernedBy}
-use Rattle.step.specs.Concerned.{inRoom}
+use Rattle.sets.specs.Rooms.{inRoom}
 
 -- ---- a link's ends
 module _ (net : Net) (k : ℕ) where

@@ -1,4 +1,4 @@
--- What the private steps of the code answer. Assumes nothing.
+-- What the private steps of the code answer.
 use Prim.Native.Nat.{ℕ, _+_, _-_}
 use mathlib.Core.Bool.{Bool}
 use lib.Dec.{eqb, ltb}

@@ -13,7 +13,7 @@ ghost use Rattle.net.specs.Network.{ends};
 ghost use Rattle.net.specs.Values.{networkOf};
 ghost use Rattle.station.specs.Acts.{subjectOf};
 ghost use Rattle.station.specs.Events.{takesLetter, linkOf};
-ghost use Rattle.step.specs.Concerned.{inRoom};
+ghost use Rattle.sets.specs.Rooms.{inRoom};
 use net::Body;
 use net::Letter;
 use net::Net;
@@ -36,13 +36,6 @@ fn at_most_32(x: u8) -> u8
     ensures { λ r. ⌜ r ≡ min x 32 ⌝ }
 {
     if x < 32 { x } else { 32 }
-}
-
-// A station's number that may be read in a room of 32; any other becomes 0.
-fn in_room(a: u32) -> u8
-    ensures { λ r. ⌜ r ≡ inRoom a ⌝ }
-{
-    if a < 32 { a as u8 } else { 0 }
 }
 
 // A link that is not there has the ends 0 and 0.
@@ -94,9 +87,9 @@ fn concerned(net: Net, kind: Kind, a: u32, letter: Letter) -> u8
 {
     if takes_letter(kind) {
         let to = receiver(net, letter);
-        return in_room(to as u32);
+        return sets::in_room(to as u32);
     }
-    in_room(a)
+    sets::in_room(a)
 }
 
 // The link that an event is about, for a room of 64: that of the letter, or b.

@@ -1,5 +1,5 @@
 -- A run of calls that are lent a tally: the tally after it is the one lent, with the history's counts of notices settled, counters
--- raised and letters dropped added, each staying at its largest value. Assumes nothing.
+-- raised and letters dropped added, each staying at its largest value.
 use Prim.Native.Nat.{ℕ}
 use mathlib.Core.Bool.{Bool}
 use mathlib.Core.Path.{_≡_, refl, ap, _∙_, subst⁻¹}
@@ -40,7 +40,8 @@ LentCalls = C.LentCalls worldOf Lent
 abbrev by-number : ℕ → Tally → Tally → Tally
 by-number n c x = if eqb n 0 then tallied x c else x
 
-step-tallies : (w : World) (e : Event) (x : Tally) → by-number (World.numberOf (step w e)) (countsOf w e) x ≡ tallyBy (step w e) x (acceptedCounts w e)
+step-tallies : (w : World) (e : Event) (x : Tally)
+    → by-number (World.numberOf (step w e)) (countsOf w e) x ≡ tallyBy (step w e) x (acceptedCounts w e)
 step-tallies w e x = go (ℕ-discrete (refusal w e) 0)
   where
     Goal : Outcome → Type 0
@@ -53,7 +54,8 @@ step-tallies w e x = go (ℕ-discrete (refusal w e) 0)
     go (yes q) = subst⁻¹ Goal (step-accepts w e q) refl
     go (no z) = subst⁻¹ Goal (step-refuses w e (refusal w e) refl z) (kept (refusal w e) z)
 
-pub one-lent : (s : State) (x : Tally) (e : Event) (t : State) (y : Tally) → Good s → Lent s x e t y → C.IsLentStep worldOf Lent Good s x e t y
+pub one-lent : (s : State) (x : Tally) (e : Event) (t : State) (y : Tally) → Good s → Lent s x e t y
+    → C.IsLentStep worldOf Lent Good s x e t y
 one-lent s x e t y g c =
     let i = is-step s (e .kind) (e .a) (e .b) g in
     let q : t ≡ steppedOf s (e .kind) (e .a) (e .b) .state = c .state ∙ ap (λ (r : Stepped). r .state) (c .promised) in

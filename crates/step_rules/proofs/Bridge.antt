@@ -1,4 +1,4 @@
--- The step of the code is the world's step of what the state means: through the bridge, for every state and event. Assumes nothing.
+-- The step of the code is the world's step of what the state means: through the bridge, for every state and event.
 use Prim.Native.Nat.{ℕ}
 use mathlib.Core.Bool.{Bool, false}
 use mathlib.Core.Path.{_≡_, refl, sym, ap, _∙_, subst⁻¹}
@@ -49,20 +49,24 @@ module _ (s : State) (kind a b : ℕ) where
   pub bad-refused : stateHolds s ≡ false → steppedOf s kind a b ≡ refusing 11 s
   unfolding steppedOf numberOf
   bad-refused q =
-      ap (λ (c : Bool). if eqb (if c then refusal (worldOf s) e else 11) 0 then accepting s e else refusing (if c then refusal (worldOf s) e else 11) s) q
+      ap (λ (c : Bool). if eqb (if c then refusal (worldOf s) e else 11) 0 then accepting s e else refusing
+      (if c then refusal (worldOf s) e else 11) s) q
 
   module _ (g : Good s) where
     by-refusal : steppedOf s kind a b ≡ (if eqb (refusal (worldOf s) e) 0 then accepting s e else refusing (refusal (worldOf s) e) s)
     unfolding steppedOf numberOf
     by-refusal =
-        ap (λ (c : Bool). if eqb (if c then refusal (worldOf s) e else 11) 0 then accepting s e else refusing (if c then refusal (worldOf s) e else 11) s)
+        ap (λ (c : Bool). if eqb (if c then refusal (worldOf s) e else 11) 0 then accepting s e else refusing
+        (if c then refusal (worldOf s) e else 11) s)
         (T-is (stateHolds s) (g .holds))
 
     refused-is : (refusal (worldOf s) e ≡ 0 → ⊥) → steppedOf s kind a b ≡ refusing (refusal (worldOf s) e) s
-    refused-is n = by-refusal ∙ ap (λ (c : Bool). if c then accepting s e else refusing (refusal (worldOf s) e) s) (ne-eqb (refusal (worldOf s) e) 0 n)
+    refused-is n =
+        by-refusal ∙ ap (λ (c : Bool). if c then accepting s e else refusing (refusal (worldOf s) e) s) (ne-eqb (refusal (worldOf s) e) 0 n)
 
     accepted-is : refusal (worldOf s) e ≡ 0 → steppedOf s kind a b ≡ accepting s e
-    accepted-is q = by-refusal ∙ ap (λ (c : Bool). if c then accepting s e else refusing (refusal (worldOf s) e) s) (eq-eqb (refusal (worldOf s) e) 0 q)
+    accepted-is q =
+        by-refusal ∙ ap (λ (c : Bool). if c then accepting s e else refusing (refusal (worldOf s) e) s) (eq-eqb (refusal (worldOf s) e) 0 q)
 
     -- ---- refused: the same state, nothing counted
     refusing-step : (refusal (worldOf s) e ≡ 0 → ⊥) → IsStep s e (refusing (refusal (worldOf s) e) s)
@@ -88,7 +92,12 @@ module _ (s : State) (kind a b : ℕ) where
         record {
           number = sym (ap W.numberOf o);
           world = laid-means (s .net) (after (worldOf s) e) n m f ∙ sym (ap (orElse (worldOf s)) o);
-          good = record { sized = laid-sized (s .net) (after (worldOf s) e) n m f (g .sized .ends); holds = laid-holds (s .net) (after (worldOf s) e) n m f };
+          good =
+              record {
+                sized = laid-sized (s .net) (after (worldOf s) e) n m f (g .sized .ends);
+                holds = laid-holds (s .net)
+                    (after (worldOf s) e) n m f;
+              };
           refused-same = λ z. absurd (z refl);
           counts = counts-are (worldOf s) u e there ∙ sym (ap (λ (x : Outcome). countsBy x (worldOf s) e) o);
         }

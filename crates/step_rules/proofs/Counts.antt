@@ -1,4 +1,4 @@
--- What a step's counts do to a tally: where the step says no they are zeros, and the tally is as it was. Assumes nothing.
+-- What a step's counts do to a tally: where the step says no they are zeros, and the tally is as it was.
 use Prim.Native.Nat.{ℕ, _<_, _^_}
 use mathlib.Core.Path.{_≡_, refl, _∙_}
 use mathlib.Core.Bool.{Bool, true, false}
@@ -20,7 +20,13 @@ pub record Fits (t : Tally) : Type 0 where
   pub dropped : t .dropped < 2 ^ 64
 
 nothing-more : (t : Tally) → Fits t → tallied t noCounts ≡ t
-nothing-more t f = λ i. record { settled = same (t .settled) (f .settled) i; raised = same (t .raised) (f .raised) i; dropped = same (t .dropped) (f .dropped) i }
+nothing-more t f =
+    λ i. record {
+      settled = same (t .settled) (f .settled) i;
+      raised = same (t .raised) (f .raised) i;
+      dropped = same (t .dropped)
+          (f .dropped) i;
+    }
   where
     same : (c : ℕ) → c < 2 ^ 64 → counted c 0 ≡ c
     same c h = omega arith
@@ -40,8 +46,10 @@ either-way false t f = nothing-more t f
 step-adds : (t : Tally) → Fits t → (s : State) (kind a b : ℕ) → Adds t (steppedOf s kind a b)
 unfolding steppedOf
 step-adds t f s kind a b =
-    either (eqb (numberOf s (event kind a b)) 0) t (accepting s (event kind a b)) (refusing (numberOf s (event kind a b)) s) refl (either-way (eqb (numberOf s (event kind a b)) 0) t f)
+    either (eqb (numberOf s (event kind a b)) 0) t (accepting s (event kind a b)) (refusing (numberOf s (event kind a b)) s) refl
+    (either-way (eqb (numberOf s (event kind a b)) 0) t f)
 
 -- a tally to which the counts of the step's answer were added
-pub added-by : (t : Tally) → Fits t → (s : State) (kind a b : ℕ) (r : Stepped) → r ≡ steppedOf s kind a b → (t′ : Tally) → t′ ≡ tallied t (r .counts) → t′ ≡ talliedBy (steppedOf s kind a b) t
+pub added-by : (t : Tally) → Fits t → (s : State) (kind a b : ℕ) (r : Stepped) → r ≡ steppedOf s kind a b → (t′ : Tally)
+    → t′ ≡ tallied t (r .counts) → t′ ≡ talliedBy (steppedOf s kind a b) t
 added-by t f s kind a b r e t′ e′ = e′ ∙ ((λ i. tallied t (e i .counts)) ∙ step-adds t f s kind a b)

@@ -1,4 +1,4 @@
--- The tally after a step that is lent one: an accepted event is added to it, a refused one leaves it untouched. Assumes nothing.
+-- The tally after a step that is lent one: an accepted event is added to it, a refused one leaves it untouched.
 use lib.Dec.{eqb}
 use Rattle.lists.specs.Lists.{if_then_else_}
 use Rattle.tally.specs.declared.Tally.{Tally}

@@ -23,4 +23,5 @@ unfoldable pub numberOf : State → Event → ℕ
 numberOf s e = if stateHolds s then refusal (worldOf s) e else 11
 
 unfoldable pub steppedOf : State → ℕ → ℕ → ℕ → Stepped
-steppedOf s kind a b = if eqb (numberOf s (event kind a b)) 0 then accepting s (event kind a b) else refusing (numberOf s (event kind a b)) s
+steppedOf s kind a b =
+    if eqb (numberOf s (event kind a b)) 0 then accepting s (event kind a b) else refusing (numberOf s (event kind a b)) s

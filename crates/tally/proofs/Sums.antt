@@ -1,4 +1,4 @@
--- Laws of counts that stay at their largest value. Assumes nothing.
+-- Laws of counts that stay at their largest value.
 use Prim.Native.Nat.{ℕ, _+_, _≤_}
 use mathlib.Core.Path.{_≡_}
 use native.Mathlib.Omega.{arith}

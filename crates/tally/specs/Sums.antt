@@ -1,4 +1,4 @@
--- Counts of 64 bits that stay at their largest value once there, and the tally after a step. Assumes nothing.
+-- Counts of 64 bits that stay at their largest value once there, and the tally after a step.
 use Prim.Native.Nat.{ℕ, _+_, _-_, _^_, min}
 use Rattle.tally.specs.declared.Tally.{Tally}
 

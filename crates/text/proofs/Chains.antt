@@ -1,5 +1,4 @@
 -- For callers: texts put one after the other are the joined text put at once, and the last answer says whether all of it fits.
--- Assumes nothing.
 use Prim.Native.Nat.{ℕ, _+_, _≤_}
 use mathlib.Core.Path.{_≡_, refl, sym, ap, ap₂, _∙_}
 use mathlib.Core.List.{List, [], _++_, append-assoc}
@@ -27,7 +26,8 @@ chain-none from old h =
     }
 
 -- the answer says whether it fits
-pub chain-fits : (text : List ℕ) (from : ℕ) (old : List ℕ) (at : ℕ) (out : List ℕ) → Chain text from old at out → at ≤ length old → from + length text ≤ length old
+pub chain-fits : (text : List ℕ) (from : ℕ) (old : List ℕ) (at : ℕ) (out : List ℕ) → Chain text from old at out → at ≤ length old
+    → from + length text ≤ length old
 chain-fits text from old at out c l = go (decLe (from + length text) (length old))
   where
     go : Dec (from + length text ≤ length old) → from + length text ≤ length old
@@ -41,7 +41,8 @@ module _ (xs ys : List ℕ) (from : ℕ) (old : List ℕ) (at : ℕ) (out : List
   -- where all of it fits
   joined : from + length (xs ++ ys) ≤ length old → putAt ys (from + length xs) (putAt xs from old) ≡ putAt (xs ++ ys) from old
   joined h =
-      let front : length (take from old ++ xs) ≡ from + length xs = length-append (take from old) xs ∙ ap (λ (n : ℕ). n + length xs) (length-take-le from old (omega (arith, whole))) in
+      let front : length (take from old ++ xs) ≡ from + length xs = length-append (take from old) xs
+      ∙ ap (λ (n : ℕ). n + length xs) (length-take-le from old (omega (arith, whole))) in
       let first : putAt xs from old ≡ (take from old ++ xs) ++ drop (from + length xs) old = put-fits xs from old (omega (arith, whole)) in
       let ends : from + length xs + length ys ≡ from + length (xs ++ ys) = omega (arith, whole) in
       let back : drop (from + length xs + length ys) (putAt xs from old) ≡ drop (from + length (xs ++ ys)) old =
@@ -50,7 +51,8 @@ module _ (xs ys : List ℕ) (from : ℕ) (old : List ℕ) (at : ℕ) (out : List
       ∙ ap (drop (length ys)) (drop-at (take from old ++ xs) (drop (from + length xs) old) (from + length xs) front)
       ∙ drop-drop (length ys) (from + length xs) old ∙ ap (λ (n : ℕ). drop n old) ends in
       put-fits ys (from + length xs) (putAt xs from old) (omega (arith, whole, length-put xs from old))
-      ∙ ap₂ (λ (x y : List ℕ). x ++ ys ++ y) (ap (take (from + length xs)) first ∙ take-at (take from old ++ xs) (drop (from + length xs) old) (from + length xs) front) back
+      ∙ ap₂ (λ (x y : List ℕ). x ++ ys ++ y) (ap (take (from + length xs)) first
+      ∙ take-at (take from old ++ xs) (drop (from + length xs) old) (from + length xs) front) back
       ∙ ap (λ (x : List ℕ). x ++ drop (from + length (xs ++ ys)) old) (append-assoc (take from old) xs ys)
       ∙ sym (put-fits (xs ++ ys) from old h)
 
@@ -58,7 +60,8 @@ module _ (xs ys : List ℕ) (from : ℕ) (old : List ℕ) (at : ℕ) (out : List
   pub chain-more : Chain (xs ++ ys) from old (placeAfter ys at out) (putAt ys at out)
   chain-more = go (decLe (from + length xs) (length old)) (decLe (from + length (xs ++ ys)) (length old))
     where
-      go : Dec (from + length xs ≤ length old) → Dec (from + length (xs ++ ys) ≤ length old) → Chain (xs ++ ys) from old (placeAfter ys at out) (putAt ys at out)
+      go : Dec (from + length xs ≤ length old) → Dec (from + length (xs ++ ys) ≤ length old)
+          → Chain (xs ++ ys) from old (placeAfter ys at out) (putAt ys at out)
       go (yes h) (yes l) =
           let here : at ≡ from + length xs = c .place ∙ place-fits xs from old h in
           record {
@@ -84,7 +87,8 @@ module _ (xs ys : List ℕ) (from : ℕ) (old : List ℕ) (at : ℕ) (out : List
           }
 
 -- the same with what a call promises of its answer and of the output
-pub chain-next : {xs : List ℕ} {from : ℕ} {old : List ℕ} {at : ℕ} {out : List ℕ} (ys : List ℕ) {r : ℕ} {next : List ℕ} → Chain xs from old at out
+pub chain-next : {xs : List ℕ} {from : ℕ} {old : List ℕ} {at : ℕ} {out : List ℕ} (ys : List ℕ) {r : ℕ} {next : List ℕ}
+    → Chain xs from old at out
     → (r ≡ placeAfter ys at out) × (next ≡ putAt ys at out) → Chain (xs ++ ys) from old r next
 chain-next {xs} {from} {old} {at} {out} ys c p =
     let w = chain-more xs ys from old at out c in

@@ -1,5 +1,5 @@
 -- Laws of numbers in decimal: their text reads back to the number, is made of digits, has no leading zero, and is not longer than
--- the number allows. Assumes nothing.
+-- the number allows.
 use Prim.Native.Nat.{ℕ, zero, suc, _+_, _-_, _*_, _/_, _%_, _^_, _≤_, _<_}
 use mathlib.Core.Bool.{true}
 use mathlib.Core.Path.{_≡_, refl, sym, ap, _∙_, subst}
@@ -78,7 +78,8 @@ pub all-digits : (n : ℕ) → every isDigit (digits n) ≡ true
 all-digits =
     by-digits (λ n text. every isDigit text ≡ true)
     (λ n h. simp (le-leb 48 (48 + n) (omega arith), le-leb (48 + n) 57 (omega arith)))
-    (λ n text h e. every-append isDigit text ((48 + n % 10) ∷ []) ∙ simp (e, le-leb 48 (48 + n % 10) (omega arith), le-leb (48 + n % 10) 57 (omega arith)))
+    (λ n text h e. every-append isDigit text ((48 + n % 10) ∷ [])
+    ∙ simp (e, le-leb 48 (48 + n % 10) (omega arith), le-leb (48 + n % 10) 57 (omega arith)))
 
 -- 0 is "0", and no other number begins with a 0
 pub zero-text : digits 0 ≡ 48 ∷ []

@@ -1,5 +1,4 @@
 -- Laws of texts put into an output: what each way out of `put_word` gives, and, for callers, texts put one after the other.
--- Assumes nothing.
 use Prim.Native.Nat.{ℕ, _+_, _≤_, _<_}
 use mathlib.Core.Path.{_≡_, sym, ap, _∙_}
 use mathlib.Core.List.{List, _++_}

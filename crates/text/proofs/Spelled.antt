@@ -1,5 +1,5 @@
 -- The loop that writes a number's digits from the last to the first: behind the place i stand those written, and m is still to be
--- written. Assumes nothing.
+-- written.
 use Prim.Native.Nat.{ℕ, zero, suc, _+_, _-_, _*_, _/_, _%_, _^_, _≤_, _<_}
 use mathlib.Core.Path.{_≡_, sym, ap, ap₂, _∙_}
 use mathlib.Core.List.{List, [], _∷_, _++_, append-assoc, append-nil}
@@ -52,11 +52,13 @@ module _ (n : ℕ) (room : List ℕ) (m i : ℕ) (s : Spelled n room m i) where
             s .text ∙ ap (λ (l : List ℕ). l ++ drop (suc i) room) (digits-more m h)
             ∙ append-assoc (digits (m / 10)) ((48 + m % 10) ∷ []) (drop (suc i) room)
             ∙ ap (λ (l : List ℕ). digits (m / 10) ++ l)
-            (sym (ap (λ (x : ℕ). drop x (set room i (48 + m % 10))) before ∙ drop-stored room i (48 + m % 10) (omega (arith, s .place, s .size))));
+            (sym (ap (λ (x : ℕ). drop x (set room i (48 + m % 10))) before
+            ∙ drop-stored room i (48 + m % 10) (omega (arith, s .place, s .size))));
       }
 
   pub spelled-all : m < 10 → (i ≤ 20) × (drop i (set room i (48 + m)) ≡ digits n)
   spelled-all h = (
     omega (arith, s .place),
-    drop-stored room i (48 + m) (omega (arith, s .place, s .size)) ∙ sym (s .text ∙ ap (λ (l : List ℕ). l ++ drop (suc i) room) (digits-one m h)),
+    drop-stored room i (48 + m) (omega (arith, s .place, s .size))
+        ∙ sym (s .text ∙ ap (λ (l : List ℕ). l ++ drop (suc i) room) (digits-one m h)),
   )

@@ -1,11 +1,12 @@
 -- Text for lent output: numbers in decimal, a byte in hexadecimal, and what an output holds after a text was put at a place.
--- Their laws: proofs/Digits.antt, proofs/Puts.antt, proofs/Chains.antt. Assumes nothing.
+-- Their laws: proofs/Digits.antt, proofs/Puts.antt, proofs/Chains.antt.
 use Prim.Native.Nat.{ℕ, zero, suc, _+_, _*_, _-_, _/_, _%_}
 use mathlib.Core.Bool.{Bool, _&&_}
 use mathlib.Core.List.{List, [], _∷_, _++_}
 use lib.Dec.{ltb, leb}
 use lib.ListN.{length, take, drop}
 use Rattle.lists.specs.Lists.{if_then_else_}
+pub use Rattle.lists.specs.Digits.{isDigit, valueFrom}
 
 -- the digits of n, the highest first; `room` only bounds the recursion, and n itself is always enough
 unfoldable pub digitsIn : ℕ → ℕ → List ℕ
@@ -17,14 +18,6 @@ digitsIn (suc room) n =
 -- n in decimal, without leading zeros; 0 is "0"
 unfoldable pub digits : ℕ → List ℕ
 digits n = digitsIn n n
-
--- the byte of a decimal digit, and the number that such digits make behind those that make v
-abbrev pub isDigit : ℕ → Bool
-isDigit b = leb 48 b && leb b 57
-
-abbrev pub valueFrom : ℕ → List ℕ → ℕ
-valueFrom v [] = v
-valueFrom v (b ∷ text) = valueFrom (v * 10 + (b - 48)) text
 
 -- one hexadecimal digit, upper case, and the two of a byte
 abbrev pub hexDigit : ℕ → ℕ

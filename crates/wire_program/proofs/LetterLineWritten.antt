@@ -1,4 +1,4 @@
--- A letter written back into a room that is long enough for every one of them. Assumes nothing.
+-- A letter written back into a room that is long enough for every one of them.
 use Prim.Native.Nat.{ℕ, _≤_}
 use mathlib.Core.Bool.{Bool, true, false, not}
 use mathlib.Core.Path.{_≡_, refl, _∙_}
@@ -34,19 +34,23 @@ letter-length net x = go (x .body)
     go (Reply c) = simp length-field (omega arith)
     go (Notice j c) = simp length-field (omega arith)
 
-pub letter-back : (net : Net) (x : Letter) (old room numbers : List ℕ) (n : ℕ) → T (netHolds net) → T (letterHolds (networkOf net) x) → 8 ≡ length old → numbers ≡ writingNumbers (LetterValues.writing net x old)
+pub letter-back : (net : Net) (x : Letter) (old room numbers : List ℕ) (n : ℕ) → T (netHolds net) → T (letterHolds (networkOf net) x)
+    → 8 ≡ length old → numbers ≡ writingNumbers (LetterValues.writing net x old)
     → room ≡ writingOutput (LetterValues.writing net x old) old → n ≡ getD numbers 1 0 → Back (writeLetter (networkOf net) x) old room n
 unfolding LetterValues.writing
 letter-back net x old room numbers n t u s p q e =
     let good = T-is (netHolds net) t in
     let holds = T-is (letterHolds (networkOf net) x) u in
-    back (writeLetter (networkOf net) x) old room numbers n (omega (arith, letter-length (networkOf net) x)) (p ∙ simp (good, holds)) (q ∙ simp (good, holds)) e
+    back (writeLetter (networkOf net) x) old room numbers n (omega (arith, letter-length (networkOf net) x)) (p ∙ simp (good, holds))
+    (q ∙ simp (good, holds)) e
 
 -- a letter was read, so the network was good and the letter may travel
-pub was-read : (net : Net) (bytes : List ℕ) (x : Letter) → reading net bytes ≡ letter x → T (netHolds net) × T (letterHolds (networkOf net) x)
+pub was-read : (net : Net) (bytes : List ℕ) (x : Letter) → reading net bytes ≡ letter x
+    → T (netHolds net) × T (letterHolds (networkOf net) x)
 unfolding reading
 was-read net bytes x = go (netHolds net) refl
   where
-    go : (b : Bool) → netHolds net ≡ b → (if not b then L.refused 11 else readLetter (networkOf net) bytes) ≡ letter x → T (netHolds net) × T (letterHolds (networkOf net) x)
+    go : (b : Bool) → netHolds net ≡ b → (if not b then L.refused 11 else readLetter (networkOf net) bytes) ≡ letter x
+        → T (netHolds net) × T (letterHolds (networkOf net) x)
     go false p q = let z : _≡_ {A = ℕ} 0 1 = cc in absurd (omega arith)
     go true p q = (is-T (netHolds net) p, LetterLaws.read-holds (networkOf net) bytes x q)

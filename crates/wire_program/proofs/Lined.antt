@@ -1,4 +1,4 @@
--- The ways out of `put_read`, and what a caller with room for a line has of it. Assumes nothing.
+-- The ways out of `put_read`, and what a caller with room for a line has of it.
 use Prim.Native.Nat.{ℕ, _+_, _≤_, _<_}
 use mathlib.Core.Path.{_≡_, _∙_}
 use mathlib.Core.List.{List}

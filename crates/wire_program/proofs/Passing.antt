@@ -1,4 +1,4 @@
--- The ways out of `run_letters`: crate `console`'s law of feeding, for lines of letters. Assumes nothing.
+-- The ways out of `run_letters`: crate `console`'s law of feeding, for lines of letters.
 use Prim.Native.Nat.{ℕ, _/_, _≤_, _<_}
 use mathlib.Core.Bool.{true, false}
 use mathlib.Core.Path.{_≡_, refl}
@@ -16,12 +16,15 @@ use Rattle.wire_program.specs.Passing.{saidBy, acted, spoken, texts, eno
 
 module _ (net : Net) (r : HexReading) (bytes old : List ℕ) where
   pub passed-short : length old / 64 < length bytes
-      → (passedAs 10 0 r ≡ passedBy (enough bytes old) net r bytes) × ((old ≡ outputBy (enough bytes old) (texts net r bytes) old) × Counts 0 old)
+      → (passedAs 10 0 r ≡ passedBy (enough bytes old) net r bytes) × ((old ≡ outputBy (enough bytes old) (texts net r bytes) old) × Counts
+      0 old)
   passed-short h = simp (lt-leb (length bytes) (length old / 64) h) (refl, (refl, (omega arith, refl)))
 
-  pub passed-all : (p₀ : Stop HexReading) (out : List ℕ) (at : ℕ) (p : Stop HexReading) → p₀ ≡ stopOf readHex r (drop 0 bytes) 0 → length bytes ≤ length old / 64
+  pub passed-all : (p₀ : Stop HexReading) (out : List ℕ) (at : ℕ) (p : Stop HexReading) → p₀ ≡ stopOf readHex r (drop 0 bytes) 0
+      → length bytes ≤ length old / 64
       → Going hexStart readHex saidBy acted spoken 64 bytes old net p₀ out net at p → p .ended ≡ false
-      → (passedAs 0 at (p .reading) ≡ passedBy (enough bytes old) net r bytes) × ((out ≡ outputBy (enough bytes old) (texts net r bytes) old) × Counts at out)
+      → (passedAs 0 at (p .reading) ≡ passedBy (enough bytes old) net r
+      bytes) × ((out ≡ outputBy (enough bytes old) (texts net r bytes) old) × Counts at out)
   passed-all p₀ out at p e h g z =
       let w = going-done hexStart readHex saidBy acted spoken 64 bytes old net p₀ out net at p r e g z in
       simp (le-leb (length bytes) (length old / 64) h) ((λ i. passedAs 0 (w .written i) (w .read i)), (w .output, w .counts))

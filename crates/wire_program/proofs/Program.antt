@@ -1,5 +1,5 @@
 -- THE WIRE PROGRAM: whatever the pieces that standard input comes in, its calls print, in all, exactly what specs/Wire.antt says of the file and
--- of the whole input. Assumes nothing.
+-- of the whole input.
 use Prim.Native.Nat.{ℕ, _+_}
 use mathlib.Core.Bool.{Bool}
 use mathlib.Core.Path.{_≡_, refl, sym, ap, ap₂, _∙_}
@@ -54,18 +54,22 @@ module _ (net : Network) (t : T (sheetHolds net)) where
   lines-same [] = refl
   lines-same (x ∷ said) = ap₂ (λ (a b : List ℕ). a ++ b) (line-same x) (lines-same said)
 
-  letters-print : (pieces : List (List ℕ)) → wholeText hexStart readHex saidBy acted spoken isHexBegun v pieces ≡ collect (lineText net) (map hexLine (linesOf (joined pieces)))
+  letters-print : (pieces : List (List ℕ)) → wholeText hexStart readHex saidBy acted spoken isHexBegun v pieces ≡ collect (lineText net)
+      (map hexLine (linesOf (joined pieces)))
   letters-print pieces =
-      whole-text hexStart readHex saidBy acted spoken isHexBegun hex-not-first hex-begins hexLine hex-lines v pieces ∙ lines-same (map hexLine (linesOf (joined pieces)))
+      whole-text hexStart readHex saidBy acted spoken isHexBegun hex-not-first hex-begins hexLine hex-lines v pieces
+      ∙ lines-same (map hexLine (linesOf (joined pieces)))
 
 pub wire-program : (file : List ℕ) (pieces : List (List ℕ)) → callsText file pieces ≡ wireProgram file (joined pieces)
 unfolding callsText wireProgram
 wire-program file pieces = go (fileSheet file) refl
   where
-    go : (s : Sheet) → fileSheet file ≡ s → sheetText (fileSheet file) ++ openedText (openedBy (fileSheet file)) pieces ≡ outputBy (fileSheet file) (map hexLine (linesOf (joined pieces)))
+    go : (s : Sheet) → fileSheet file ≡ s → sheetText (fileSheet file) ++ openedText (openedBy (fileSheet file)) pieces ≡ outputBy
+        (fileSheet file) (map hexLine (linesOf (joined pieces)))
     go (refused k) e =
         ap (λ (x : Sheet). sheetText x ++ openedText (openedBy x) pieces) e
-        ∙ ap (λ (b : Bool). sheetText (refused k) ++ (if b then wholeText hexStart readHex saidBy acted spoken isHexBegun (openedBy (refused k) .net) pieces else [])) (ne-eqb k 0 (refusal-counts file k e))
+        ∙ ap (λ (b : Bool). sheetText (refused k) ++ (if b then wholeText hexStart readHex saidBy acted spoken isHexBegun
+        (openedBy (refused k) .net) pieces else [])) (ne-eqb k 0 (refusal-counts file k e))
         ∙ append-nil (sheetText (refused k)) ∙ sym (ap (λ (x : Sheet). outputBy x (map hexLine (linesOf (joined pieces)))) e)
     go (sheet net) e =
         ap (λ (x : Sheet). sheetText x ++ openedText (openedBy x) pieces) e

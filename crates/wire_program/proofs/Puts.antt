@@ -1,4 +1,4 @@
--- For callers: a part that is put behind a text, where there is room for both. Assumes nothing.
+-- For callers: a part that is put behind a text, where there is room for both.
 use Prim.Native.Nat.{ℕ, _+_, _*_, _≤_, _<_}
 use mathlib.Core.Path.{_≡_, ap}
 use mathlib.Core.List.{List, _++_}
@@ -22,8 +22,10 @@ module _ {xs : List ℕ} {m at : ℕ} {old : List ℕ} {a : ℕ} {mid : List ℕ
   field-more n l h q = text-more (fieldText n) 6 (field-length n l) h q
 
   -- the bytes at the front of a room of k
-  pub room-more : {written was room : List ℕ} {n : ℕ} (k : ℕ) {b : ℕ} {new : List ℕ} → Back written was room n → k ≡ length was → at + (m + 2 * k) ≤ length old
-      → (b ≡ placeAfter (hexText (take n room)) a mid) × (new ≡ putAt (hexText (take n room)) a mid) → Put (xs ++ hexText written) (m + 2 * k) at old b new
+  pub room-more : {written was room : List ℕ} {n : ℕ} (k : ℕ) {b : ℕ} {new : List ℕ} → Back written was room n → k ≡ length was
+      → at + (m + 2 * k) ≤ length old
+      → (b ≡ placeAfter (hexText (take n room)) a mid) × (new ≡ putAt (hexText (take n room)) a mid)
+      → Put (xs ++ hexText written) (m + 2 * k) at old b new
   room-more {written} {was} {room} {n} k {b} {new} w e h q =
       text-more (hexText written) (2 * k) (omega (arith, text-length written, w .size, w .few)) h
       (same-text (hexText (take n room)) (hexText written) a mid b new (ap hexText (w .bytes)) q)

@@ -1,5 +1,4 @@
 -- For callers that write a sheet or a letter into a room of their own, to put its bytes: a room that is long enough has them at its front.
--- Assumes nothing.
 use Prim.Native.Nat.{ℕ, _≤_}
 use mathlib.Core.Path.{_≡_, sym, ap, _∙_}
 use mathlib.Core.List.{List, [], _∷_}
@@ -18,7 +17,8 @@ pub record Back (new old room : List ℕ) (n : ℕ) : Type 0 where
   pub same : length room ≡ length old
   pub few : n ≤ length old
 
-pub back : (new old room numbers : List ℕ) (n : ℕ) → length new ≤ length old → numbers ≡ writingNumbers (fitting new old) → room ≡ writingOutput (fitting new old) old → n ≡ getD numbers 1 0 → Back new old room n
+pub back : (new old room numbers : List ℕ) (n : ℕ) → length new ≤ length old → numbers ≡ writingNumbers (fitting new old)
+    → room ≡ writingOutput (fitting new old) old → n ≡ getD numbers 1 0 → Back new old room n
 unfolding fitting
 back new old room numbers n h p q e =
     let fits = le-ltb (length old) (length new) h in

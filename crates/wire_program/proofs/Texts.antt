@@ -1,5 +1,4 @@
 -- The parts of a wire line: bytes in hexadecimal, put one after the other, and a number with its space, spelled into a room of six bytes.
--- Assumes nothing.
 use Prim.Native.Nat.{ℕ, _+_, _*_, _≤_, _<_}
 use mathlib.Core.Path.{_≡_, refl, sym, ap, _∙_, subst}
 use mathlib.Core.List.{List, [], _∷_, _++_, append-nil}
@@ -16,10 +15,12 @@ use Rattle.text.proofs.Chains.{Chain, chain-none, chain-next}
 use Rattle.wire_program.specs.Parts.{fieldText, hexText}
 
 -- ---- bytes
-hex-more : (bytes : List ℕ) (i : ℕ) → i < length bytes → collect hexPair (take i bytes) ++ hexPair (getD bytes i 0) ≡ collect hexPair (take (i + 1) bytes)
+hex-more : (bytes : List ℕ) (i : ℕ) → i < length bytes
+    → collect hexPair (take i bytes) ++ hexPair (getD bytes i 0) ≡ collect hexPair (take (i + 1) bytes)
 hex-more bytes i h =
     rw (add-one, take-suc bytes i 0 h)
-    (sym (collect-append hexPair (take i bytes) (getD bytes i 0 ∷ []) ∙ ap (λ (l : List ℕ). collect hexPair (take i bytes) ++ l) (append-nil (hexPair (getD bytes i 0)))))
+    (sym (collect-append hexPair (take i bytes) (getD bytes i 0 ∷ [])
+    ∙ ap (λ (l : List ℕ). collect hexPair (take i bytes) ++ l) (append-nil (hexPair (getD bytes i 0)))))
 
 hex-length : (bytes : List ℕ) → length (collect hexPair bytes) ≡ 2 * length bytes
 hex-length [] = refl
@@ -35,11 +36,13 @@ text-length bytes = hex-length bytes
 
 -- the first i bytes were put
 module _ (bytes : List ℕ) (at : ℕ) (old : List ℕ) (i to : ℕ) (out : List ℕ) (c : Chain (collect hexPair (take i bytes)) at old to out) where
-  pub bytes-more : {r : ℕ} {next : List ℕ} → i < length bytes → (r ≡ placeAfter (hexPair (getD bytes i 0)) to out) × (next ≡ putAt (hexPair (getD bytes i 0)) to out)
+  pub bytes-more : {r : ℕ} {next : List ℕ} → i < length bytes
+      → (r ≡ placeAfter (hexPair (getD bytes i 0)) to out) × (next ≡ putAt (hexPair (getD bytes i 0)) to out)
       → Chain (collect hexPair (take (i + 1) bytes)) at old r next
   bytes-more {r} {next} h p = subst (λ (x : List ℕ). Chain x at old r next) (hex-more bytes i h) (chain-next (hexPair (getD bytes i 0)) c p)
 
-  pub bytes-all : i ≡ length bytes → at + 2 * length bytes ≤ length old → (to ≡ placeAfter (hexText bytes) at old) × (out ≡ putAt (hexText bytes) at old)
+  pub bytes-all : i ≡ length bytes → at + 2 * length bytes ≤ length old
+      → (to ≡ placeAfter (hexText bytes) at old) × (out ≡ putAt (hexText bytes) at old)
   bytes-all e h =
       let w : Chain (hexText bytes) at old to out = subst (λ (x : List ℕ). Chain x at old to out) (hex-whole bytes i e) c in
       let here : to ≡ at + length (hexText bytes) = w .place ∙ place-fits (hexText bytes) at old (omega (arith, text-length bytes)) in
@@ -57,7 +60,8 @@ pub record Spelled (n : ℕ) (room : List ℕ) (end : ℕ) : Type 0 where
   pub text : take end room ≡ fieldText n
 
 pub field-spelled : (n : ℕ) (old : List ℕ) (a : ℕ) (mid : List ℕ) (b : ℕ) (new : List ℕ) → n < 65536 → length old ≡ 6
-    → (a ≡ placeAfter (digits n) 0 old) × (mid ≡ putAt (digits n) 0 old) → (b ≡ placeAfter (32 ∷ []) a mid) × (new ≡ putAt (32 ∷ []) a mid) → Spelled n new b
+    → (a ≡ placeAfter (digits n) 0 old) × (mid ≡ putAt (digits n) 0 old) → (b ≡ placeAfter (32 ∷ []) a mid) × (new ≡ putAt (32 ∷ []) a mid)
+    → Spelled n new b
 unfolding fieldText
 field-spelled n old a mid b new h full p q =
     let c : Chain (fieldText n) 0 old b new = chain-next (32 ∷ []) (chain-next (digits n) (chain-none 0 old (omega arith)) p) q in

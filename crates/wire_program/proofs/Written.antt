@@ -1,4 +1,4 @@
--- A sheet written back into a room that is long enough for every one of them. Assumes nothing.
+-- A sheet written back into a room that is long enough for every one of them.
 use Prim.Native.Nat.{ℕ, _≤_}
 use mathlib.Core.Bool.{Bool, true, false}
 use mathlib.Core.Path.{_≡_, refl, sym, ap, _∙_}
@@ -34,7 +34,8 @@ sheet-length net t =
     let few : length (networkOf net .links) ≤ 64 = rules-of (networkOf net) (sheet-good net t) .few-links in
     simp (length-append, length-field, links-length) (omega arith)
 
-pub sheet-back : (net : Net) (old room numbers : List ℕ) (n : ℕ) → T (netHolds net) → 327 ≡ length old → numbers ≡ writingNumbers (SheetValues.writing net old)
+pub sheet-back : (net : Net) (old room numbers : List ℕ) (n : ℕ) → T (netHolds net) → 327 ≡ length old
+    → numbers ≡ writingNumbers (SheetValues.writing net old)
     → room ≡ writingOutput (SheetValues.writing net old) old → n ≡ getD numbers 1 0 → Back (writeSheet (networkOf net)) old room n
 unfolding SheetValues.writing
 sheet-back net old room numbers n t s p q e =
@@ -58,7 +59,8 @@ module _ (file : List ℕ) (o : Opened) (is : o ≡ openedBy (fileSheet file)) w
   sheet-bad h = go (fileSheet file) refl
     where
       go : (s : Sheet) → fileSheet file ≡ s → sheetWord ++ digits (o .number) ++ newline ≡ sheetText (fileSheet file)
-      go (refused k) e = ap (λ (n : ℕ). sheetWord ++ digits n ++ newline) (ap (λ (x : Opened). x .number) is ∙ ap sheetNumber e) ∙ sym (ap sheetText e)
+      go (refused k) e =
+          ap (λ (n : ℕ). sheetWord ++ digits n ++ newline) (ap (λ (x : Opened). x .number) is ∙ ap sheetNumber e) ∙ sym (ap sheetText e)
       go (sheet net) e =
           let v : o .net ≡ valueOf net = ap (λ (x : Opened). x .net) is ∙ ap sheetNet e in
           let b : _≡_ {A = Bool} true false = sym (T-is (netHolds (valueOf net)) (file-good file net e .0)) ∙ ap netHolds (sym v) ∙ h in

@@ -1,4 +1,4 @@
--- The wire program's line for a letter. Assumes nothing.
+-- The wire program's line for a letter.
 use Prim.Native.Nat.{ℕ, _+_, _≤_}
 use mathlib.Core.Bool.{Bool, true}
 use mathlib.Core.Path.{_≡_}
@@ -32,7 +32,8 @@ bodyText (Notice j c) = fieldText j ++ fieldText c
 
 -- `0 request LINK SENDER HEX`, `0 reply LINK SENDER COUNTER HEX`, `0 notice LINK SENDER SUBJECT COUNTER HEX`
 unfoldable pub letterText : Network → Letter → List ℕ
-letterText net x = kindWord (x .body) ++ fieldText (x .link) ++ fieldText (x .sender) ++ bodyText (x .body) ++ hexText (writeLetter net x) ++ newline
+letterText net x =
+    kindWord (x .body) ++ fieldText (x .link) ++ fieldText (x .sender) ++ bodyText (x .body) ++ hexText (writeLetter net x) ++ newline
 
 -- the refusal's number alone, or the letter
 abbrev pub readText : Network → Letters → List ℕ

@@ -1,4 +1,4 @@
--- The wire program's first line. Assumes nothing.
+-- The wire program's first line.
 use Prim.Native.Nat.{ℕ}
 use mathlib.Core.List.{List, [], _∷_, _++_}
 use lib.ListN.{length}
@@ -16,4 +16,5 @@ goodWord = 115 ∷ 104 ∷ 101 ∷ 101 ∷ 116 ∷ 32 ∷ 48 ∷ 32 ∷ []
 -- `sheet 0 STATIONS LINKS HEX`, or `sheet N` alone for a refused one
 unfoldable pub sheetText : Sheets.Sheet → List ℕ
 sheetText (Sheets.refused n) = sheetWord ++ digits n ++ newline
-sheetText (Sheets.sheet net) = goodWord ++ fieldText (net .stations) ++ fieldText (length (net .links)) ++ hexText (Sheets.writeSheet net) ++ newline
+sheetText (Sheets.sheet net) =
+    goodWord ++ fieldText (net .stations) ++ fieldText (length (net .links)) ++ hexText (Sheets.writeSheet net) ++ newline

@@ -1,4 +1,4 @@
--- The parts of the wire program's lines. Their laws: proofs/Texts.antt. Assumes nothing.
+-- The parts of the wire program's lines. Their laws: proofs/Texts.antt.
 use Prim.Native.Nat.{ℕ}
 use mathlib.Core.List.{List, [], _∷_, _++_}
 use Rattle.lists.specs.Places.{collect}

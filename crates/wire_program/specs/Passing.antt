@@ -1,5 +1,5 @@
 -- What the code answers for a piece of the input, and for every network value. proofs/Program.antt: the pieces of an input give what
--- specs/Wire.antt says of the whole of it. Assumes nothing.
+-- specs/Wire.antt says of the whole of it.
 use Prim.Native.Nat.{ℕ, _/_}
 use mathlib.Core.Bool.{Bool}
 use mathlib.Core.List.{List}

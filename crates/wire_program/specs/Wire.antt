@@ -1,4 +1,4 @@
--- The wire program: the sheet written back, then each line as a letter, read and written back. Assumes nothing.
+-- The wire program: the sheet written back, then each line as a letter, read and written back.
 use Prim.Native.Nat.{ℕ}
 use mathlib.Core.List.{List, [], _∷_, _++_, map}
 use Rattle.lists.specs.Places.{collect}

@@ -1,4 +1,4 @@
--- Each accepted step keeps the world well formed, and the world of a freshly read sheet is well formed. Assumes nothing.
+-- Each accepted step keeps the world well formed, and the world of a freshly read sheet is well formed.
 use Prim.Native.Nat.{ℕ, _≤_, _<_, zero-le}
 use mathlib.Core.Bool.{Bool, _&&_}
 use mathlib.Core.Path.{_≡_, refl, _∙_, subst⁻¹}
@@ -145,7 +145,8 @@ module _ (w : World) (f : Formed w) where
   unfolding comes rule
   comes-keeps e x =
       let s = concerned w e in
-      R.comes-keeps (w .net) s (holdingAt w s) (concerned-holds w f e x) (exists w e) (kindOf (e .kind)) (e .b) (letterAt w (e .a)) (names e)
+      R.comes-keeps (w .net) s (holdingAt w s) (concerned-holds w f e x) (exists w e) (kindOf (e .kind)) (e .b) (letterAt w (e .a))
+      (names e)
 
   left-holds : (e : Event) → T (every (letterHolds (w .net)) (left w e))
   unfolding left
@@ -187,7 +188,9 @@ fresh-formed net t =
     record {
       sheet = t;
       count = length-map-below (λ s. stopped net s .holding) (net .stations);
-      each = λ s h. subst⁻¹ (λ (x : Holding). T (holdingHolds net s x)) (getD-map-below (λ s. stopped net s .holding) (net .stations) s nobody h) (stopped-keeps net s .holding);
+      each =
+          λ s h. subst⁻¹ (λ (x : Holding). T (holdingHolds net s x))
+          (getD-map-below (λ s. stopped net s .holding) (net .stations) s nobody h) (stopped-keeps net s .holding);
       room = zero-le;
       posted = tt;
     }

@@ -1,5 +1,5 @@
 -- Conservation: in any run from a freshly read sheet, letters ever sent, counted from the events, equal those delivered, lost
--- and in flight. Also how counts over a history add up. Assumes nothing.
+-- and in flight. Also how counts over a history add up.
 use Prim.Native.Nat.{ℕ, _+_}
 use mathlib.Core.Path.{_≡_, refl, ap}
 use mathlib.Core.List.{List, [], _∷_, _++_}
@@ -24,18 +24,21 @@ one-conserved w e v q =
     rw (t .is) (omega (arith, left-one w e (t .exists), length-append (left w e) (comes w e .done .sent)))
 
 -- ---- a history
-pub conserved : (w : World) (es : List Event) → length (w .letters) + everSent w es ≡ everDelivered w es + everLost w es + length (run w es .letters)
+pub conserved : (w : World) (es : List Event)
+    → length (w .letters) + everSent w es ≡ everDelivered w es + everLost w es + length (run w es .letters)
 unfolding run total
 conserved w [] = omega arith
 conserved w (e ∷ es) = go (step w e) refl (conserved (next w e) es)
   where
-    go : (o : Outcome) → step w e ≡ o → length (next w e .letters) + everSent (next w e) es ≡ everDelivered (next w e) es + everLost (next w e) es + length (run (next w e) es .letters)
+    go : (o : Outcome) → step w e ≡ o → length (next w e .letters) + everSent (next w e) es ≡ everDelivered (next w e) es + everLost
+        (next w e) es + length (run (next w e) es .letters)
         → length (w .letters) + everSent w (e ∷ es) ≡ everDelivered w (e ∷ es) + everLost w (e ∷ es) + length (run (next w e) es .letters)
     go (refused n) q ih = rw q (omega (arith, rw q at ih))
     go (accepted v) q ih = rw q (omega (arith, one-conserved w e v q, rw q at ih))
 
 -- IN ANY RUN FROM A FRESHLY READ SHEET, LETTERS EVER SENT, COUNTED FROM THE EVENTS, EQUAL THOSE DELIVERED, LOST AND IN FLIGHT.
-pub letters-conserved : (net : Network) (es : List Event) → everSent (fresh net) es ≡ everDelivered (fresh net) es + everLost (fresh net) es + length (run (fresh net) es .letters)
+pub letters-conserved : (net : Network) (es : List Event)
+    → everSent (fresh net) es ≡ everDelivered (fresh net) es + everLost (fresh net) es + length (run (fresh net) es .letters)
 unfolding fresh
 letters-conserved net es = omega (arith, conserved (fresh net) es)
 
@@ -55,7 +58,8 @@ one-settled w e v q =
 
 -- NOTICES EVER SENT AND THOSE IN FLIGHT AT THE START ARE THOSE SETTLED AND THOSE IN FLIGHT AT THE END: the count of settled
 -- notices is of events in the history, and no other number would do.
-pub notices-conserved : (w : World) (es : List Event) → noticesOf (w .letters) + total (λ u e. noticesOf (comes u e .done .sent)) w es ≡ everSettled w es + noticesOf (run w es .letters)
+pub notices-conserved : (w : World) (es : List Event)
+    → noticesOf (w .letters) + total (λ u e. noticesOf (comes u e .done .sent)) w es ≡ everSettled w es + noticesOf (run w es .letters)
 unfolding run total
 notices-conserved w [] = omega arith
 notices-conserved w (e ∷ es) = go (step w e) refl (notices-conserved (next w e) es)
@@ -63,7 +67,8 @@ notices-conserved w (e ∷ es) = go (step w e) refl (notices-conserved (next w e
     f : World → Event → ℕ
     f u e = noticesOf (comes u e .done .sent)
 
-    go : (o : Outcome) → step w e ≡ o → noticesOf (next w e .letters) + total f (next w e) es ≡ everSettled (next w e) es + noticesOf (run (next w e) es .letters)
+    go : (o : Outcome) → step w e ≡ o → noticesOf (next w e .letters) + total f (next w e) es ≡ everSettled (next w e) es + noticesOf
+        (run (next w e) es .letters)
         → noticesOf (w .letters) + total f w (e ∷ es) ≡ everSettled w (e ∷ es) + noticesOf (run (next w e) es .letters)
     go (refused n) q ih = rw q (omega (arith, rw q at ih))
     go (accepted v) q ih = rw q (omega (arith, one-settled w e v q, rw q at ih))
@@ -79,7 +84,8 @@ unfolding run total
 total-append f w [] fs = omega arith
 total-append f w (e ∷ es) fs = omega (arith, total-append f (next w e) es fs)
 
-pub total-one : (f : World → Event → ℕ) (w : World) (es : List Event) (e : Event) → total f w (es ++ (e ∷ [])) ≡ total f w es + ifTaken (step (run w es) e) (f (run w es) e)
+pub total-one : (f : World → Event → ℕ) (w : World) (es : List Event) (e : Event)
+    → total f w (es ++ (e ∷ [])) ≡ total f w es + ifTaken (step (run w es) e) (f (run w es) e)
 unfolding total
 total-one f w es e = omega (arith, total-append f w es (e ∷ []))
 

@@ -1,5 +1,5 @@
 -- How many counters an accepted event leaves higher than before: what the rule of its kind says, and one at the most. A timeout raises an
--- even counter, a reply to a test may raise its link's, a notice that is taken raises its subject's. Assumes nothing.
+-- even counter, a reply to a test may raise its link's, a notice that is taken raises its subject's.
 use Prim.Native.Nat.{ℕ, _≤_, _<_}
 use mathlib.Core.Path.{_≡_, refl, sym, ap, _∙_, subst⁻¹}
 use lib.ListN.{getD, set}

@@ -1,5 +1,5 @@
 -- What the reach report shows, over its list of numbers: a station is shown as working exactly if a path of links with even
--- counters leads to it in the asker's own table. The same for the links, and for the reach as a word. Assumes nothing.
+-- counters leads to it in the asker's own table. The same for the links, and for the reach as a word.
 use Prim.Native.Nat.{ℕ, _+_, _<_, zero-le}
 use mathlib.Core.Bool.{Bool, true, false, not}
 use mathlib.Core.Path.{_≡_, refl, sym, ap, _∙_, subst, subst⁻¹}
@@ -90,7 +90,8 @@ module _ (w : World) (s : ℕ) where
   station-number : (t : ℕ) → t < w .net .stations → getD (reportAt w s) t 0 ≡ bit (has members t)
   station-number t h =
       ap (λ (l : List ℕ). getD l t 0) parts
-      ∙ List·getD-append stationPart linkPart 0 t (subst⁻¹ (λ (n : ℕ). t < n) (length-map-below (λ t. bit (has members t)) (w .net .stations)) h)
+      ∙ List·getD-append stationPart linkPart 0 t (subst⁻¹ (λ (n : ℕ). t < n)
+      (length-map-below (λ t. bit (has members t)) (w .net .stations)) h)
       ∙ getD-map-below (λ t. bit (has members t)) (w .net .stations) t 0 h
 
   link-number : (k : ℕ) → k < length (w .net .links) → getD (reportAt w s) (w .net .stations + k) 0 ≡ linkNumber k
@@ -102,13 +103,19 @@ module _ (w : World) (s : ℕ) where
 
   -- A STATION IS SHOWN AS WORKING (1) EXACTLY IF A PATH OF LINKS WITH EVEN COUNTERS LEADS TO IT IN THE ASKER'S OWN TABLE,
   pub shown-working : (t : ℕ) → t < w .net .stations → (getD (reportAt w s) t 0 ≡ 1) ↔ ReachesIn t
-  shown-working t h =
-      ((λ e. member t (bit-one (has members t) (sym (station-number t h) ∙ e))), (λ r. station-number t h ∙ one-bit (has members t) (in-members t r)))
+  shown-working t h = (
+    (λ e. member t (bit-one (has members t) (sym (station-number t h) ∙ e))),
+    (λ r. station-number t h
+        ∙ one-bit (has members t) (in-members t r)),
+  )
 
   -- and as unreachable (0) exactly if none does
   pub shown-unreachable : (t : ℕ) → t < w .net .stations → (getD (reportAt w s) t 0 ≡ 0) ↔ (ReachesIn t → ⊥)
-  shown-unreachable t h =
-      ((λ e r. bit-zero (has members t) (sym (station-number t h) ∙ e) (in-members t r)), (λ f. station-number t h ∙ zero-bit (has members t) (λ u. f (member t u))))
+  shown-unreachable t h = (
+    (λ e r. bit-zero (has members t) (sym (station-number t h) ∙ e) (in-members t r)),
+    (λ f. station-number t h
+        ∙ zero-bit (has members t) (λ u. f (member t u))),
+  )
 
   -- ---- the links
   -- an end of the link k is reached
@@ -138,14 +145,20 @@ module _ (w : World) (s : ℕ) where
     -- 1, working: an end reached, and even
     pub link-working : (shown ≡ 1) ↔ (EndReached k × T (even c))
     link-working =
-        let v = value-one (near (w .net) (has members) k) (even c) in
-        ((λ e. let p = v .0 (sym (link-number k h) ∙ e) in (near-reached k (p .0), p .1)), (λ p. link-number k h ∙ v .1 (reached-near k (p .0), p .1)))
+        let v = value-one (near (w .net) (has members) k) (even c) in (
+          (λ e. let p = v .0 (sym (link-number k h) ∙ e) in (near-reached k (p .0), p .1)),
+          (λ p. link-number k h
+              ∙ v .1 (reached-near k (p .0), p .1)),
+        )
 
     -- 2, unresponsive: an end reached, and odd
     pub link-unresponsive : (shown ≡ 2) ↔ (EndReached k × T (odd c))
     link-unresponsive =
-        let v = value-two (near (w .net) (has members) k) (even c) in
-        ((λ e. let p = v .0 (sym (link-number k h) ∙ e) in (near-reached k (p .0), p .1)), (λ p. link-number k h ∙ v .1 (reached-near k (p .0), p .1)))
+        let v = value-two (near (w .net) (has members) k) (even c) in (
+          (λ e. let p = v .0 (sym (link-number k h) ∙ e) in (near-reached k (p .0), p .1)),
+          (λ p. link-number k h
+              ∙ v .1 (reached-near k (p .0), p .1)),
+        )
 
   -- ---- the reach as a word: bit t for the station t
   pub word-reaches : (t : ℕ) → T (inWord (reachAt w s .word) t) ↔ ReachesIn t

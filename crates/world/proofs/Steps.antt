@@ -1,5 +1,4 @@
 -- The step: each number that says no, when and only when document 01's list says, in its order; and what an accepted one did.
--- Assumes nothing.
 use Prim.Native.Nat.{ℕ, _+_, _≤_}
 use mathlib.Core.Bool.{Bool, true, false, not}
 use mathlib.Core.Path.{_≡_, refl, sym, ap, _∙_, subst⁻¹}

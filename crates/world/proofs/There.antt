@@ -1,5 +1,5 @@
 -- What there must be for an event (6), by its kind: the letter that it takes off the list, or its station, and its link at that station.
--- What is left of the letters, and the notices among them that are settled. Assumes nothing.
+-- What is left of the letters, and the notices among them that are settled.
 use Prim.Native.Nat.{ℕ, _+_, _<_}
 use mathlib.Core.Bool.{Bool, true, false, not, _&&_}
 use mathlib.Core.Path.{_≡_, refl, ap}

@@ -64,7 +64,13 @@ slice-relend-prefix-run-in c = search needs
 
 -- src/main.rt:310:45
 slice-aggregate-run-in : tie.Need-slice-aggregate-run-in
-slice-aggregate-run-in c = omega (arith, length-take (c .before .before .before .long .result) (c .before .before .before .before .before .before .before .before .before .args .buf .now), c .before .before .if2 .left)
+slice-aggregate-run-in c =
+    omega (
+      arith,
+      length-take (c .before .before .before .long .result)
+          (c .before .before .before .before .before .before .before .before .before .args .buf .now),
+      c .before .before .if2 .left,
+    )
 
 -- src/main.rt:310:5
 run-in-requires : tie.Need-run-in-requires

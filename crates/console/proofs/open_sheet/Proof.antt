@@ -17,7 +17,9 @@ number-of-requires : tie.Need-number-of-requires
 number-of-requires c κs = search needs
 
 returns-2 : tie.Need-returns-2
-returns-2 c = file-read (now (c .before .before .before .before .before .args .file)) _ _ (c .before .before .before .if1 .left) (c .before .before .read .ensures) (c .number-of .ensures)
+returns-2 c =
+    file-read (now (c .before .before .before .before .before .args .file)) _ _ (c .before .before .before .if1 .left)
+    (c .before .before .read .ensures) (c .number-of .ensures)
 
 pub open-sheet-spec : {M : Type 1} → statement M
 open-sheet-spec =

@@ -9,7 +9,8 @@ is-even-requires : tie.Need-is-even-requires
 is-even-requires c κs = search needs
 
 add-result : tie.Need-add-result
-add-result c = omega (arith, even-is (c .before .before .args .own) (sym (c .before .is-even .ensures) ∙ c .if1 .taken), c .before .before .fits .own)
+add-result c =
+    omega (arith, even-is (c .before .before .args .own) (sym (c .before .is-even .ensures) ∙ c .if1 .taken), c .before .before .fits .own)
 
 returns : tie.Need-returns
 returns c = timed-even _ (even-is _ (sym (c .before .is-even .ensures) ∙ c .if1 .taken))

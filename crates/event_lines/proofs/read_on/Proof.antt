@@ -23,14 +23,18 @@ malformed-requires-2 c κs = search needs
 
 returns-3 : tie.Need-returns-3
 unfolding readOn
-returns-3 c = simp (ne-eqb _ _ (c .before .before .before .if1 .left), le-leb _ _ (c .before .before .if2 .left), lt-leb _ _ (c .before .if3 .taken)) (c .malformed2 .ensures)
+returns-3 c =
+    simp (ne-eqb _ _ (c .before .before .before .if1 .left), le-leb _ _ (c .before .before .if2 .left), lt-leb _ _ (c .before .if3 .taken))
+    (c .malformed2 .ensures)
 
 with-digit-requires : tie.Need-with-digit-requires
 with-digit-requires c κs = search needs
 
 returns-4 : tie.Need-returns-4
 unfolding readOn
-returns-4 c = simp (ne-eqb _ _ (c .before .before .before .if1 .left), le-leb _ _ (c .before .before .if2 .left), le-leb _ _ (c .before .if3 .left)) (c .with-digit .ensures)
+returns-4 c =
+    simp (ne-eqb _ _ (c .before .before .before .if1 .left), le-leb _ _ (c .before .before .if2 .left), le-leb _ _ (c .before .if3 .left))
+    (c .with-digit .ensures)
 
 pub read-on-spec : {M : Type 1} → statement M
 read-on-spec =

@@ -50,10 +50,12 @@ returns c =
     let n1 = chain-next (digits (a .answer)) (chain-none (a .at) (now (a .out)) (omega arith)) (c .before .before .before .before .before .before .before .before .before .before .before .before .before .before .before .before .before .before .before .before .before .before .before .before .before .put-number .ensures) in
     let n2 = chain-next (32 ∷ []) n1 (c .before .before .before .before .before .before .before .before .before .before .before .before .before .before .before .before .before .before .before .before .put-word .ensures) in
     let n3 = chain-next (digits (a .flying)) n2 (c .before .before .before .before .before .before .before .before .before .before .before .before .before .before .before .before .put-number2 .ensures) in
-    let n4 = chain-next (32 ∷ []) n3 (c .before .before .before .before .before .before .before .before .before .before .before .put-word2 .ensures) in
+    let n4 = chain-next (32 ∷ []) n3
+    (c .before .before .before .before .before .before .before .before .before .before .before .put-word2 .ensures) in
     let n5 = chain-next (digits (a .settled)) n4 (c .before .before .before .before .before .before .before .put-number3 .ensures) in
     let n6 = chain-next (10 ∷ []) n5 (c .before .before .put-word3 .ensures) in
-    put-same _ _ 32 (a .at) (now (a .out)) _ _ (answer-whole (a .answer) (a .flying) (a .settled)) (put-done _ 32 (a .at) (now (a .out)) _ _ n6 (answer-few (a .answer) (a .flying) (a .settled) (f .0) (f .1) (f .2)) (omega arith))
+    put-same _ _ 32 (a .at) (now (a .out)) _ _ (answer-whole (a .answer) (a .flying) (a .settled))
+    (put-done _ 32 (a .at) (now (a .out)) _ _ n6 (answer-few (a .answer) (a .flying) (a .settled) (f .0) (f .1) (f .2)) (omega arith))
 
 pub put-answer-spec : {M : Type 1} → statement M
 put-answer-spec =

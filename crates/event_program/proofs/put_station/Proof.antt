@@ -17,7 +17,8 @@ use Rattle.event_program.proofs.put_station.Statement.{statement}
 use Rattle.event_program.proofs.put_station.Tie as tie
 
 abbrev Inv-loop : tie.InvT-loop
-Inv-loop out₀ at i links counters to₀ k₀ t11 t12 out to k = (k ≤ links) × ((xs old : List ℕ) → Chain xs at old to₀ out₀ → Chain (xs ++ collect counterText (take k counters)) at old to out)
+Inv-loop out₀ at i links counters to₀ k₀ t11 t12 out to k =
+    (k ≤ links) × ((xs old : List ℕ) → Chain xs at old to₀ out₀ → Chain (xs ++ collect counterText (take k counters)) at old to out)
 
 abbrev μ-loop : tie.MeasureT-loop
 μ-loop out₀ at i links counters to₀ k₀ t11 t12 out to k = links - k
@@ -77,11 +78,15 @@ put-word-requires-2 : tie.Need-put-word-requires-2 Inv-loop μ-loop
 put-word-requires-2 c κs = search needs
 
 -- the whole line was put
-whole : (c : tie.After-slice-known5 Inv-loop μ-loop) → let a = c .before .before .before .before .before .before .before .before .before .before .before .before .args in Chain (stationText (a .i) (take (a .links) (a .t5))) (a .at) (now (a .out)) (c .before .before .put-word2 .result) (c .before .before .put-word2 .last .0)
+whole : (c : tie.After-slice-known5 Inv-loop μ-loop)
+    → let a = c .before .before .before .before .before .before .before .before .before .before .before .before .args in Chain
+    (stationText (a .i) (take (a .links) (a .t5))) (a .at) (now (a .out)) (c .before .before .put-word2 .result)
+    (c .before .before .put-word2 .last .0)
 whole c =
     let l = c .before .before .before .before .before .before .loop in
     let a = c .before .before .before .before .before .before .before .before .before .before .before .before .args in
-    let n1 = chain-next (digits (a .i)) (chain-none (a .at) (now (a .out)) (omega arith)) (c .before .before .before .before .before .before .before .before .before .put-number .ensures) in
+    let n1 = chain-next (digits (a .i)) (chain-none (a .at) (now (a .out)) (omega arith))
+    (c .before .before .before .before .before .before .before .before .before .put-number .ensures) in
     let n2 = chain-next (10 ∷ []) (l .inv .1 (digits (a .i)) (now (a .out)) n1) (c .before .before .put-word2 .ensures) in
     let done : l .k ≡ a .links = omega arith in
     chain-same (station-done (a .i) (a .t5) (l .k) (a .links) done) n2
@@ -92,7 +97,11 @@ same-length c = whole c .size
 returns : tie.Need-returns Inv-loop μ-loop
 returns c =
     let a = c .before .before .before .before .before .before .before .before .before .before .before .before .args in
-    put-done (stationText (a .i) (take (a .links) (a .t5))) 400 (a .at) (now (a .out)) _ _ (whole c) (station-few (a .i) (a .links) (a .t5) (few (c .before .before .before .before .before .before .before .before .before .before .before .before)) (omega arith) (size (c .before .before .before .before .before .before .before .before .before .before .before .before)) (small (c .before .before .before .before .before .before .before .before .before .before .before .before))) (omega arith)
+    put-done (stationText (a .i) (take (a .links) (a .t5))) 400 (a .at) (now (a .out)) _ _ (whole c)
+    (station-few (a .i) (a .links) (a .t5)
+    (few (c .before .before .before .before .before .before .before .before .before .before .before .before)) (omega arith)
+    (size (c .before .before .before .before .before .before .before .before .before .before .before .before))
+    (small (c .before .before .before .before .before .before .before .before .before .before .before .before))) (omega arith)
 
 pub put-station-spec : {M : Type 1} → statement M
 put-station-spec =

@@ -27,7 +27,14 @@ at-most-requires-2 : tie.Need-at-most-requires-2 Inv-loop μ-loop
 at-most-requires-2 c κs = search needs
 
 loop-holds : tie.Need-loop-holds Inv-loop μ-loop
-loop-holds c = let a = c .before .before .before .before .args in (omega arith, omega arith, omega (arith, c .before .at-most .ensures), chain-none 0 (now (a .out)) (omega arith))
+loop-holds c =
+    let a = c .before .before .before .before .args in (
+      omega arith,
+      omega arith,
+      omega (arith, c .before .at-most .ensures),
+      chain-none 0
+          (now (a .out)) (omega arith),
+    )
 
 cast-here : tie.Need-cast-here Inv-loop μ-loop
 cast-here c = omega arith
@@ -39,7 +46,11 @@ element-copy-out-st : tie.Need-element-copy-out-st Inv-loop μ-loop
 element-copy-out-st c = omega arith
 
 put-station-requires : tie.Need-put-station-requires Inv-loop μ-loop
-put-station-requires c κs = (omega (arith, c .before .before .before .before .loop .inv .3 .size), omega (arith, c .before .before .before .before .before .at-most2 .ensures))
+put-station-requires c κs = (
+  omega (arith, c .before .before .before .before .loop .inv .3 .size),
+  omega
+      (arith, c .before .before .before .before .before .at-most2 .ensures),
+)
 
 add-i : tie.Need-add-i Inv-loop μ-loop
 add-i c = omega arith
@@ -52,8 +63,14 @@ loop-again c =
     let l = c .before .before .before .before .before .before .before .loop in
     let a = c .before .before .before .before .before .before .before .before .before .before .before .before .args in
     let p = c .before .before .put-station .ensures in
-    let q = put-next (omega (arith, l .inv .3 .size)) p in
-    (omega arith, omega (arith, p .place, p .few), l .inv .2, chain-same (same-table (a .t1) (l .i) (c .before .before .before .before .before .before .before .before .at-most2 .result) (c .before .before .before .before .before .before .before .before .at-most2 .ensures)) (chain-next _ (l .inv .3) q))
+    let q = put-next (omega (arith, l .inv .3 .size)) p in (
+      omega arith,
+      omega (arith, p .place, p .few),
+      l .inv .2,
+      chain-same
+          (same-table (a .t1) (l .i) (c .before .before .before .before .before .before .before .before .at-most2 .result)
+          (c .before .before .before .before .before .before .before .before .at-most2 .ensures)) (chain-next _ (l .inv .3) q),
+    )
 
 same-length : tie.Need-same-length Inv-loop μ-loop
 same-length c = c .before .loop .inv .3 .size
@@ -62,8 +79,11 @@ returns-2 : tie.Need-returns-2 Inv-loop μ-loop
 returns-2 c =
     let l = c .before .loop in
     let a = c .before .before .before .before .before .before .args in
-    let text = chain-same (stations-whole (a .t1) (c .before .before .before .at-most .result) (l .i) (c .before .before .before .at-most .ensures) (omega arith)) (l .inv .3) in
-    wrote-all 12800 (stationsText (a .t1)) (now (a .out)) (l .at) (l .out) (omega arith) (put-done (stationsText (a .t1)) 12800 0 (now (a .out)) (l .at) (l .out) text (stations-few (stationsText (a .t1)) 12800 (now (a .out)) (l .at) (l .out) text (omega arith) (omega arith)) (omega arith))
+    let text = chain-same (stations-whole (a .t1) (c .before .before .before .at-most .result) (l .i)
+    (c .before .before .before .at-most .ensures) (omega arith)) (l .inv .3) in
+    wrote-all 12800 (stationsText (a .t1)) (now (a .out)) (l .at) (l .out) (omega arith)
+    (put-done (stationsText (a .t1)) 12800 0 (now (a .out)) (l .at) (l .out) text
+    (stations-few (stationsText (a .t1)) 12800 (now (a .out)) (l .at) (l .out) text (omega arith) (omega arith)) (omega arith))
 
 pub put-stations-spec : {M : Type 1} → statement M
 put-stations-spec =

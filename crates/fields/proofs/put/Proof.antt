@@ -56,7 +56,11 @@ slice-write-out-4 : tie.Need-slice-write-out-4 Inv-loop μ-loop
 slice-write-out-4 c =
     let a = c .before .before .before .before .before .args in
     let l = c .before .before .loop in
-    omega (arith, put-length (a .tag) (now (a .value)) (now (a .out)) (l .i) (l .out) (c .before .before .before .if2 .left) (l .inv .1) (l .inv .0))
+    omega (
+      arith,
+      put-length (a .tag) (now (a .value)) (now (a .out)) (l .i) (l .out) (c .before .before .before .if2 .left) (l .inv .1)
+          (l .inv .0),
+    )
 
 add-i : tie.Need-add-i Inv-loop μ-loop
 add-i c = search needs
@@ -67,8 +71,11 @@ loop-less c = search needs
 loop-again : tie.Need-loop-again Inv-loop μ-loop
 loop-again c =
     let a = c .before .before .before .before .before .args in
-    let l = c .before .before .loop in
-    (omega arith, put-more (a .tag) (now (a .value)) (now (a .out)) (l .i) (l .out) (c .before .before .before .if2 .left) (l .inv .1) (c .before .loop-test .taken))
+    let l = c .before .before .loop in (
+      omega arith,
+      put-more (a .tag) (now (a .value)) (now (a .out)) (l .i) (l .out) (c .before .before .before .if2 .left) (l .inv .1)
+          (c .before .loop-test .taken),
+    )
 
 add-result : tie.Need-add-result Inv-loop μ-loop
 add-result c = search needs
@@ -83,7 +90,8 @@ returns-3 : tie.Need-returns-3 Inv-loop μ-loop
 returns-3 c =
     let a = c .before .before .before .before .args in
     let l = c .before .loop in
-    put-done (a .tag) (now (a .value)) (now (a .out)) (l .i) (l .out) (c .before .before .if2 .left) (l .inv .1) (c .before .before .before .if1 .left) (omega arith)
+    put-done (a .tag) (now (a .value)) (now (a .out)) (l .i) (l .out) (c .before .before .if2 .left) (l .inv .1)
+    (c .before .before .before .if1 .left) (omega arith)
 
 pub put-spec : {M : Type 1} → statement M
 put-spec =

@@ -5,16 +5,22 @@ use Rattle.letters.proofs.form_of.Statement.{statement}
 use Rattle.letters.proofs.form_of.Tie as tie
 use Rattle.letters.proofs.form_of.Reads as reads
 use Rattle.letters.proofs.form_of.Lts as lts
-use Rattle.letters.proofs.two_bytes.Reads as two-bytes-reads
+use Rattle.fields.proofs.two_bytes.Reads as two-bytes-reads
 
 returns : tie.Need-returns
-returns c = let a = c .before .before .before .args in form-33 (now (a .bytes)) (a .tag) (a .n) (c .before .before .before .pre) (c .before .if1 .taken) (c .if2 .taken)
+returns c =
+    let a = c .before .before .before .args in form-33 (now (a .bytes)) (a .tag) (a .n) (c .before .before .before .pre)
+    (c .before .if1 .taken) (c .if2 .taken)
 
 returns-2 : tie.Need-returns-2
-returns-2 c = let a = c .before .before .before .args in form-request (now (a .bytes)) (a .tag) (a .n) (c .before .before .before .pre) (c .before .if1 .taken) (c .if2 .left)
+returns-2 c =
+    let a = c .before .before .before .args in form-request (now (a .bytes)) (a .tag) (a .n) (c .before .before .before .pre)
+    (c .before .if1 .taken) (c .if2 .left)
 
 returns-3 : tie.Need-returns-3
-returns-3 c = let a = c .before .before .before .before .args in form-34 (now (a .bytes)) (a .tag) (a .n) (c .before .before .before .before .pre) (c .before .if3 .taken) (c .if4 .taken)
+returns-3 c =
+    let a = c .before .before .before .before .args in form-34 (now (a .bytes)) (a .tag) (a .n) (c .before .before .before .before .pre)
+    (c .before .if3 .taken) (c .if4 .taken)
 
 shared-slice-read-two-bytes : tie.Need-shared-slice-read-two-bytes
 shared-slice-read-two-bytes c = search needs
@@ -26,13 +32,20 @@ two-bytes-requires : tie.Need-two-bytes-requires
 two-bytes-requires c κs = search needs
 
 returns-4 : tie.Need-returns-4
-returns-4 c = let a = c .before .before .before .before .before .before .before .args in form-reply (now (a .bytes)) (a .tag) (a .n) (c .before .before .before .before .before .before .before .pre) _ (c .before .before .before .before .if3 .taken) (c .before .before .before .if4 .left) (c .two-bytes .ensures)
+returns-4 c =
+    let a = c .before .before .before .before .before .before .before .args in form-reply (now (a .bytes)) (a .tag) (a .n)
+    (c .before .before .before .before .before .before .before .pre) _ (c .before .before .before .before .if3 .taken)
+    (c .before .before .before .if4 .left) (c .two-bytes .ensures)
 
 returns-5 : tie.Need-returns-5
-returns-5 c = let a = c .before .before .before .before .args in form-other (now (a .bytes)) (a .tag) (a .n) (c .before .before .before .before .pre) (c .before .before .if1 .left) (c .before .if3 .left) (c .if5 .taken)
+returns-5 c =
+    let a = c .before .before .before .before .args in form-other (now (a .bytes)) (a .tag) (a .n) (c .before .before .before .before .pre)
+    (c .before .before .if1 .left) (c .before .if3 .left) (c .if5 .taken)
 
 returns-6 : tie.Need-returns-6
-returns-6 c = let a = c .before .before .before .before .before .args in form-35 (now (a .bytes)) (a .tag) (a .n) (c .before .before .before .before .before .pre) (c .before .before .before .if1 .left) (c .before .before .if3 .left) (c .if6 .taken)
+returns-6 c =
+    let a = c .before .before .before .before .before .args in form-35 (now (a .bytes)) (a .tag) (a .n)
+    (c .before .before .before .before .before .pre) (c .before .before .before .if1 .left) (c .before .before .if3 .left) (c .if6 .taken)
 
 shared-slice-read-two-bytes-3 : tie.Need-shared-slice-read-two-bytes-3
 shared-slice-read-two-bytes-3 c = search needs
@@ -47,7 +60,11 @@ shared-slice-read-t16 : tie.Need-shared-slice-read-t16
 shared-slice-read-t16 c = search needs
 
 returns-7 : tie.Need-returns-7
-returns-7 c = let a = c .before .before .before .before .before .before .before .before .before .args in form-notice (now (a .bytes)) (a .tag) (a .n) (c .before .before .before .before .before .before .before .before .before .pre) _ (c .before .before .before .before .before .before .before .if1 .left) (c .before .before .before .before .before .before .if3 .left) (c .before .before .before .before .before .if5 .left) (c .before .before .before .before .if6 .left) (c .before .two-bytes2 .ensures)
+returns-7 c =
+    let a = c .before .before .before .before .before .before .before .before .before .args in form-notice (now (a .bytes)) (a .tag) (a .n)
+    (c .before .before .before .before .before .before .before .before .before .pre) _
+    (c .before .before .before .before .before .before .before .if1 .left) (c .before .before .before .before .before .before .if3 .left)
+    (c .before .before .before .before .before .if5 .left) (c .before .before .before .before .if6 .left) (c .before .two-bytes2 .ensures)
 
 pub form-of-spec : {M : Type 1} → statement M
 form-of-spec =

@@ -57,7 +57,10 @@ same-length : tie.Need-same-length
 same-length c = search needs
 
 returns : tie.Need-returns
-returns c = let a = c .before .before .before .before .before .before .before .before .args in put-as _ _ (c .before .before .put-value .result) (now (a .out)) _ (sym (ap (bodyBytes (a .link) (a .side)) (c .before .before .before .before .before .enum-told .given .1))) (c .before .before .put-value .ensures)
+returns c =
+    let a = c .before .before .before .before .before .before .before .before .args in put-as _ _ (c .before .before .put-value .result)
+    (now (a .out)) _ (sym (ap (bodyBytes (a .link) (a .side)) (c .before .before .before .before .before .enum-told .given .1)))
+    (c .before .before .put-value .ensures)
 
 same-length-2 : tie.Need-same-length-2
 same-length-2 c = search needs
@@ -67,7 +70,9 @@ returns-2 c =
     let a = c .before .before .before .before .before .before .before .before .before .before .before .args in
     let g = c .before .before .before .before .before .before .before .before .body .given in
     put-as _ _ (c .before .before .put-value2 .result) (now (a .out)) _
-    (ap₂ (λ (x y : ℕ). writeField 34 (a .link ∷ a .side ∷ x ∷ y ∷ [])) (c .before .before .before .before .before .before .high-byte .ensures) (c .before .before .before .before .before .low-byte .ensures) ∙ sym (ap (bodyBytes (a .link) (a .side)) (g .1)))
+    (ap₂ (λ (x y : ℕ). writeField 34 (a .link ∷ a .side ∷ x ∷ y ∷ []))
+    (c .before .before .before .before .before .before .high-byte .ensures) (c .before .before .before .before .before .low-byte .ensures)
+    ∙ sym (ap (bodyBytes (a .link) (a .side)) (g .1)))
     (c .before .before .put-value2 .ensures)
 
 same-length-3 : tie.Need-same-length-3
@@ -78,7 +83,9 @@ returns-3 c =
     let a = c .before .before .before .before .before .before .before .before .before .before .before .args in
     let g = c .before .before .before .before .before .before .before .before .body2 .given in
     put-as _ _ (c .before .before .put-value3 .result) (now (a .out)) _
-    (ap₂ (λ (x y : ℕ). writeField 35 (a .link ∷ a .side ∷ g .0 .0 ∷ x ∷ y ∷ [])) (c .before .before .before .before .before .before .high-byte2 .ensures) (c .before .before .before .before .before .low-byte2 .ensures) ∙ sym (ap (bodyBytes (a .link) (a .side)) (g .1)))
+    (ap₂ (λ (x y : ℕ). writeField 35 (a .link ∷ a .side ∷ g .0 .0 ∷ x ∷ y ∷ []))
+    (c .before .before .before .before .before .before .high-byte2 .ensures) (c .before .before .before .before .before .low-byte2 .ensures)
+    ∙ sym (ap (bodyBytes (a .link) (a .side)) (g .1)))
     (c .before .before .put-value3 .ensures)
 
 pub put-letter-spec : {M : Type 1} → statement M

@@ -18,7 +18,8 @@ keeps-sheet-rules-requires : tie.Need-keeps-sheet-rules-requires
 keeps-sheet-rules-requires c κs = search needs
 
 returns : tie.Need-returns
-returns c = let a = c .before .before .before .args in read-bad (a .t1) (now (a .bytes)) _ (c .before .keeps-sheet-rules .ensures) (c .if1 .taken)
+returns c =
+    let a = c .before .before .before .args in read-bad (a .t1) (now (a .bytes)) _ (c .before .keeps-sheet-rules .ensures) (c .if1 .taken)
 
 cut-first-requires : tie.Need-cut-first-requires
 cut-first-requires c κs = search needs
@@ -33,7 +34,8 @@ returns-2 : tie.Need-returns-2
 returns-2 c =
     let a = c .before .before .before .before .before .before .args in
     let b = now (a .bytes) in
-    read-short (a .t1) b _ (c .before .before .before .before .keeps-sheet-rules .ensures) (c .before .before .before .if1 .left) (short-seen b (sym (c .enum-told .given .1) ∙ c .before .before .cut-first .ensures))
+    read-short (a .t1) b _ (c .before .before .before .before .keeps-sheet-rules .ensures) (c .before .before .before .if1 .left)
+    (short-seen b (sym (c .enum-told .given .1) ∙ c .before .before .cut-first .ensures))
 
 form-of-requires : tie.Need-form-of-requires
 form-of-requires c κs =
@@ -50,19 +52,39 @@ returns-3 : tie.Need-returns-3
 returns-3 c =
     let a = c .before .before .before .before .before .before .before .before .before .before .args in
     let b = now (a .bytes) in
-    read-unknown (a .t1) b _ (c .before .before .before .before .before .before .before .before .keeps-sheet-rules .ensures) (c .before .before .before .before .before .before .before .if1 .left) _ _ (whole-seen b _ _ (sym (c .before .before .before .before .tag .given .1) ∙ c .before .before .before .before .before .before .cut-first .ensures)) _ (c .before .before .form-of .ensures) (c .enum-told2 .given .1)
+    read-unknown (a .t1) b _ (c .before .before .before .before .before .before .before .before .keeps-sheet-rules .ensures)
+    (c .before .before .before .before .before .before .before .if1 .left) _ _
+    (whole-seen b _ _ (sym (c .before .before .before .before .tag .given .1)
+    ∙ c .before .before .before .before .before .before .cut-first .ensures)) _ (c .before .before .form-of .ensures)
+    (c .enum-told2 .given .1)
 
 shared-slice-read-link : tie.Need-shared-slice-read-link
 shared-slice-read-link c =
     let a = c .before .before .before .before .before .before .before .before .before .before .before .before .args in
     let b = now (a .bytes) in
-    omega (arith, read-room (a .t1) b _ (c .before .before .before .before .before .before .before .before .before .before .keeps-sheet-rules .ensures) (c .before .before .before .before .before .before .before .before .before .if1 .left) _ _ (whole-seen b _ _ (sym (c .before .before .before .before .before .before .tag .given .1) ∙ c .before .before .before .before .before .before .before .before .cut-first .ensures)) _ (c .before .before .before .before .form-of .ensures) _ (c .before .before .body .given .1))
+    omega (
+      arith,
+      read-room (a .t1) b _
+          (c .before .before .before .before .before .before .before .before .before .before .keeps-sheet-rules .ensures)
+          (c .before .before .before .before .before .before .before .before .before .if1 .left) _ _
+          (whole-seen b _ _ (sym (c .before .before .before .before .before .before .tag .given .1)
+          ∙ c .before .before .before .before .before .before .before .before .cut-first .ensures)) _
+          (c .before .before .before .before .form-of .ensures) _ (c .before .before .body .given .1),
+    )
 
 shared-slice-read-side : tie.Need-shared-slice-read-side
 shared-slice-read-side c =
     let a = c .before .before .before .before .before .before .before .before .before .before .before .before .before .args in
     let b = now (a .bytes) in
-    omega (arith, read-room (a .t1) b _ (c .before .before .before .before .before .before .before .before .before .before .before .keeps-sheet-rules .ensures) (c .before .before .before .before .before .before .before .before .before .before .if1 .left) _ _ (whole-seen b _ _ (sym (c .before .before .before .before .before .before .before .tag .given .1) ∙ c .before .before .before .before .before .before .before .before .before .cut-first .ensures)) _ (c .before .before .before .before .before .form-of .ensures) _ (c .before .before .before .body .given .1))
+    omega (
+      arith,
+      read-room (a .t1) b _
+          (c .before .before .before .before .before .before .before .before .before .before .before .keeps-sheet-rules .ensures)
+          (c .before .before .before .before .before .before .before .before .before .before .if1 .left) _ _
+          (whole-seen b _ _ (sym (c .before .before .before .before .before .before .before .tag .given .1)
+          ∙ c .before .before .before .before .before .before .before .before .before .cut-first .ensures)) _
+          (c .before .before .before .before .before .form-of .ensures) _ (c .before .before .before .body .given .1),
+    )
 
 values-hold-requires : tie.Need-values-hold-requires
 values-hold-requires c κs = search needs
@@ -71,12 +93,22 @@ returns-4 : tie.Need-returns-4
 returns-4 c =
     let a = c .before .before .before .before .before .before .before .before .before .before .before .before .before .before .before .args in
     let b = now (a .bytes) in
-    read-range (a .t1) b _ (c .before .before .before .before .before .before .before .before .before .before .before .before .before .keeps-sheet-rules .ensures) (c .before .before .before .before .before .before .before .before .before .before .before .before .if1 .left) _ _ (whole-seen b _ _ (sym (c .before .before .before .before .before .before .before .before .before .tag .given .1) ∙ c .before .before .before .before .before .before .before .before .before .before .before .cut-first .ensures)) _ (c .before .before .before .before .before .before .before .form-of .ensures) _ (c .before .before .before .before .before .body .given .1) _ (c .before .values-hold .ensures) (c .if2 .taken)
+    read-range (a .t1) b _
+    (c .before .before .before .before .before .before .before .before .before .before .before .before .before .keeps-sheet-rules .ensures)
+    (c .before .before .before .before .before .before .before .before .before .before .before .before .if1 .left) _ _
+    (whole-seen b _ _ (sym (c .before .before .before .before .before .before .before .before .before .tag .given .1)
+    ∙ c .before .before .before .before .before .before .before .before .before .before .before .cut-first .ensures)) _
+    (c .before .before .before .before .before .before .before .form-of .ensures) _
+    (c .before .before .before .before .before .body .given .1) _ (c .before .values-hold .ensures) (c .if2 .taken)
 
 add-if3 : tie.Need-add-if3
 add-if3 c =
     let b = now (c .before .before .before .before .before .before .before .before .before .before .before .before .before .before .before .args .bytes) in
-    omega (arith, whole-seen b _ _ (sym (c .before .before .before .before .before .before .before .before .before .tag .given .1) ∙ c .before .before .before .before .before .before .before .before .before .before .before .cut-first .ensures) .fits)
+    omega (
+      arith,
+      whole-seen b _ _ (sym (c .before .before .before .before .before .before .before .before .before .tag .given .1)
+          ∙ c .before .before .before .before .before .before .before .before .before .before .before .cut-first .ensures) .fits,
+    )
 
 returns-5 : tie.Need-returns-5
 returns-5 c =

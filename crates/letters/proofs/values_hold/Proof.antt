@@ -16,7 +16,9 @@ body-holds-requires : tie.Need-body-holds-requires
 body-holds-requires c κs = search needs
 
 returns-3 : tie.Need-returns-3
-returns-3 c = let a = c .before .before .before .args in values-body (a .links) (a .body) (a .link) (a .side) _ (c .before .before .if1 .left) (c .before .if2 .left) (c .body-holds .ensures)
+returns-3 c =
+    let a = c .before .before .before .args in values-body (a .links) (a .body) (a .link) (a .side) _ (c .before .before .if1 .left)
+    (c .before .if2 .left) (c .body-holds .ensures)
 
 pub values-hold-spec : {M : Type 1} → statement M
 values-hold-spec = tie.close (tie.spec returns returns-2 body-holds-requires returns-3)

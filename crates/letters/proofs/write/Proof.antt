@@ -7,7 +7,7 @@ use Rattle.letters.proofs.write.Tie as tie
 use Rattle.letters.proofs.write.Reads as reads
 use Rattle.letters.proofs.write.Lts as lts
 use Rattle.net.proofs.body_holds.Reads as body-holds-reads
-use Rattle.letters.proofs.is_end.Reads as is-end-reads
+use Rattle.net.proofs.is_end.Reads as is-end-reads
 use Rattle.letters.proofs.put_letter.Reads as put-letter-reads
 use Rattle.letters.proofs.side_of.Reads as side-of-reads
 use Rattle.sheet_rules.proofs.keeps_sheet_rules.Reads as keeps-sheet-rules-reads
@@ -16,37 +16,59 @@ keeps-sheet-rules-requires : tie.Need-keeps-sheet-rules-requires
 keeps-sheet-rules-requires c κs = search needs
 
 returns : tie.Need-returns
-returns c = let a = c .before .before .before .args in write-bad (a .t1) (a .letter) (now (a .out)) _ (c .before .keeps-sheet-rules .ensures) (c .if1 .taken)
+returns c =
+    let a = c .before .before .before .args in write-bad (a .t1) (a .letter) (now (a .out)) _ (c .before .keeps-sheet-rules .ensures)
+    (c .if1 .taken)
 
 cast-if2 : tie.Need-cast-if2
 cast-if2 c = search needs
 
 returns-2 : tie.Need-returns-2
-returns-2 c = let a = c .before .before .before .before .args in write-link (a .t1) (a .letter) (now (a .out)) _ (c .before .before .keeps-sheet-rules .ensures) (c .before .if1 .left) (c .if2 .taken)
+returns-2 c =
+    let a = c .before .before .before .before .args in write-link (a .t1) (a .letter) (now (a .out)) _
+    (c .before .before .keeps-sheet-rules .ensures) (c .before .if1 .left) (c .if2 .taken)
 
 cast-i : tie.Need-cast-i
 cast-i c = search needs
 
 element-copy-out-low : tie.Need-element-copy-out-low
-element-copy-out-low c = let a = c .before .before .before .before .args in write-place (a .t1) (a .letter) (now (a .out)) _ (c .before .before .keeps-sheet-rules .ensures) (c .before .if1 .left) (c .if2 .left)
+element-copy-out-low c =
+    let a = c .before .before .before .before .args in write-place (a .t1) (a .letter) (now (a .out)) _
+    (c .before .before .keeps-sheet-rules .ensures) (c .before .if1 .left) (c .if2 .left)
 
 element-copy-out-is-end : tie.Need-element-copy-out-is-end
-element-copy-out-is-end c = let a = c .before .before .before .before .before .args in write-place (a .t1) (a .letter) (now (a .out)) _ (c .before .before .before .keeps-sheet-rules .ensures) (c .before .before .if1 .left) (c .before .if2 .left)
+element-copy-out-is-end c =
+    let a = c .before .before .before .before .before .args in write-place (a .t1) (a .letter) (now (a .out)) _
+    (c .before .before .before .keeps-sheet-rules .ensures) (c .before .before .if1 .left) (c .before .if2 .left)
 
 is-end-requires : tie.Need-is-end-requires
 is-end-requires c κs = search needs
 
 returns-3 : tie.Need-returns-3
-returns-3 c = let a = c .before .before .before .before .before .before .before .before .args in write-sender (a .t1) (a .letter) (now (a .out)) _ (c .before .before .before .before .before .before .keeps-sheet-rules .ensures) (c .before .before .before .before .before .if1 .left) (c .before .before .before .before .if2 .left) _ (c .before .is-end .ensures) (c .if3 .taken)
+returns-3 c =
+    let a = c .before .before .before .before .before .before .before .before .args in write-sender (a .t1) (a .letter) (now (a .out)) _
+    (c .before .before .before .before .before .before .keeps-sheet-rules .ensures) (c .before .before .before .before .before .if1 .left)
+    (c .before .before .before .before .if2 .left) _ (c .before .is-end .ensures) (c .if3 .taken)
 
 body-holds-requires : tie.Need-body-holds-requires
 body-holds-requires c κs = search needs
 
 returns-4 : tie.Need-returns-4
-returns-4 c = let a = c .before .before .before .before .before .before .before .before .before .before .args in write-body (a .t1) (a .letter) (now (a .out)) _ (c .before .before .before .before .before .before .before .before .keeps-sheet-rules .ensures) (c .before .before .before .before .before .before .before .if1 .left) (c .before .before .before .before .before .before .if2 .left) _ (c .before .before .before .is-end .ensures) (c .before .before .if3 .left) _ (c .before .body-holds .ensures) (c .if4 .taken)
+returns-4 c =
+    let a = c .before .before .before .before .before .before .before .before .before .before .args in write-body (a .t1) (a .letter)
+    (now (a .out)) _ (c .before .before .before .before .before .before .before .before .keeps-sheet-rules .ensures)
+    (c .before .before .before .before .before .before .before .if1 .left) (c .before .before .before .before .before .before .if2 .left) _
+    (c .before .before .before .is-end .ensures) (c .before .before .if3 .left) _ (c .before .body-holds .ensures) (c .if4 .taken)
 
 cast-put-letter : tie.Need-cast-put-letter
-cast-put-letter c = let a = c .before .before .before .before .before .before .before .before .before .before .before .args in omega (arith, write-place (a .t1) (a .letter) (now (a .out)) _ (c .before .before .before .before .before .before .before .before .before .keeps-sheet-rules .ensures) (c .before .before .before .before .before .before .before .before .if1 .left) (c .before .before .before .before .before .before .before .if2 .left))
+cast-put-letter c =
+    let a = c .before .before .before .before .before .before .before .before .before .before .before .args in omega (
+      arith,
+      write-place (a .t1) (a .letter) (now (a .out)) _
+          (c .before .before .before .before .before .before .before .before .before .keeps-sheet-rules .ensures)
+          (c .before .before .before .before .before .before .before .before .if1 .left)
+          (c .before .before .before .before .before .before .before .if2 .left),
+    )
 
 side-of-requires : tie.Need-side-of-requires
 side-of-requires c κs = search needs
@@ -60,7 +82,13 @@ same-length c = search needs
 returns-5 : tie.Need-returns-5
 returns-5 c =
     let a = c .before .before .before .before .before .before .before .before .before .before .before .before .before .before .before .args in
-    write-good (a .t1) (a .letter) (now (a .out)) _ (c .before .before .before .before .before .before .before .before .before .before .before .before .before .keeps-sheet-rules .ensures) (c .before .before .before .before .before .before .before .before .before .before .before .before .if1 .left) (c .before .before .before .before .before .before .before .before .before .before .before .if2 .left) _ (c .before .before .before .before .before .before .before .before .is-end .ensures) (c .before .before .before .before .before .before .before .if3 .left) _ (c .before .before .before .before .before .before .body-holds .ensures) (c .before .before .before .before .before .if4 .left)
+    write-good (a .t1) (a .letter) (now (a .out)) _
+    (c .before .before .before .before .before .before .before .before .before .before .before .before .before .keeps-sheet-rules .ensures)
+    (c .before .before .before .before .before .before .before .before .before .before .before .before .if1 .left)
+    (c .before .before .before .before .before .before .before .before .before .before .before .if2 .left) _
+    (c .before .before .before .before .before .before .before .before .is-end .ensures)
+    (c .before .before .before .before .before .before .before .if3 .left) _
+    (c .before .before .before .before .before .before .body-holds .ensures) (c .before .before .before .before .before .if4 .left)
     (c .before .before .put-letter .result) _ _ (c .before .before .before .side-of .ensures) (c .before .before .put-letter .ensures)
 
 pub write-spec : {M : Type 1} → statement M

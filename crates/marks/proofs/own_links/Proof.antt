@@ -47,8 +47,11 @@ loop-again : tie.Need-loop-again Inv-loop μ-loop
 loop-again c =
     let a = c .before .before .before .before .before .before .before .args in
     let l = c .before .before .before .before .before .loop in
-    let h : l .k < linkCount (a .t1) = omega (arith, c .before .before .before .before .before .before .at-most-64 .ensures) in
-    (omega arith, upto-more (λ t. isEnd (networkOf (a .t1)) t (a .s)) (l .k) (l .own) _ _ (l .inv .1) (own-read (a .t1) (a .s) (l .k) _ h (c .before .is-end .ensures)) (c .put .ensures))
+    let h : l .k < linkCount (a .t1) = omega (arith, c .before .before .before .before .before .before .at-most-64 .ensures) in (
+      omega arith,
+      upto-more (λ t. isEnd (networkOf (a .t1)) t (a .s)) (l .k) (l .own) _ _ (l .inv .1)
+          (own-read (a .t1) (a .s) (l .k) _ h (c .before .is-end .ensures)) (c .put .ensures),
+    )
 
 returns : tie.Need-returns Inv-loop μ-loop
 returns c =

@@ -13,7 +13,9 @@ same-length : tie.Need-same-length
 same-length c = search needs
 
 returns : tie.Need-returns
-returns c = let a = c .before .before .before .before .before .before .before .args in same-word _ _ _ _ _ _ (condition-waiting (a .waiting) (c .before .before .before .before .before .if1 .taken)) (c .before .before .put-word .ensures)
+returns c =
+    let a = c .before .before .before .before .before .before .before .args in same-word _ _ _ _ _ _
+    (condition-waiting (a .waiting) (c .before .before .before .before .before .if1 .taken)) (c .before .before .put-word .ensures)
 
 slice-aggregate-put-word-2 : tie.Need-slice-aggregate-put-word-2
 slice-aggregate-put-word-2 c = search needs
@@ -25,7 +27,9 @@ same-length-2 : tie.Need-same-length-2
 same-length-2 c = search needs
 
 returns-2 : tie.Need-returns-2
-returns-2 c = let a = c .before .before .before .before .before .before .before .args in same-word _ _ _ _ _ _ (condition-down (a .waiting) (c .before .before .before .before .before .if1 .left)) (c .before .before .put-word2 .ensures)
+returns-2 c =
+    let a = c .before .before .before .before .before .before .before .args in same-word _ _ _ _ _ _
+    (condition-down (a .waiting) (c .before .before .before .before .before .if1 .left)) (c .before .before .put-word2 .ensures)
 
 pub put-condition-spec : {M : Type 1} → statement M
 put-condition-spec =

@@ -55,7 +55,8 @@ returns c =
     let n2 = chain-next (digits (a .k)) n1 (c .before .before .before .before .before .before .before .before .before .before .before .before .before .before .before .before .before .before .before .before .before .before .before .before .put-number .ensures) in
     let n3 = chain-next openWord n2 (c .before .before .before .before .before .before .before .before .before .before .before .before .before .before .before .before .before .before .before .put-word2 .ensures) in
     let n4 = chain-next (digits (a .low)) n3 (c .before .before .before .before .before .before .before .before .before .before .before .before .before .before .before .put-number2 .ensures) in
-    let n5 = chain-next dashWord n4 (c .before .before .before .before .before .before .before .before .before .before .put-word3 .ensures) in
+    let n5 = chain-next dashWord n4
+    (c .before .before .before .before .before .before .before .before .before .before .put-word3 .ensures) in
     let n6 = chain-next (digits (a .high)) n5 (c .before .before .before .before .before .before .put-number3 .ensures) in
     let n7 = chain-next (linkShown (a .shown)) n6 (c .before .before .put-link-shown .ensures) in
     put-parts 44 n7 (link-whole (a .k) (a .low) (a .high) (a .shown)) (link-few (a .k) (a .low) (a .high) (a .shown) (f .0) (f .1) (f .2)) (c .before .before .before .before .before .before .before .before .before .before .before .before .before .before .before .before .before .before .before .before .before .before .before .before .before .before .before .before .before .before .before .before .pre)

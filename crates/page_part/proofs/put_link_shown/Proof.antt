@@ -13,7 +13,9 @@ same-length : tie.Need-same-length
 same-length c = search needs
 
 returns : tie.Need-returns
-returns c = let a = c .before .before .before .before .before .before .before .args in same-word _ _ _ _ _ _ (link-perceived (a .shown) (c .before .before .before .before .before .if1 .taken)) (c .before .before .put-word .ensures)
+returns c =
+    let a = c .before .before .before .before .before .before .before .args in same-word _ _ _ _ _ _
+    (link-perceived (a .shown) (c .before .before .before .before .before .if1 .taken)) (c .before .before .put-word .ensures)
 
 slice-aggregate-put-word-2 : tie.Need-slice-aggregate-put-word-2
 slice-aggregate-put-word-2 c = search needs
@@ -25,7 +27,10 @@ same-length-2 : tie.Need-same-length-2
 same-length-2 c = search needs
 
 returns-2 : tie.Need-returns-2
-returns-2 c = let a = c .before .before .before .before .before .before .before .before .args in same-word _ _ _ _ _ _ (link-working (a .shown) (c .before .before .before .before .before .before .if1 .left) (c .before .before .before .before .before .if2 .taken)) (c .before .before .put-word2 .ensures)
+returns-2 c =
+    let a = c .before .before .before .before .before .before .before .before .args in same-word _ _ _ _ _ _
+    (link-working (a .shown) (c .before .before .before .before .before .before .if1 .left)
+    (c .before .before .before .before .before .if2 .taken)) (c .before .before .put-word2 .ensures)
 
 slice-aggregate-put-word-3 : tie.Need-slice-aggregate-put-word-3
 slice-aggregate-put-word-3 c = search needs
@@ -37,7 +42,10 @@ same-length-3 : tie.Need-same-length-3
 same-length-3 c = search needs
 
 returns-3 : tie.Need-returns-3
-returns-3 c = let a = c .before .before .before .before .before .before .before .before .args in same-word _ _ _ _ _ _ (link-unresponsive (a .shown) (c .before .before .before .before .before .before .if1 .left) (c .before .before .before .before .before .if2 .left)) (c .before .before .put-word3 .ensures)
+returns-3 c =
+    let a = c .before .before .before .before .before .before .before .before .args in same-word _ _ _ _ _ _
+    (link-unresponsive (a .shown) (c .before .before .before .before .before .before .if1 .left)
+    (c .before .before .before .before .before .if2 .left)) (c .before .before .put-word3 .ensures)
 
 pub put-link-shown-spec : {M : Type 1} → statement M
 put-link-shown-spec =

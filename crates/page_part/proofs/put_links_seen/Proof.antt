@@ -18,7 +18,8 @@ abbrev line : List ℕ → List ℕ → List ℕ → ℕ → ℕ → List ℕ
 line low high seen n k = linkText k (getD low k 0) (getD high k 0) (getD seen (n + k) 0)
 
 abbrev Inv-loop : tie.InvT-loop
-Inv-loop out₀ at n m low high seen from to₀ k₀ out to k = (k ≤ m) × (to ≤ at + 44 * k) × Chain (collect (line low high seen n) (below k)) at out₀ to out
+Inv-loop out₀ at n m low high seen from to₀ k₀ out to k =
+    (k ≤ m) × (to ≤ at + 44 * k) × Chain (collect (line low high seen n) (below k)) at out₀ to out
 
 abbrev μ-loop : tie.MeasureT-loop
 μ-loop out₀ at n m low high seen from to₀ k₀ out to k = m - k
@@ -55,8 +56,12 @@ loop-again c =
     let l = c .before .before .before .before .before .loop in
     let a = c .before .before .before .before .before .before .before .args in
     let p = c .before .before .put-link .ensures in
-    let q = put-next (omega (arith, l .inv .2 .size)) p in
-    (omega arith, omega (arith, p .place, p .few), chain-same (texts-more (line (a .t5) (a .t6) (a .t7) (a .n)) (l .k)) (chain-next _ (l .inv .2) q))
+    let q = put-next (omega (arith, l .inv .2 .size)) p in (
+      omega arith,
+      omega (arith, p .place, p .few),
+      chain-same (texts-more (line (a .t5) (a .t6) (a .t7) (a .n)) (l .k))
+          (chain-next _ (l .inv .2) q),
+    )
 
 same-length : tie.Need-same-length Inv-loop μ-loop
 same-length c = c .before .loop .inv .2 .size
@@ -66,7 +71,8 @@ returns c =
     let l = c .before .loop in
     let a = c .before .before .before .args in
     let done : l .k ≡ a .m = omega arith in
-    put-lines (collect (line (a .t5) (a .t6) (a .t7) (a .n)) (below (a .m))) (44 * a .m) (a .at) (now (a .out)) (l .to) (l .out) (chain-same (ap (λ (k : ℕ). collect (line (a .t5) (a .t6) (a .t7) (a .n)) (below k)) done) (l .inv .2)) (omega arith) (omega arith)
+    put-lines (collect (line (a .t5) (a .t6) (a .t7) (a .n)) (below (a .m))) (44 * a .m) (a .at) (now (a .out)) (l .to) (l .out)
+    (chain-same (ap (λ (k : ℕ). collect (line (a .t5) (a .t6) (a .t7) (a .n)) (below k)) done) (l .inv .2)) (omega arith) (omega arith)
 
 pub put-links-seen-spec : {M : Type 1} → statement M
 put-links-seen-spec =

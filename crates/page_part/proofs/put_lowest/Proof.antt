@@ -27,7 +27,8 @@ returns c =
     let a = c .before .before .before .before .before .before .before .args in
     let f = few (c .before .before .before .before .before .before .before) in
     let n1 = chain-next (10 ∷ []) (chain-none (a .at) (now (a .out)) (omega arith)) (c .before .before .put-word .ensures) in
-    put-parts 25 n1 (lowest-all (a .lowest) (c .before .before .before .before .before .if1 .taken)) (lowest-few (a .lowest) f) (omega arith)
+    put-parts 25 n1 (lowest-all (a .lowest) (c .before .before .before .before .before .if1 .taken)) (lowest-few (a .lowest) f)
+    (omega arith)
 
 slice-aggregate-put-word-2 : tie.Need-slice-aggregate-put-word-2
 slice-aggregate-put-word-2 c = search needs
@@ -51,10 +52,13 @@ returns-2 : tie.Need-returns-2
 returns-2 c =
     let a = c .before .before .before .before .before .before .before .before .before .before .before .before .before .before .before .before .args in
     let f = few (c .before .before .before .before .before .before .before .before .before .before .before .before .before .before .before .before) in
-    let n1 = chain-next lowestWord (chain-none (a .at) (now (a .out)) (omega arith)) (c .before .before .before .before .before .before .before .before .before .before .before .put-word2 .ensures) in
+    let n1 = chain-next lowestWord (chain-none (a .at) (now (a .out)) (omega arith))
+    (c .before .before .before .before .before .before .before .before .before .before .before .put-word2 .ensures) in
     let n2 = chain-next (digits (a .lowest)) n1 (c .before .before .before .before .before .before .before .put-number .ensures) in
     let n3 = chain-next (10 ∷ []) n2 (c .before .before .put-word3 .ensures) in
-    put-parts 25 n3 (lowest-whole (a .lowest) (c .before .before .before .before .before .before .before .before .before .before .before .before .before .before .if1 .left)) (lowest-few (a .lowest) f) (omega arith)
+    put-parts 25 n3 (lowest-whole (a .lowest)
+    (c .before .before .before .before .before .before .before .before .before .before .before .before .before .before .if1 .left))
+    (lowest-few (a .lowest) f) (omega arith)
 
 pub put-lowest-spec : {M : Type 1} → statement M
 put-lowest-spec =

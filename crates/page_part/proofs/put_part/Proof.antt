@@ -11,10 +11,16 @@ is-there-requires : tie.Need-is-there-requires
 is-there-requires c κs = search needs
 
 returns : tie.Need-returns
-returns c = let a = c .before .before .before .args in part-refused (a .number) (partText (a .number) (a .net) (a .s) (a .ones) (a .lowest) (a .waiting) (a .seen)) (now (a .out)) _ (c .before .is-there .ensures) (not-true _ (c .if1 .taken))
+returns c =
+    let a = c .before .before .before .args in part-refused (a .number)
+    (partText (a .number) (a .net) (a .s) (a .ones) (a .lowest) (a .waiting) (a .seen)) (now (a .out)) _ (c .before .is-there .ensures)
+    (not-true _ (c .if1 .taken))
 
 returns-2 : tie.Need-returns-2
-returns-2 c = let a = c .before .before .before .before .args in part-short (a .number) (partText (a .number) (a .net) (a .s) (a .ones) (a .lowest) (a .waiting) (a .seen)) (now (a .out)) _ (c .before .before .is-there .ensures) (not-false _ (c .before .if1 .left)) (c .if2 .taken)
+returns-2 c =
+    let a = c .before .before .before .before .args in part-short (a .number)
+    (partText (a .number) (a .net) (a .s) (a .ones) (a .lowest) (a .waiting) (a .seen)) (now (a .out)) _
+    (c .before .before .is-there .ensures) (not-false _ (c .before .if1 .left)) (c .if2 .taken)
 
 put-still-requires : tie.Need-put-still-requires
 put-still-requires c κs = search needs
@@ -25,7 +31,11 @@ same-length c = search needs
 returns-3 : tie.Need-returns-3
 returns-3 c =
     let a = c .before .before .before .before .before .before .before .before .before .args in
-    part-put (a .number) (partText (a .number) (a .net) (a .s) (a .ones) (a .lowest) (a .waiting) (a .seen)) (now (a .out)) _ (c .before .before .before .before .before .before .before .is-there .ensures) (not-false _ (c .before .before .before .before .before .before .if1 .left)) _ _ _ (c .before .before .before .before .before .if2 .left) (part-still (a .number) (a .net) (a .s) (a .ones) (a .lowest) (a .waiting) (a .seen) (c .before .before .before .before .if3 .taken))
+    part-put (a .number) (partText (a .number) (a .net) (a .s) (a .ones) (a .lowest) (a .waiting) (a .seen)) (now (a .out)) _
+    (c .before .before .before .before .before .before .before .is-there .ensures)
+    (not-false _ (c .before .before .before .before .before .before .if1 .left)) _ _ _
+    (c .before .before .before .before .before .if2 .left)
+    (part-still (a .number) (a .net) (a .s) (a .ones) (a .lowest) (a .waiting) (a .seen) (c .before .before .before .before .if3 .taken))
     (put-wider _ 24 4096 0 (now (a .out)) _ _ (omega arith) (c .before .before .put-still .ensures))
 
 at-most-requires : tie.Need-at-most-requires
@@ -53,7 +63,9 @@ returns-4 : tie.Need-returns-4
 returns-4 c =
     let a = c .before .before .before .before .before .before .before .before .before .before .before .before .before .before .before .before .before .before .before .before .before .before .before .before .before .args in
     let put = live-put (a .net) (a .seen) _ _ (c .before .before .before .before .before .before .before .before .before .before .before .before .before .before .before .before .before .before .before .at-most .ensures) (c .before .before .before .before .before .before .before .before .before .before .before .before .before .before .before .before .before .before .at-most2 .ensures) (a .s) (a .ones) (a .lowest) (now (a .out)) _ _ _ _ _ _ _ _ (c .before .before .before .before .before .before .before .before .before .before .before .before .before .before .before .before .before .before .before .before .before .if2 .left)
-    (c .before .before .before .before .before .before .before .before .before .before .before .before .before .before .put-reach .ensures) (c .before .before .before .before .before .before .before .before .before .before .put-lowest .ensures) (c .before .before .before .before .before .before .put-stations-seen .ensures) (c .before .before .put-links-seen .ensures) in
+    (c .before .before .before .before .before .before .before .before .before .before .before .before .before .before .put-reach .ensures)
+    (c .before .before .before .before .before .before .before .before .before .before .put-lowest .ensures)
+    (c .before .before .before .before .before .before .put-stations-seen .ensures) (c .before .before .put-links-seen .ensures) in
     part-put (a .number) (partText (a .number) (a .net) (a .s) (a .ones) (a .lowest) (a .waiting) (a .seen)) (now (a .out)) _ (c .before .before .before .before .before .before .before .before .before .before .before .before .before .before .before .before .before .before .before .before .before .before .before .is-there .ensures) (not-false _ (c .before .before .before .before .before .before .before .before .before .before .before .before .before .before .before .before .before .before .before .before .before .before .if1 .left)) _ _ _ (c .before .before .before .before .before .before .before .before .before .before .before .before .before .before .before .before .before .before .before .before .before .if2 .left) (part-live (a .number) (a .net) (a .s) (a .ones) (a .lowest) (a .waiting) (a .seen) (c .before .before .before .before .before .before .before .before .before .before .before .before .before .before .before .before .before .before .before .before .if3 .left)) put
 
 pub put-part-spec : {M : Type 1} → statement M

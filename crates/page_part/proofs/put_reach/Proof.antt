@@ -50,10 +50,12 @@ returns c =
     let n1 = chain-next stationWord (chain-none 0 (now (a .out)) (omega arith)) (c .before .before .before .before .before .before .before .before .before .before .before .before .before .before .before .before .before .before .before .before .before .before .before .before .put-word .ensures) in
     let n2 = chain-next (digits (a .s)) n1 (c .before .before .before .before .before .before .before .before .before .before .before .before .before .before .before .before .before .before .before .before .put-number .ensures) in
     let n3 = chain-next liveWord n2 (c .before .before .before .before .before .before .before .before .before .before .before .before .before .before .before .put-word2 .ensures) in
-    let n4 = chain-next (digits (a .ones)) n3 (c .before .before .before .before .before .before .before .before .before .before .before .put-number2 .ensures) in
+    let n4 = chain-next (digits (a .ones)) n3
+    (c .before .before .before .before .before .before .before .before .before .before .before .put-number2 .ensures) in
     let n5 = chain-next ofWord n4 (c .before .before .before .before .before .before .put-word3 .ensures) in
     let n6 = chain-next (digits (a .stations)) n5 (c .before .before .put-number3 .ensures) in
-    put-parts 40 n6 (reach-whole (a .s) (a .ones) (a .stations)) (reach-few (a .s) (a .ones) (a .stations) (f .0) (f .1) (f .2)) (omega arith)
+    put-parts 40 n6 (reach-whole (a .s) (a .ones) (a .stations)) (reach-few (a .s) (a .ones) (a .stations) (f .0) (f .1) (f .2))
+    (omega arith)
 
 pub put-reach-spec : {M : Type 1} → statement M
 put-reach-spec =

@@ -33,7 +33,8 @@ returns : tie.Need-returns
 returns c =
     let a = c .before .before .before .before .before .before .before .before .before .before .before .before .before .before .args in
     let f = few (c .before .before .before .before .before .before .before .before .before .before .before .before .before .before) in
-    let n1 = chain-next underStation (chain-none (a .at) (now (a .out)) (omega arith)) (c .before .before .before .before .before .before .before .before .before .before .put-word .ensures) in
+    let n1 = chain-next underStation (chain-none (a .at) (now (a .out)) (omega arith))
+    (c .before .before .before .before .before .before .before .before .before .before .put-word .ensures) in
     let n2 = chain-next (digits (a .t)) n1 (c .before .before .before .before .before .before .put-number .ensures) in
     let n3 = chain-next (stationShown (a .shown)) n2 (c .before .before .put-station-shown .ensures) in
     put-parts 26 n3 (seen-whole (a .t) (a .shown)) (seen-few (a .t) (a .shown) f) (omega arith)

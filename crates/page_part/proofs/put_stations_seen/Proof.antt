@@ -57,7 +57,8 @@ returns c =
     let l = c .before .loop in
     let a = c .before .before .before .args in
     let done : l .t ≡ a .n = omega arith in
-    put-lines (collect (line (a .t4)) (below (a .n))) (26 * a .n) (a .at) (now (a .out)) (l .to) (l .out) (chain-same (ap (λ (k : ℕ). collect (line (a .t4)) (below k)) done) (l .inv .2)) (omega arith) (omega arith)
+    put-lines (collect (line (a .t4)) (below (a .n))) (26 * a .n) (a .at) (now (a .out)) (l .to) (l .out)
+    (chain-same (ap (λ (k : ℕ). collect (line (a .t4)) (below k)) done) (l .inv .2)) (omega arith) (omega arith)
 
 pub put-stations-seen-spec : {M : Type 1} → statement M
 put-stations-seen-spec =

@@ -32,7 +32,8 @@ returns : tie.Need-returns
 returns c =
     let a = c .before .before .before .before .before .before .before .before .before .before .before .before .before .before .args in
     let f = few (c .before .before .before .before .before .before .before .before .before .before .before .before .before .before) in
-    let n1 = chain-next stationWord (chain-none 0 (now (a .out)) (omega arith)) (c .before .before .before .before .before .before .before .before .before .before .put-word .ensures) in
+    let n1 = chain-next stationWord (chain-none 0 (now (a .out)) (omega arith))
+    (c .before .before .before .before .before .before .before .before .before .before .put-word .ensures) in
     let n2 = chain-next (digits (a .s)) n1 (c .before .before .before .before .before .before .put-number .ensures) in
     let n3 = chain-next (conditionWord (a .waiting)) n2 (c .before .before .put-condition .ensures) in
     put-parts 24 n3 (still-whole (a .s) (a .waiting)) (still-few (a .s) (a .waiting) f) (omega arith)

@@ -10,7 +10,8 @@ use Rattle.page_program.proofs.count_answers.Statement.{statement}
 use Rattle.page_program.proofs.count_answers.Tie as tie
 
 abbrev Inv-loop : tie.InvT-loop
-Inv-loop bytes a₀ begins₀ i₀ i-end a begins i = (i ≤ i-end) × (i-end ≡ length bytes) × (counting begins₀ bytes a₀ ≡ counting begins (drop i bytes) a)
+Inv-loop bytes a₀ begins₀ i₀ i-end a begins i =
+    (i ≤ i-end) × (i-end ≡ length bytes) × (counting begins₀ bytes a₀ ≡ counting begins (drop i bytes) a)
 
 abbrev μ-loop : tie.MeasureT-loop
 μ-loop bytes a₀ begins₀ i₀ i-end a begins i = i-end - i
@@ -31,10 +32,19 @@ loop-less : tie.Need-loop-less Inv-loop μ-loop
 loop-less c = omega arith
 
 loop-again : tie.Need-loop-again Inv-loop μ-loop
-loop-again c = let l = c .before .before .before .loop in (omega arith, omega arith, l .inv .2 ∙ counting-more (l .begins) (now (c .before .before .before .before .before .args .bytes)) (l .a) _ (l .i) (omega arith) (c .count-byte .ensures))
+loop-again c =
+    let l = c .before .before .before .loop in (
+      omega arith,
+      omega arith,
+      l .inv .2
+          ∙ counting-more (l .begins) (now (c .before .before .before .before .before .args .bytes)) (l .a) _ (l .i) (omega arith)
+          (c .count-byte .ensures),
+    )
 
 returns : tie.Need-returns Inv-loop μ-loop
-returns c = let l = c .before .loop in sym (l .inv .2 ∙ counting-none (l .begins) (now (c .before .before .before .args .bytes)) (l .a) (l .i) (omega arith))
+returns c =
+    let l = c .before .loop in sym (l .inv .2
+    ∙ counting-none (l .begins) (now (c .before .before .before .args .bytes)) (l .a) (l .i) (omega arith))
 
 pub count-answers-spec : {M : Type 1} → statement M
 count-answers-spec =

@@ -44,10 +44,13 @@ returns-2 c =
     let a = c .before .before .before .before .before .before .before .before .before .before .before .before .before .before .before .before .before .before .before .before .args in
     let f = few (c .before .before .before .before .before .before .before .before .before .before .before .before .before .before .before .before .before .before .before .before) in
     let n1 = chain-next (digits (a .a .taken)) (chain-none 0 (now (a .out)) (omega arith)) (c .before .before .before .before .before .before .before .before .before .before .before .before .before .before .before .before .put-number .ensures) in
-    let n2 = chain-next eventsTaken n1 (c .before .before .before .before .before .before .before .before .before .before .before .put-word .ensures) in
+    let n2 = chain-next eventsTaken n1
+    (c .before .before .before .before .before .before .before .before .before .before .before .put-word .ensures) in
     let n3 = chain-next (digits (a .a .refused)) n2 (c .before .before .before .before .before .before .before .put-number2 .ensures) in
     let n4 = chain-next refusedWord n3 (c .before .before .put-word2 .ensures) in
-    wrote-all 64 (countsText (a .a .taken) (a .a .refused)) (now (a .out)) _ _ (omega arith) (put-done (countsText (a .a .taken) (a .a .refused)) 64 0 (now (a .out)) _ _ (chain-same (counts-whole (a .a .taken) (a .a .refused)) n4) (counts-few (a .a .taken) (a .a .refused) (f .0) (f .1)) (omega arith))
+    wrote-all 64 (countsText (a .a .taken) (a .a .refused)) (now (a .out)) _ _ (omega arith)
+    (put-done (countsText (a .a .taken) (a .a .refused)) 64 0 (now (a .out)) _ _
+    (chain-same (counts-whole (a .a .taken) (a .a .refused)) n4) (counts-few (a .a .taken) (a .a .refused) (f .0) (f .1)) (omega arith))
 
 pub put-counts-spec : {M : Type 1} → statement M
 put-counts-spec =

@@ -38,7 +38,11 @@ returns : tie.Need-returns
 returns c =
     let a = c .before .before .before .before .before .before .before .before .before .before .before .before .before .args in
     let p = c .before .before .put-part .ensures in
-    let same = station-given (a .t1) (a .i) (now (a .out)) _ _ _ _ (c .before .before .before .before .before .before .before .before .before .before .before .reach .ensures) (c .before .before .before .before .before .before .before .before .before .report .ensures .1) (c .before .before .before .before .before .before .before .place-of .ensures) (c .before .before .before .before .is-waiting .ensures) in
+    let same = station-given (a .t1) (a .i) (now (a .out)) _ _ _ _
+    (c .before .before .before .before .before .before .before .before .before .before .before .reach .ensures)
+    (c .before .before .before .before .before .before .before .before .before .report .ensures .1)
+    (c .before .before .before .before .before .before .before .place-of .ensures)
+    (c .before .before .before .before .is-waiting .ensures) in
     (p .0 ∙ same .0, (p .1 .0 ∙ same .1, p .1 .1))
 
 pub put-station-spec : {M : Type 1} → statement M

@@ -15,10 +15,26 @@ with-bit-requires-2 : tie.Need-with-bit-requires-2
 with-bit-requires-2 c κs = search needs
 
 returns : tie.Need-returns
-returns c = record { new = c .before .before .before .args .a; small = search needs; lacks = search needs; more = search needs; which = inl (refl, omega arith) }
+returns c =
+    record {
+      new = c .before .before .before .args .a;
+      small = search needs;
+      lacks = search needs;
+      more = search needs;
+      which = inl
+          (refl, omega arith);
+    }
 
 returns-2 : tie.Need-returns-2
-returns-2 c = record { new = c .before .before .before .args .b; small = search needs; lacks = omega arith; more = search needs; which = inr (refl, omega arith) }
+returns-2 c =
+    record {
+      new = c .before .before .before .args .b;
+      small = search needs;
+      lacks = omega arith;
+      more = search needs;
+      which = inr
+          (refl, omega arith);
+    }
 
 pub grown-spec : {M : Type 1} → statement M
 grown-spec =

@@ -9,7 +9,8 @@ has-end-requires c κs = search needs
 
 returns : tie.Need-returns
 returns c =
-    shown-working _ (c .before .before .before .args .works) (sym (c .before .before .has-end .ensures) ∙ c .before .if1 .taken) (c .if2 .taken)
+    shown-working _ (c .before .before .before .args .works) (sym (c .before .before .has-end .ensures) ∙ c .before .if1 .taken)
+    (c .if2 .taken)
 
 returns-2 : tie.Need-returns-2
 returns-2 c =

@@ -16,11 +16,13 @@ cast-result c = search needs
 
 returns : tie.Need-returns
 returns c =
-    lowest-run _ _ _ (run 32 (c .before .before .args .word) (c .before .before .fits .word .fits)) (omega (arith, c .before .at-most .ensures, c .if1 .taken))
+    lowest-run _ _ _ (run 32 (c .before .before .args .word) (c .before .before .fits .word .fits))
+    (omega (arith, c .before .at-most .ensures, c .if1 .taken))
 
 returns-2 : tie.Need-returns-2
 returns-2 c =
-    lowest-none _ _ _ (run 32 (c .before .before .args .word) (c .before .before .fits .word .fits)) (omega (arith, c .before .at-most .ensures, c .if1 .left))
+    lowest-none _ _ _ (run 32 (c .before .before .args .word) (c .before .before .fits .word .fits))
+    (omega (arith, c .before .at-most .ensures, c .if1 .left))
 
 pub lowest-missing-spec : {M : Type 1} → statement M
 lowest-missing-spec = tie.close (tie.spec at-most-requires cast-if1 cast-result returns returns-2)

@@ -16,7 +16,8 @@ lowest-missing-requires c κs = search needs
 returns : tie.Need-returns
 returns c =
     let a = c .before .before .before .args in
-    reached-is (a .net) (inWord (a .working)) (a .s) _ _ _ (c .before .before .reach-word .ensures) (c .before .count-ones .ensures) (c .lowest-missing .ensures)
+    reached-is (a .net) (inWord (a .working)) (a .s) _ _ _ (c .before .before .reach-word .ensures) (c .before .count-ones .ensures)
+    (c .lowest-missing .ensures)
 
 pub reach-of-spec : {M : Type 1} → statement M
 reach-of-spec =

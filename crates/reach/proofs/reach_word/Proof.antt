@@ -71,7 +71,9 @@ search-again c =
     record {
       le = omega (arith, c .before .before .before .before .before .before .before .before .before .before .at-most2 .ensures);
       none = below-more (λ (j : ℕ). test (a .t1) (inWord (a .working)) w j ≡ false) _ (i .inv .none)
-          (test-seen (a .t1) (inWord (a .working)) w (i .k) _ _ _ false (c .before .before .before .before .before .before .before .before .before .before .before .at-most .ensures) (c .before .before .has .ensures) (c .before .joins .ensures) (c .if2 .left));
+          (test-seen (a .t1) (inWord (a .working)) w (i .k) _ _ _ false
+          (c .before .before .before .before .before .before .before .before .before .before .before .at-most .ensures)
+          (c .before .before .has .ensures) (c .before .joins .ensures) (c .if2 .left));
     }
 
 cast-j : tie.Need-cast-j Inv-search μ-search Inv-grow μ-grow
@@ -87,22 +89,38 @@ grown-requires : tie.Need-grown-requires Inv-search μ-search Inv-grow μ-grow
 grown-requires c κs =
     let a = c .before .before .before .before .before .before .before .before .before .before .before .before .before .before .args in
     let k = c .before .before .before .before .before .before .before .before .search .k in
-    let x = crosses-true _ (getD (a .t1 .low) k 0) (getD (a .t1 .high) k 0) (inWord (a .working) k) (c .before .before .before .before .before .before .before .before .before .grow .w)
-    (test-seen (a .t1) (inWord (a .working)) (c .before .before .before .before .before .before .before .before .before .grow .w) k _ _ _ true (c .before .before .before .before .before .before .before .before .before .before .before .before .before .at-most .ensures) (c .before .before .before .before .has .ensures) (c .before .before .before .joins .ensures) (c .before .before .if2 .taken)) in
+    let x = crosses-true _ (getD (a .t1 .low) k 0) (getD (a .t1 .high) k 0) (inWord (a .working) k)
+    (c .before .before .before .before .before .before .before .before .before .grow .w)
+    (test-seen (a .t1) (inWord (a .working)) (c .before .before .before .before .before .before .before .before .before .grow .w) k _ _ _
+    true (c .before .before .before .before .before .before .before .before .before .before .before .before .before .at-most .ensures)
+    (c .before .before .before .before .has .ensures) (c .before .before .before .joins .ensures) (c .before .before .if2 .taken)) in
     (omega (arith, x .low), omega (arith, x .high), x .apart)
 
 grow-less : tie.Need-grow-less Inv-search μ-search Inv-grow μ-grow
-grow-less c = omega (arith, c .grown .ensures .more, pow-pos (c .grown .ensures .new), c .before .before .before .before .before .before .before .before .before .before .grow .inv .fits)
+grow-less c =
+    omega (
+      arith,
+      c .grown .ensures .more,
+      pow-pos
+          (c .grown .ensures .new),
+      c .before .before .before .before .before .before .before .before .before .before .grow .inv .fits,
+    )
 
 grow-again : tie.Need-grow-again Inv-search μ-search Inv-grow μ-grow
 grow-again c =
     let a = c .before .before .before .before .before .before .before .before .before .before .before .before .before .before .before .args in
     turn (a .t1) (inWord (a .working)) (a .s) _ _ _ (omega (arith, c .before .before .before .before .before .before .before .before .before .before .before .before .before .at-most2 .ensures, c .before .before .before .before .before .before .before .before .search-test .left)) (c .before .before .before .before .before .before .before .before .before .before .grow .inv)
-    (test-seen (a .t1) (inWord (a .working)) (c .before .before .before .before .before .before .before .before .before .before .grow .w) (c .before .before .before .before .before .before .before .before .before .search .k) _ _ _ true (c .before .before .before .before .before .before .before .before .before .before .before .before .before .before .at-most .ensures) (c .before .before .before .before .before .has .ensures) (c .before .before .before .before .joins .ensures) (c .before .before .before .if2 .taken))
+    (test-seen (a .t1) (inWord (a .working)) (c .before .before .before .before .before .before .before .before .before .before .grow .w)
+    (c .before .before .before .before .before .before .before .before .before .search .k) _ _ _ true
+    (c .before .before .before .before .before .before .before .before .before .before .before .before .before .before .at-most .ensures)
+    (c .before .before .before .before .before .has .ensures) (c .before .before .before .before .joins .ensures)
+    (c .before .before .before .if2 .taken))
     (c .grown .ensures)
 
 returns-2 : tie.Need-returns-2 Inv-search μ-search Inv-grow μ-grow
-returns-2 c = done _ _ _ _ _ (c .before .before .grow .inv) (c .before .search .inv) (omega (arith, c .before .before .before .before .before .at-most2 .ensures, c .search-test .taken))
+returns-2 c =
+    done _ _ _ _ _ (c .before .before .grow .inv) (c .before .search .inv)
+    (omega (arith, c .before .before .before .before .before .at-most2 .ensures, c .search-test .taken))
 
 pub reach-word-spec : {M : Type 1} → statement M
 reach-word-spec =

@@ -46,8 +46,11 @@ loop-less c = omega arith
 loop-again : tie.Need-loop-again Inv-loop μ-loop
 loop-again c =
     let a = c .before .before .before .before .before .args in
-    let l = c .before .before .before .loop in
-    (omega arith, upto-more (λ j. even (getD (a .t2) j 0)) (l .k) (l .working) _ _ (l .inv .1) (c .before .is-even .ensures) (c .put .ensures))
+    let l = c .before .before .before .loop in (
+      omega arith,
+      upto-more (λ j. even (getD (a .t2) j 0)) (l .k) (l .working) _ _ (l .inv .1) (c .before .is-even .ensures)
+          (c .put .ensures),
+    )
 
 returns : tie.Need-returns Inv-loop μ-loop
 returns c =

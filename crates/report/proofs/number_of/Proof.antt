@@ -18,12 +18,14 @@ is-live-requires c κs = search needs
 returns-3 : tie.Need-returns-3
 returns-3 c =
     let a = c .before .before .before .before .args in
-    number-live (a .good) (a .stations) (a .a) (a .condition) _ (c .before .is-live .ensures) (c .if3 .taken) (not-false _ (c .before .before .before .if1 .left)) (c .before .before .if2 .left)
+    number-live (a .good) (a .stations) (a .a) (a .condition) _ (c .before .is-live .ensures) (c .if3 .taken)
+    (not-false _ (c .before .before .before .if1 .left)) (c .before .before .if2 .left)
 
 returns-4 : tie.Need-returns-4
 returns-4 c =
     let a = c .before .before .before .before .args in
-    number-seven (a .good) (a .stations) (a .a) (a .condition) _ (c .before .is-live .ensures) (c .if3 .left) (not-false _ (c .before .before .before .if1 .left)) (c .before .before .if2 .left)
+    number-seven (a .good) (a .stations) (a .a) (a .condition) _ (c .before .is-live .ensures) (c .if3 .left)
+    (not-false _ (c .before .before .before .if1 .left)) (c .before .before .if2 .left)
 
 pub number-of-spec : {M : Type 1} → statement M
 number-of-spec = tie.close (tie.spec returns returns-2 is-live-requires returns-3 returns-4)

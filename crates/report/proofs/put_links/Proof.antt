@@ -12,7 +12,8 @@ use Rattle.report.proofs.put_links.Statement.{statement}
 use Rattle.report.proofs.put_links.Tie as tie
 
 abbrev Inv-loop : tie.InvT-loop
-Inv-loop out₀ working word m net k₀ out k = (k ≤ m) × (length out ≡ length out₀) × (out ≡ filled (linkShown net (inWord working) word) out₀ k)
+Inv-loop out₀ working word m net k₀ out k =
+    (k ≤ m) × (length out ≡ length out₀) × (out ≡ filled (linkShown net (inWord working) word) out₀ k)
 
 abbrev μ-loop : tie.MeasureT-loop
 μ-loop out₀ working word m net k₀ out k = m - k
@@ -48,8 +49,13 @@ loop-again : tie.Need-loop-again Inv-loop μ-loop
 loop-again c =
     let a = c .before .before .before .before .before .before .before .args in
     let l = c .before .before .before .before .before .loop in
-    let seen = link-seen (a .t2) (inWord (a .working)) (a .word) (l .k) _ _ (c .link-shown .ensures) (c .before .has .ensures) in
-    (omega arith, length-set (l .out) (l .k) _ ∙ l .inv .1, fill-turn (linkShown (a .t2) (inWord (a .working)) (a .word)) (now (a .out)) (l .out) (l .k) _ (l .inv .2) seen (search needs))
+    let seen = link-seen (a .t2) (inWord (a .working)) (a .word) (l .k) _ _ (c .link-shown .ensures) (c .before .has .ensures) in (
+      omega arith,
+      length-set (l .out) (l .k) _
+          ∙ l .inv .1,
+      fill-turn (linkShown (a .t2) (inWord (a .working)) (a .word)) (now (a .out)) (l .out) (l .k) _ (l .inv .2) seen
+          (search needs),
+    )
 
 same-length : tie.Need-same-length Inv-loop μ-loop
 same-length c = search needs

@@ -37,8 +37,12 @@ loop-less c = search needs
 loop-again : tie.Need-loop-again Inv-loop μ-loop
 loop-again c =
     let a = c .before .before .before .before .args in
-    let l = c .before .before .loop in
-    (omega arith, length-set (l .out) (l .t) _ ∙ l .inv .1, fill-turn (bitAt (a .word)) (now (a .out)) (l .out) (l .t) _ (l .inv .2) (c .station-shown .ensures) (search needs))
+    let l = c .before .before .loop in (
+      omega arith,
+      length-set (l .out) (l .t) _
+          ∙ l .inv .1,
+      fill-turn (bitAt (a .word)) (now (a .out)) (l .out) (l .t) _ (l .inv .2) (c .station-shown .ensures) (search needs),
+    )
 
 same-length : tie.Need-same-length Inv-loop μ-loop
 same-length c = search needs

@@ -9,8 +9,8 @@ use Rattle.report.proofs.report.Tie as tie
 well-formed-requires : tie.Need-well-formed-requires
 well-formed-requires c κs = search needs
 
-place-of-requires : tie.Need-place-of-requires
-place-of-requires c κs = search needs
+in-room-requires : tie.Need-in-room-requires
+in-room-requires c κs = search needs
 
 cast-at : tie.Need-cast-at
 cast-at c = search needs
@@ -19,7 +19,7 @@ mul-st : tie.Need-mul-st
 mul-st c = search needs
 
 element-copy-out-st : tie.Need-element-copy-out-st
-element-copy-out-st c = place-few (c .before .before .before .before .args .a) _ (c .place-of .ensures)
+element-copy-out-st c = place-few (c .before .before .before .before .args .a) _ (c .in-room .ensures)
 
 number-of-requires : tie.Need-number-of-requires
 number-of-requires c κs = search needs
@@ -36,20 +36,26 @@ same-length c = search needs
 returns : tie.Need-returns
 returns c =
     let a = c .before .before .before .before .before .before .before .before .before .before .before .before .args in
-    let r : Read (a .t1) (a .a) (c .before .before .before .before .before .before .before .before .before .before .well-formed .result) (c .before .before .before .before .before .before .before .before .place-of .result) (c .before .before .before .before .before .number-of .result) = record {
+    let r : Read (a .t1) (a .a) (c .before .before .before .before .before .before .before .before .before .before .well-formed .result)
+    (c .before .before .before .before .before .before .before .before .in-room .result)
+    (c .before .before .before .before .before .number-of .result) = record {
       tested = c .before .before .before .before .before .before .before .before .before .before .well-formed .ensures .0;
       sized = c .before .before .before .before .before .before .before .before .before .before .well-formed .ensures .1;
-      place = c .before .before .before .before .before .before .before .before .place-of .ensures;
+      place = c .before .before .before .before .before .before .before .before .in-room .ensures;
       says = c .before .before .before .before .before .number-of .ensures;
-    } in
-    (answer-seen r (now (a .out)) _ (c .before .before .before .before .working-links .ensures) _ (c .before .before .written .ensures .0), output-seen r (now (a .out)) _ (c .before .before .before .before .working-links .ensures) _ (c .before .before .written .ensures .1))
+    } in (
+      answer-seen r (now (a .out)) _ (c .before .before .before .before .working-links .ensures) _
+          (c .before .before .written .ensures .0),
+      output-seen r (now (a .out)) _ (c .before .before .before .before .working-links .ensures) _
+          (c .before .before .written .ensures .1),
+    )
 
 pub report-spec : {M : Type 1} → statement M
 report-spec =
     tie.close
     (tie.spec
     well-formed-requires
-    place-of-requires
+    in-room-requires
     cast-at
     mul-st
     element-copy-out-st

@@ -9,7 +9,9 @@ use Rattle.report.proofs.written.Statement.{statement}
 use Rattle.report.proofs.written.Tie as tie
 
 returns : tie.Need-returns
-returns c = let a = c .before .before .args in refused-stays (a .number) (reportIn (a .net) (inWord (a .working)) (a .me)) (now (a .out)) (c .if1 .taken)
+returns c =
+    let a = c .before .before .args in refused-stays (a .number) (reportIn (a .net) (inWord (a .working)) (a .me)) (now (a .out))
+    (c .if1 .taken)
 
 at-most-requires : tie.Need-at-most-requires
 at-most-requires c κs = search needs
@@ -30,7 +32,14 @@ returns-2 : tie.Need-returns-2
 returns-2 c =
     let a = c .before .before .before .before .before .args in
     too-short (a .number) (reportIn (a .net) (inWord (a .working)) (a .me)) (now (a .out)) (c .before .before .before .if1 .left)
-    (omega (arith, c .if2 .taken, length-in (a .net) (inWord (a .working)) (a .me), c .before .at-most2 .ensures, c .before .before .at-most .ensures))
+    (omega (
+      arith,
+      c .if2 .taken,
+      length-in (a .net) (inWord (a .working))
+          (a .me),
+      c .before .at-most2 .ensures,
+      c .before .before .at-most .ensures,
+    ))
 
 reach-word-requires : tie.Need-reach-word-requires
 reach-word-requires c κs = search needs
@@ -56,8 +65,13 @@ same-length c = search needs
 returns-3 : tie.Need-returns-3
 returns-3 c =
     let a = c .before .before .before .before .before .before .before .before .before .before .before .before .before .before .args in
-    report-put (a .net) (inWord (a .working)) (a .me) _ (c .before .before .before .before .before .before .before .before .reach-word .ensures) _ _ (c .before .before .before .before .before .before .before .before .before .before .before .at-most .ensures) (c .before .before .before .before .before .before .before .before .before .before .at-most2 .ensures) (now (a .out)) _ _ _ (c .before .before .before .before .before .before .before .before .before .if2 .left)
-    (c .before .before .before .before .before .before .put-stations .ensures) (c .before .before .put-links .ensures) refl (a .number) (c .before .before .before .before .before .before .before .before .before .before .before .before .if1 .left)
+    report-put (a .net) (inWord (a .working)) (a .me) _
+    (c .before .before .before .before .before .before .before .before .reach-word .ensures) _ _
+    (c .before .before .before .before .before .before .before .before .before .before .before .at-most .ensures)
+    (c .before .before .before .before .before .before .before .before .before .before .at-most2 .ensures) (now (a .out)) _ _ _
+    (c .before .before .before .before .before .before .before .before .before .if2 .left)
+    (c .before .before .before .before .before .before .put-stations .ensures) (c .before .before .put-links .ensures) refl (a .number)
+    (c .before .before .before .before .before .before .before .before .before .before .before .before .if1 .left)
 
 pub written-spec : {M : Type 1} → statement M
 written-spec =

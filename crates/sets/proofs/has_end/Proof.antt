@@ -20,7 +20,8 @@ bit-of-requires-2 c κs = search needs
 returns-2 : tie.Need-returns-2
 returns-2 c =
     let a = c .before .before .before .args in
-    ap (λ (x : ℕ). eqb x 1) (c .bit-of2 .ensures) ∙ end-second (a .w) (a .a) (a .b) (λ e. c .before .if1 .left (c .before .before .bit-of .ensures ∙ e))
+    ap (λ (x : ℕ). eqb x 1) (c .bit-of2 .ensures)
+    ∙ end-second (a .w) (a .a) (a .b) (λ e. c .before .if1 .left (c .before .before .bit-of .ensures ∙ e))
 
 pub has-end-spec : {M : Type 1} → statement M
 has-end-spec = tie.close (tie.spec bit-of-requires returns bit-of-requires-2 returns-2)

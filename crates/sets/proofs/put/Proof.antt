@@ -32,7 +32,8 @@ returns-3 : tie.Need-returns-3
 returns-3 c =
     let a = c .before .before .before .before .args in
     let f = c .before .before .before .before .fits .w .fits in
-    off-is (a .w) (a .k) (a .on) f (c .before .before .before .if1 .left) (sym (c .before .before .has .ensures) ∙ c .before .if2 .taken) (c .if3 .left)
+    off-is (a .w) (a .k) (a .on) f (c .before .before .before .if1 .left) (sym (c .before .before .has .ensures) ∙ c .before .if2 .taken)
+    (c .if3 .left)
 
 shl-result-2 : tie.Need-shl-result-2
 shl-result-2 c = search needs
@@ -47,7 +48,8 @@ returns-4 : tie.Need-returns-4
 returns-4 c =
     let a = c .before .before .before .before .args in
     let f = c .before .before .before .before .fits .w .fits in
-    on-is (a .w) (a .k) (a .on) f (c .before .before .before .if1 .left) (sym (c .before .before .has .ensures) ∙ c .before .if2 .left) (c .if4 .taken)
+    on-is (a .w) (a .k) (a .on) f (c .before .before .before .if1 .left) (sym (c .before .before .has .ensures) ∙ c .before .if2 .left)
+    (c .if4 .taken)
 
 returns-5 : tie.Need-returns-5
 returns-5 c =

@@ -46,19 +46,24 @@ returns-4 : tie.Need-returns-4
 returns-4 c =
     let b = now (c .before .before .before .before .before .before .before .before .before .args .bytes) in
     let g = c .before .before .before .before .before .tag .given in
-    opened-few b _ _ (whole-seen b _ _ (sym (g .1) ∙ c .before .before .before .before .before .before .before .cut-first .ensures)) (c .before .before .before .if1 .left) (c .before .before .if2 .left) (c .if3 .taken)
+    opened-few b _ _ (whole-seen b _ _ (sym (g .1) ∙ c .before .before .before .before .before .before .before .cut-first .ensures))
+    (c .before .before .before .if1 .left) (c .before .before .if2 .left) (c .if3 .taken)
 
 returns-5 : tie.Need-returns-5
 returns-5 c =
     let b = now (c .before .before .before .before .before .before .before .before .before .before .args .bytes) in
     let g = c .before .before .before .before .before .before .tag .given in
-    opened-many b _ _ (whole-seen b _ _ (sym (g .1) ∙ c .before .before .before .before .before .before .before .before .cut-first .ensures)) (c .before .before .before .before .if1 .left) (c .before .before .before .if2 .left) (c .if4 .taken)
+    opened-many b _ _ (whole-seen b _ _
+    (sym (g .1) ∙ c .before .before .before .before .before .before .before .before .cut-first .ensures))
+    (c .before .before .before .before .if1 .left) (c .before .before .before .if2 .left) (c .if4 .taken)
 
 returns-6 : tie.Need-returns-6
 returns-6 c =
     let b = now (c .before .before .before .before .before .before .before .before .before .before .args .bytes) in
     let g = c .before .before .before .before .before .before .tag .given in
-    opened-good b _ _ (whole-seen b _ _ (sym (g .1) ∙ c .before .before .before .before .before .before .before .before .cut-first .ensures)) (c .before .before .before .before .if1 .left) (c .before .before .before .if2 .left) (c .before .if3 .left) (c .if4 .left)
+    opened-good b _ _ (whole-seen b _ _
+    (sym (g .1) ∙ c .before .before .before .before .before .before .before .before .cut-first .ensures))
+    (c .before .before .before .before .if1 .left) (c .before .before .before .if2 .left) (c .before .if3 .left) (c .if4 .left)
 
 pub first-field-spec : {M : Type 1} → statement M
 first-field-spec =

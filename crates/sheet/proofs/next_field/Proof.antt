@@ -30,21 +30,24 @@ returns-2 : tie.Need-returns-2
 returns-2 c =
     let a = c .before .before .before .before .before .before .before .args in
     let b = now (a .bytes) in
-    let s = whole-seen b _ _ (sym (c .before .before .before .tag .given .1) ∙ c .before .before .before .before .before .cut-first .ensures) in
+    let s = whole-seen b _ _ (sym (c .before .before .before .tag .given .1)
+    ∙ c .before .before .before .before .before .cut-first .ensures) in
     judged-size b (a .n) (a .a) (a .b) _ _ s (c .before .if1 .taken) (c .if2 .taken)
 
 shared-slice-read-link-verdict : tie.Need-shared-slice-read-link-verdict
 shared-slice-read-link-verdict c =
     let a = c .before .before .before .before .before .before .before .before .args in
     let b = now (a .bytes) in
-    let s = whole-seen b _ _ (sym (c .before .before .before .before .tag .given .1) ∙ c .before .before .before .before .before .before .cut-first .ensures) in
+    let s = whole-seen b _ _ (sym (c .before .before .before .before .tag .given .1)
+    ∙ c .before .before .before .before .before .before .cut-first .ensures) in
     omega (arith, s .fits)
 
 shared-slice-read-link-verdict-2 : tie.Need-shared-slice-read-link-verdict-2
 shared-slice-read-link-verdict-2 c =
     let a = c .before .before .before .before .before .before .before .before .before .args in
     let b = now (a .bytes) in
-    let s = whole-seen b _ _ (sym (c .before .before .before .before .before .tag .given .1) ∙ c .before .before .before .before .before .before .before .cut-first .ensures) in
+    let s = whole-seen b _ _ (sym (c .before .before .before .before .before .tag .given .1)
+    ∙ c .before .before .before .before .before .before .before .cut-first .ensures) in
     omega (arith, s .fits)
 
 link-verdict-requires : tie.Need-link-verdict-requires
@@ -54,36 +57,44 @@ returns-3 : tie.Need-returns-3
 returns-3 c =
     let a = c .before .before .before .before .before .before .before .before .before .before .args in
     let b = now (a .bytes) in
-    let s = whole-seen b _ _ (sym (c .before .before .before .before .before .before .tag .given .1) ∙ c .before .before .before .before .before .before .before .before .cut-first .ensures) in
-    judged-link b (a .n) (a .a) (a .b) _ _ s _ (c .before .before .before .before .if1 .taken) (c .before .before .before .if2 .left) (c .link-verdict .ensures)
+    let s = whole-seen b _ _ (sym (c .before .before .before .before .before .before .tag .given .1)
+    ∙ c .before .before .before .before .before .before .before .before .cut-first .ensures) in
+    judged-link b (a .n) (a .a) (a .b) _ _ s _ (c .before .before .before .before .if1 .taken) (c .before .before .before .if2 .left)
+    (c .link-verdict .ensures)
 
 returns-4 : tie.Need-returns-4
 returns-4 c =
     let a = c .before .before .before .before .before .before .before .args in
     let b = now (a .bytes) in
-    let s = whole-seen b _ _ (sym (c .before .before .before .tag .given .1) ∙ c .before .before .before .before .before .cut-first .ensures) in
+    let s = whole-seen b _ _ (sym (c .before .before .before .tag .given .1)
+    ∙ c .before .before .before .before .before .cut-first .ensures) in
     judged-tag b (a .n) (a .a) (a .b) _ _ s (c .before .if1 .left) (c .if3 .taken)
 
 returns-5 : tie.Need-returns-5
 returns-5 c =
     let a = c .before .before .before .before .before .before .before .before .args in
     let b = now (a .bytes) in
-    let s = whole-seen b _ _ (sym (c .before .before .before .before .tag .given .1) ∙ c .before .before .before .before .before .before .cut-first .ensures) in
+    let s = whole-seen b _ _ (sym (c .before .before .before .before .tag .given .1)
+    ∙ c .before .before .before .before .before .before .cut-first .ensures) in
     judged-length b (a .n) (a .a) (a .b) _ _ s (c .before .before .if1 .left) (c .if4 .taken)
 
 returns-6 : tie.Need-returns-6
 returns-6 c =
     let a = c .before .before .before .before .before .before .before .before .before .args in
     let b = now (a .bytes) in
-    let s = whole-seen b _ _ (sym (c .before .before .before .before .before .tag .given .1) ∙ c .before .before .before .before .before .before .before .cut-first .ensures) in
-    judged-more b (a .n) (a .a) (a .b) _ _ s (c .before .before .before .if1 .left) (c .before .before .if3 .left) (c .before .if4 .left) (c .if5 .taken)
+    let s = whole-seen b _ _ (sym (c .before .before .before .before .before .tag .given .1)
+    ∙ c .before .before .before .before .before .before .before .cut-first .ensures) in
+    judged-more b (a .n) (a .a) (a .b) _ _ s (c .before .before .before .if1 .left) (c .before .before .if3 .left) (c .before .if4 .left)
+    (c .if5 .taken)
 
 returns-7 : tie.Need-returns-7
 returns-7 c =
     let a = c .before .before .before .before .before .before .before .before .before .args in
     let b = now (a .bytes) in
-    let s = whole-seen b _ _ (sym (c .before .before .before .before .before .tag .given .1) ∙ c .before .before .before .before .before .before .before .cut-first .ensures) in
-    judged-last b (a .n) (a .a) (a .b) _ _ s (c .before .before .before .if1 .left) (c .before .before .if3 .left) (c .before .if4 .left) (c .if5 .left)
+    let s = whole-seen b _ _ (sym (c .before .before .before .before .before .tag .given .1)
+    ∙ c .before .before .before .before .before .before .before .cut-first .ensures) in
+    judged-last b (a .n) (a .a) (a .b) _ _ s (c .before .before .before .if1 .left) (c .before .before .if3 .left) (c .before .if4 .left)
+    (c .if5 .left)
 
 pub next-field-spec : {M : Type 1} → statement M
 next-field-spec =

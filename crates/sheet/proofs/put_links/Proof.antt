@@ -54,8 +54,13 @@ loop-again : tie.Need-loop-again Inv-loop μ-loop
 loop-again c =
     let a = c .before .before .before .before .before .before .before .args in
     let l = c .before .before .before .before .before .loop in
-    let w = link-written (a .t2) (a .t3) (l .i) (now (a .out)) (l .out) (c .before .before .put-link .last .0) (l .inv .2) (c .before .before .put-link .ensures) in
-    (omega arith, ap length w ∙ links-fit (a .t2) (a .t3) (l .i + 1) (now (a .out)) (omega (arith, c .before .before .before .before .before .before .before .pre)), w)
+    let w = link-written (a .t2) (a .t3) (l .i) (now (a .out)) (l .out) (c .before .before .put-link .last .0) (l .inv .2)
+    (c .before .before .put-link .ensures) in (
+      omega arith,
+      ap length w ∙ links-fit (a .t2) (a .t3) (l .i + 1) (now (a .out))
+          (omega (arith, c .before .before .before .before .before .before .before .pre)),
+      w,
+    )
 
 same-length : tie.Need-same-length Inv-loop μ-loop
 same-length c = search needs

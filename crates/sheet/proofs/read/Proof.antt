@@ -32,12 +32,15 @@ read-links-requires c κs =
 returns : tie.Need-returns
 returns c =
     let b = now (c .before .before .before .before .before .before .args .bytes) in
-    read-faulty b _ _ (sym (ap (openingOf b) (c .before .before .answer .given .1)) ∙ c .before .before .before .before .first-field .ensures) (c .refusal .ensures)
+    read-faulty b _ _ (sym (ap (openingOf b) (c .before .before .answer .given .1))
+    ∙ c .before .before .before .before .first-field .ensures) (c .refusal .ensures)
 
 returns-2 : tie.Need-returns-2
 returns-2 c =
     let b = now (c .before .before .before .before .before .before .args .bytes) in
-    subst (Says (c .read-links .result)) (read-on b _ (sym (ap (openingOf b) (c .before .before .n .given .1)) ∙ c .before .before .before .before .first-field .ensures)) (c .read-links .ensures)
+    subst (Says (c .read-links .result)) (read-on b _
+    (sym (ap (openingOf b) (c .before .before .n .given .1)) ∙ c .before .before .before .before .first-field .ensures))
+    (c .read-links .ensures)
 
 pub read-spec : {M : Type 1} → statement M
 read-spec =

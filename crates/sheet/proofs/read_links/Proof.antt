@@ -48,7 +48,8 @@ returns : tie.Need-returns Inv-loop μ-loop
 returns c =
     let l = c .before .before .before .before .before .before .loop in
     let a = c .before .before .before .before .before .before .before .before .before .before .args in
-    standing-wrong (linksOf (a .n) (now (a .bytes))) (a .n) (now (a .bytes)) (l .low) (l .high) (l .a) (l .b) (l .k) (l .at) (l .inv) _ (c .before .before .before .before .next-field .ensures) _ _ (c .before .before .answer .given .1) (c .refusal .ensures)
+    standing-wrong (linksOf (a .n) (now (a .bytes))) (a .n) (now (a .bytes)) (l .low) (l .high) (l .a) (l .b) (l .k) (l .at) (l .inv) _
+    (c .before .before .before .before .next-field .ensures) _ _ (c .before .before .answer .given .1) (c .refusal .ensures)
 
 enum-told : tie.Need-enum-told Inv-loop μ-loop
 enum-told c = search needs
@@ -57,7 +58,8 @@ returns-2 : tie.Need-returns-2 Inv-loop μ-loop
 returns-2 c =
     let l = c .before .before .before .before .loop in
     let a = c .before .before .before .before .before .before .before .before .args in
-    standing-last (linksOf (a .n) (now (a .bytes))) (a .n) (now (a .bytes)) (l .low) (l .high) (l .a) (l .b) (l .k) (l .at) (l .inv) _ (c .before .before .next-field .ensures) (c .enum-told .given .1)
+    standing-last (linksOf (a .n) (now (a .bytes))) (a .n) (now (a .bytes)) (l .low) (l .high) (l .a) (l .b) (l .k) (l .at) (l .inv) _
+    (c .before .before .next-field .ensures) (c .enum-told .given .1)
 
 enum-known-l : tie.Need-enum-known-l Inv-loop μ-loop
 enum-known-l c = search needs
@@ -69,7 +71,9 @@ returns-3 : tie.Need-returns-3 Inv-loop μ-loop
 returns-3 c =
     let l = c .before .before .before .before .before .before .before .loop in
     let a = c .before .before .before .before .before .before .before .before .before .before .before .args in
-    standing-full (linksOf (a .n) (now (a .bytes))) (a .n) (now (a .bytes)) (l .low) (l .high) (l .a) (l .b) (l .k) (l .at) (l .inv) _ (c .before .before .before .before .before .next-field .ensures) _ _ (c .before .before .before .l .given .1) _ (c .before .if1 .taken) (c .refusal2 .ensures)
+    standing-full (linksOf (a .n) (now (a .bytes))) (a .n) (now (a .bytes)) (l .low) (l .high) (l .a) (l .b) (l .k) (l .at) (l .inv) _
+    (c .before .before .before .before .before .next-field .ensures) _ _ (c .before .before .before .l .given .1) _ (c .before .if1 .taken)
+    (c .refusal2 .ensures)
 
 cast-i : tie.Need-cast-i Inv-loop μ-loop
 cast-i c = search needs
@@ -93,7 +97,8 @@ loop-again : tie.Need-loop-again Inv-loop μ-loop
 loop-again c =
     let l = c .before .before .before .before .before .before .loop in
     let a = c .before .before .before .before .before .before .before .before .before .before .args in
-    standing-link (linksOf (a .n) (now (a .bytes))) (a .n) (now (a .bytes)) (l .low) (l .high) (l .a) (l .b) (l .k) (l .at) (l .inv) _ (c .before .before .before .before .next-field .ensures) _ _ (c .before .before .l .given .1) (c .if1 .left)
+    standing-link (linksOf (a .n) (now (a .bytes))) (a .n) (now (a .bytes)) (l .low) (l .high) (l .a) (l .b) (l .k) (l .at) (l .inv) _
+    (c .before .before .before .before .next-field .ensures) _ _ (c .before .before .l .given .1) (c .if1 .left)
 
 pub read-links-spec : {M : Type 1} → statement M
 read-links-spec =

@@ -48,8 +48,12 @@ put-links-requires : tie.Need-put-links-requires
 put-links-requires c κs =
     let a = c .before .before .before .before .before .before .before .before .before .before .before .before .args in
     let e = c .before .before .before .before .before .before .before .before .before .before .keeps-sheet-rules .ensures in
-    let h = c .before .before .before .before .before .before .before .before .before .if1 .left in
-    (few-links (a .net) _ e h, links-room (a .net) _ e h (now (a .out)) (c .before .before .before .before .before .before .before .if2 .left) _ (c .before .before .before .before .before .put-stations .ensures))
+    let h = c .before .before .before .before .before .before .before .before .before .if1 .left in (
+      few-links (a .net) _ e h,
+      links-room (a .net) _ e h (now (a .out))
+          (c .before .before .before .before .before .before .before .if2 .left) _
+          (c .before .before .before .before .before .put-stations .ensures),
+    )
 
 sub-put-last : tie.Need-sub-put-last
 sub-put-last c = search needs
@@ -70,7 +74,8 @@ returns-3 : tie.Need-returns-3
 returns-3 c =
     let a = c .before .before .before .before .before .before .before .before .before .before .before .before .before .before .before .before .before .before .before .args in
     write-all (a .net) _ (c .before .before .before .before .before .before .before .before .before .before .before .before .before .before .before .before .before .keeps-sheet-rules .ensures) (c .before .before .before .before .before .before .before .before .before .before .before .before .before .before .before .before .if1 .left) (now (a .out)) (c .before .before .before .before .before .before .before .before .before .before .before .before .before .before .if2 .left)
-    _ (c .before .before .before .before .before .before .before .before .before .before .before .before .put-stations .ensures) _ _ (c .before .before .before .before .before .before .put-links .ensures) refl _ _ (c .before .before .put-last .ensures) refl
+    _ (c .before .before .before .before .before .before .before .before .before .before .before .before .put-stations .ensures) _ _
+    (c .before .before .before .before .before .before .put-links .ensures) refl _ _ (c .before .before .put-last .ensures) refl
 
 pub write-spec : {M : Type 1} → statement M
 write-spec =

@@ -46,8 +46,12 @@ returns-4 c =
     let net = c .before .before .before .before .before .before .before .before .before .args .t1 in
     let l = c .before .before .before .before .before .loop in
     sym (all-fails (placeHolds net) 64 (l .k) (omega arith)
-    (place-seen net (l .k) (l .a) (l .b) _ false (c .before .before .before .before .before .before .before .if2 .left) (c .before .before .before .before .before .before .if3 .left) (l .inv .2) (c .before .place-holds .ensures) (not-true _ (c .if4 .taken))))
-    ∙ holds-places net (c .before .before .before .before .before .before .before .before .if1 .left) (c .before .before .before .before .before .before .before .if2 .left) (c .before .before .before .before .before .before .if3 .left) (search needs) (search needs)
+    (place-seen net (l .k) (l .a) (l .b) _ false (c .before .before .before .before .before .before .before .if2 .left)
+    (c .before .before .before .before .before .before .if3 .left) (l .inv .2) (c .before .place-holds .ensures)
+    (not-true _ (c .if4 .taken))))
+    ∙ holds-places net (c .before .before .before .before .before .before .before .before .if1 .left)
+    (c .before .before .before .before .before .before .before .if2 .left) (c .before .before .before .before .before .before .if3 .left)
+    (search needs) (search needs)
 
 add-k : tie.Need-add-k Inv-loop μ-loop
 add-k c = omega arith
@@ -61,7 +65,9 @@ loop-again c =
     let l = c .before .before .before .before .before .loop in (
       omega arith,
       all-more (placeHolds net) (l .k) (l .inv .1)
-          (place-seen net (l .k) (l .a) (l .b) _ true (c .before .before .before .before .before .before .before .if2 .left) (c .before .before .before .before .before .before .if3 .left) (l .inv .2) (c .before .place-holds .ensures) (not-false _ (c .if4 .left))),
+          (place-seen net (l .k) (l .a) (l .b) _ true (c .before .before .before .before .before .before .before .if2 .left)
+          (c .before .before .before .before .before .before .if3 .left) (l .inv .2) (c .before .place-holds .ensures)
+          (not-false _ (c .if4 .left))),
       before-more net (l .k) _ _ refl refl,
     )
 
@@ -69,7 +75,9 @@ returns-5 : tie.Need-returns-5 Inv-loop μ-loop
 returns-5 c =
     let net = c .before .before .before .before .before .args .t1 in
     let e : c .before .loop .k ≡ 64 = omega arith in
-    sym (c .before .loop .inv .1) ∙ ap (λ (n : ℕ). every (placeHolds net) (below n)) e ∙ holds-places net (c .before .before .before .before .if1 .left) (c .before .before .before .if2 .left) (c .before .before .if3 .left) (search needs) (search needs)
+    sym (c .before .loop .inv .1) ∙ ap (λ (n : ℕ). every (placeHolds net) (below n)) e
+    ∙ holds-places net (c .before .before .before .before .if1 .left) (c .before .before .before .if2 .left) (c .before .before .if3 .left)
+    (search needs) (search needs)
 
 pub keeps-sheet-rules-spec : {M : Type 1} → statement M
 keeps-sheet-rules-spec =

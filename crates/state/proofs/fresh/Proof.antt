@@ -29,7 +29,8 @@ keeps-sheet-rules-requires c κs = search needs
 
 returns : tie.Need-returns Inv-loop μ-loop
 returns c =
-    begun-bad (c .before .before .before .before .args .net) _ (c .before .keeps-sheet-rules .ensures) _ _ (c .before .before .before .no-station .ensures) (c .before .before .no-letter .ensures) (not-true _ (c .if1 .taken))
+    begun-bad (c .before .before .before .before .args .net) _ (c .before .keeps-sheet-rules .ensures) _ _
+    (c .before .before .before .no-station .ensures) (c .before .before .no-letter .ensures) (not-true _ (c .if1 .taken))
 
 down-station-requires : tie.Need-down-station-requires Inv-loop μ-loop
 down-station-requires c κs = search needs
@@ -44,7 +45,13 @@ mul-stations : tie.Need-mul-stations Inv-loop μ-loop
 mul-stations c = omega arith
 
 array-set-from-stations : tie.Need-array-set-from-stations Inv-loop μ-loop
-array-set-from-stations c = omega (arith, good-stations (c .before .before .before .before .before .before .before .args .net) (c .before .before .before .before .keeps-sheet-rules .result) (c .before .before .before .before .keeps-sheet-rules .ensures) (not-false _ (c .before .before .before .if1 .left)))
+array-set-from-stations c =
+    omega (
+      arith,
+      good-stations (c .before .before .before .before .before .before .before .args .net)
+          (c .before .before .before .before .keeps-sheet-rules .result) (c .before .before .before .before .keeps-sheet-rules .ensures)
+          (not-false _ (c .before .before .before .if1 .left)),
+    )
 
 add-i : tie.Need-add-i Inv-loop μ-loop
 add-i c = omega arith
@@ -56,17 +63,25 @@ loop-again : tie.Need-loop-again Inv-loop μ-loop
 loop-again c =
     let d : Station = c .before .before .down-station .result in
     let old : List Station = replicate 32 (c .before .before .before .before .before .before .no-station .result) in
-    let few = good-stations (c .before .before .before .before .before .before .before .args .net) (c .before .before .before .before .keeps-sheet-rules .result) (c .before .before .before .before .keeps-sheet-rules .ensures) (not-false _ (c .before .before .before .if1 .left)) in (
+    let few = good-stations (c .before .before .before .before .before .before .before .args .net)
+    (c .before .before .before .before .keeps-sheet-rules .result) (c .before .before .before .before .keeps-sheet-rules .ensures)
+    (not-false _ (c .before .before .before .if1 .left)) in (
       omega arith,
       ap (λ (l : List Station). set l (c .before .loop .i) d) (c .before .loop .inv .1)
-          ∙ filled-more (λ (t : ℕ). d) old (c .before .loop .i) (omega (arith, few, length-replicate 32 (c .before .before .before .before .before .before .no-station .result))),
+          ∙ filled-more (λ (t : ℕ). d) old (c .before .loop .i)
+          (omega (arith, few, length-replicate 32 (c .before .before .before .before .before .before .no-station .result))),
     )
 
 returns-2 : tie.Need-returns-2 Inv-loop μ-loop
 returns-2 c =
     let end : c .before .loop .i ≡ c .before .before .before .before .before .before .before .args .net .stations = omega arith in
-    begun-good (c .before .before .before .before .before .before .before .args .net) _ (c .before .before .before .before .keeps-sheet-rules .ensures) _ _ (c .before .before .before .before .before .before .no-station .ensures) (c .before .before .before .before .before .no-letter .ensures) _ _ (c .before .before .before .before .before .before .before .args .net .stations) (not-false _ (c .before .before .before .if1 .left)) refl (c .before .before .down-station .ensures)
-    (c .before .loop .inv .1 ∙ ap (filled (λ (t : ℕ). c .before .before .down-station .result) (replicate 32 (c .before .before .before .before .before .before .no-station .result))) end)
+    begun-good (c .before .before .before .before .before .before .before .args .net) _
+    (c .before .before .before .before .keeps-sheet-rules .ensures) _ _
+    (c .before .before .before .before .before .before .no-station .ensures) (c .before .before .before .before .before .no-letter .ensures)
+    _ _ (c .before .before .before .before .before .before .before .args .net .stations)
+    (not-false _ (c .before .before .before .if1 .left)) refl (c .before .before .down-station .ensures)
+    (c .before .loop .inv .1 ∙ ap (filled (λ (t : ℕ). c .before .before .down-station .result)
+    (replicate 32 (c .before .before .before .before .before .before .no-station .result))) end)
 
 pub fresh-spec : {M : Type 1} → statement M
 fresh-spec =

@@ -30,7 +30,10 @@ both-requires : tie.Need-both-requires Inv-loop μ-loop
 both-requires c κs = search needs
 
 returns : tie.Need-returns Inv-loop μ-loop
-returns c = blank-marked (c .before .before .before .before .before .args .t1) _ (c .before .both .ensures ∙ ap₂ (λ (a b : Bool). a && b) (c .before .before .before .before .is-down .ensures) (c .before .before .no-words .ensures)) (not-true _ (c .if1 .taken))
+returns c =
+    blank-marked (c .before .before .before .before .before .args .t1) _
+    (c .before .both .ensures ∙ ap₂ (λ (a b : Bool). a && b) (c .before .before .before .before .is-down .ensures)
+    (c .before .before .no-words .ensures)) (not-true _ (c .if1 .taken))
 
 loop-holds : tie.Need-loop-holds Inv-loop μ-loop
 loop-holds c = (omega arith, refl)
@@ -45,7 +48,9 @@ element-copy-out-if2 : tie.Need-element-copy-out-if2 Inv-loop μ-loop
 element-copy-out-if2 c = omega arith
 
 returns-2 : tie.Need-returns-2 Inv-loop μ-loop
-returns-2 c = blank-counted (c .before .before .before .before .before .before .before .before .before .args .t1) (c .before .before .before .loop .k) (omega arith) (size (c .before .before .before .before .before .before .before .before .before)) (c .if2 .taken)
+returns-2 c =
+    blank-counted (c .before .before .before .before .before .before .before .before .before .args .t1) (c .before .before .before .loop .k)
+    (omega arith) (size (c .before .before .before .before .before .before .before .before .before)) (c .if2 .taken)
 
 add-k : tie.Need-add-k Inv-loop μ-loop
 add-k c = omega arith
@@ -54,10 +59,19 @@ loop-less : tie.Need-loop-less Inv-loop μ-loop
 loop-less c = omega arith
 
 loop-again : tie.Need-loop-again Inv-loop μ-loop
-loop-again c = (omega arith, all-more (zeroAt (c .before .before .before .before .before .before .before .before .before .args .t1 .counters)) (c .before .before .before .loop .k) (c .before .before .before .loop .inv .1) (eq-eqb _ 0 (c .if2 .left)))
+loop-again c = (
+  omega arith,
+  all-more (zeroAt (c .before .before .before .before .before .before .before .before .before .args .t1 .counters))
+      (c .before .before .before .loop .k) (c .before .before .before .loop .inv .1) (eq-eqb _ 0 (c .if2 .left)),
+)
 
 returns-3 : tie.Need-returns-3 Inv-loop μ-loop
-returns-3 c = blank-all (c .before .before .before .before .before .before .before .args .t1) _ (c .before .loop .k) (c .before .before .before .both .ensures ∙ ap₂ (λ (a b : Bool). a && b) (c .before .before .before .before .before .before .is-down .ensures) (c .before .before .before .before .no-words .ensures)) (not-false _ (c .before .before .if1 .left)) (omega arith) (size (c .before .before .before .before .before .before .before)) (c .before .loop .inv .1)
+returns-3 c =
+    blank-all (c .before .before .before .before .before .before .before .args .t1) _ (c .before .loop .k)
+    (c .before .before .before .both .ensures
+    ∙ ap₂ (λ (a b : Bool). a && b) (c .before .before .before .before .before .before .is-down .ensures)
+    (c .before .before .before .before .no-words .ensures)) (not-false _ (c .before .before .if1 .left)) (omega arith)
+    (size (c .before .before .before .before .before .before .before)) (c .before .loop .inv .1)
 
 pub is-blank-spec : {M : Type 1} → statement M
 is-blank-spec =

@@ -23,7 +23,8 @@ returns c =
     c .both4 .ensures
     ∙ ap (λ (b : Bool). b && eqb (w .quiet) 0)
     (c .before .before .both3 .ensures ∙ ap (λ (b : Bool). b && eqb (w .asked) 0)
-    (c .before .before .before .before .both2 .ensures ∙ ap (λ (b : Bool). b && eqb (w .testing) 0) (c .before .before .before .before .before .before .both .ensures)))
+    (c .before .before .before .before .both2 .ensures
+    ∙ ap (λ (b : Bool). b && eqb (w .testing) 0) (c .before .before .before .before .before .before .both .ensures)))
 
 pub no-words-spec : {M : Type 1} → statement M
 no-words-spec =

@@ -55,7 +55,9 @@ frame-holds-requires :
 frame-holds-requires c κs = search needs
 
 returns : tie.Need-returns Inv-loop μ-loop Inv-loop2 μ-loop2 Inv-loop3 μ-loop3
-returns c = refused (c .before .before .before .args .t1) (frame-bad (c .before .before .before .args .t1) _ (c .before .frame-holds .ensures) (not-true _ (c .if1 .taken)))
+returns c =
+    refused (c .before .before .before .args .t1) (frame-bad (c .before .before .before .args .t1) _ (c .before .frame-holds .ensures)
+    (not-true _ (c .if1 .taken)))
 
 loop-holds : tie.Need-loop-holds Inv-loop μ-loop Inv-loop2 μ-loop2 Inv-loop3 μ-loop3
 loop-holds c = (omega arith, upto-none (StationSeen (c .before .before .before .args .t1)))
@@ -77,7 +79,8 @@ station-place-requires c κs = search needs
 returns-2 : tie.Need-returns-2 Inv-loop μ-loop Inv-loop2 μ-loop2 Inv-loop3 μ-loop3
 returns-2 c =
     let s = c .before .before .before .before .before .before .before .before .args .t1 in
-    refused s (station-bad s (c .before .before .before .before .loop .i) (omega arith) (sym (c .before .station-place .ensures .0) ∙ not-true _ (c .if2 .taken)))
+    refused s (station-bad s (c .before .before .before .before .loop .i) (omega arith)
+    (sym (c .before .station-place .ensures .0) ∙ not-true _ (c .if2 .taken)))
 
 add-i : tie.Need-add-i Inv-loop μ-loop Inv-loop2 μ-loop2 Inv-loop3 μ-loop3
 add-i c = omega arith
@@ -87,8 +90,11 @@ loop-less c = omega arith
 
 loop-again : tie.Need-loop-again Inv-loop μ-loop Inv-loop2 μ-loop2 Inv-loop3 μ-loop3
 loop-again c =
-    let s = c .before .before .before .before .before .before .before .before .args .t1 in
-    (omega arith, upto-more (StationSeen s) (c .before .before .before .before .loop .i) (c .before .before .before .before .loop .inv .1) (sym (c .before .station-place .ensures .0) ∙ not-false _ (c .if2 .left), c .before .station-place .ensures .1))
+    let s = c .before .before .before .before .before .before .before .before .args .t1 in (
+      omega arith,
+      upto-more (StationSeen s) (c .before .before .before .before .loop .i) (c .before .before .before .before .loop .inv .1)
+          (sym (c .before .station-place .ensures .0) ∙ not-false _ (c .if2 .left), c .before .station-place .ensures .1),
+    )
 
 loop2-holds : tie.Need-loop2-holds Inv-loop μ-loop Inv-loop2 μ-loop2 Inv-loop3 μ-loop3
 loop2-holds c = (omega arith, upto-none (LetterSeen (c .before .before .before .before .before .args .t1)))
@@ -101,7 +107,12 @@ mul-x c = omega arith
 
 element-copy-out-x :
     tie.Need-element-copy-out-x Inv-loop μ-loop Inv-loop2 μ-loop2 Inv-loop3 μ-loop3
-element-copy-out-x c = let s = c .before .before .before .before .before .before .before .args .t1 in omega (arith, frame-few (s .net) (s .flying) (c .before .before .before .before .before .frame-holds .result) (c .before .before .before .before .before .frame-holds .ensures) (not-false _ (c .before .before .before .before .if1 .left)))
+element-copy-out-x c =
+    let s = c .before .before .before .before .before .before .before .args .t1 in omega (
+      arith,
+      frame-few (s .net) (s .flying) (c .before .before .before .before .before .frame-holds .result)
+          (c .before .before .before .before .before .frame-holds .ensures) (not-false _ (c .before .before .before .before .if1 .left)),
+    )
 
 in-room-requires : tie.Need-in-room-requires Inv-loop μ-loop Inv-loop2 μ-loop2 Inv-loop3 μ-loop3
 in-room-requires c κs = search needs
@@ -122,7 +133,13 @@ returns-3 : tie.Need-returns-3 Inv-loop μ-loop Inv-loop2 μ-loop2 Inv-loop3 μ-
 returns-3 c =
     let s = c .before .before .before .before .before .before .before .before .before .before .before .before .before .args .t1 in
     let fr = c .before .before .before .before .before .before .before .before .before .before .before .frame-holds .ensures in
-    refused s (letter-bad s (c .before .before .before .before .before .before .before .loop2 .j) (omega arith) (frame-few (s .net) (s .flying) _ fr (not-false _ (c .before .before .before .before .before .before .before .before .before .before .if1 .left))) (sym (letter-seen (s .net) (letterIn s (c .before .before .before .before .before .before .before .loop2 .j)) _ _ (frame-net (s .net) (s .flying) _ fr (not-false _ (c .before .before .before .before .before .before .before .before .before .before .if1 .left))) (c .before .before .before .before .in-room .ensures) (c .before .letter-formed .ensures)) ∙ not-true _ (c .if3 .taken)))
+    refused s (letter-bad s (c .before .before .before .before .before .before .before .loop2 .j) (omega arith)
+    (frame-few (s .net) (s .flying) _ fr (not-false _
+    (c .before .before .before .before .before .before .before .before .before .before .if1 .left)))
+    (sym (letter-seen (s .net) (letterIn s (c .before .before .before .before .before .before .before .loop2 .j)) _ _
+    (frame-net (s .net) (s .flying) _ fr (not-false _
+    (c .before .before .before .before .before .before .before .before .before .before .if1 .left)))
+    (c .before .before .before .before .in-room .ensures) (c .before .letter-formed .ensures)) ∙ not-true _ (c .if3 .taken)))
 
 add-j : tie.Need-add-j Inv-loop μ-loop Inv-loop2 μ-loop2 Inv-loop3 μ-loop3
 add-j c = omega arith
@@ -133,13 +150,25 @@ loop2-less c = omega arith
 loop2-again : tie.Need-loop2-again Inv-loop μ-loop Inv-loop2 μ-loop2 Inv-loop3 μ-loop3
 loop2-again c =
     let s = c .before .before .before .before .before .before .before .before .before .before .before .before .before .args .t1 in
-    let fr = c .before .before .before .before .before .before .before .before .before .before .before .frame-holds .ensures in
-    (omega arith, upto-more (LetterSeen s) (c .before .before .before .before .before .before .before .loop2 .j) (c .before .before .before .before .before .before .before .loop2 .inv .1) (sym (letter-seen (s .net) (letterIn s (c .before .before .before .before .before .before .before .loop2 .j)) _ _ (frame-net (s .net) (s .flying) _ fr (not-false _ (c .before .before .before .before .before .before .before .before .before .before .if1 .left))) (c .before .before .before .before .in-room .ensures) (c .before .letter-formed .ensures)) ∙ not-false _ (c .if3 .left)))
+    let fr = c .before .before .before .before .before .before .before .before .before .before .before .frame-holds .ensures in (
+      omega arith,
+      upto-more (LetterSeen s) (c .before .before .before .before .before .before .before .loop2 .j)
+          (c .before .before .before .before .before .before .before .loop2 .inv .1)
+          (sym (letter-seen (s .net) (letterIn s (c .before .before .before .before .before .before .before .loop2 .j)) _ _
+          (frame-net (s .net) (s .flying) _ fr (not-false _
+          (c .before .before .before .before .before .before .before .before .before .before .if1 .left)))
+          (c .before .before .before .before .in-room .ensures) (c .before .letter-formed .ensures)) ∙ not-false _ (c .if3 .left)),
+    )
 
 loop3-holds : tie.Need-loop3-holds Inv-loop μ-loop Inv-loop2 μ-loop2 Inv-loop3 μ-loop3
 loop3-holds c =
-    let s = c .before .before .before .before .before .before .before .args .t1 in
-    (omega arith, frame-few (s .net) (s .flying) _ (c .before .before .before .before .before .frame-holds .ensures) (not-false _ (c .before .before .before .before .if1 .left)), omega arith, rest-none s)
+    let s = c .before .before .before .before .before .before .before .args .t1 in (
+      omega arith,
+      frame-few (s .net) (s .flying) _ (c .before .before .before .before .before .frame-holds .ensures)
+          (not-false _ (c .before .before .before .before .if1 .left)),
+      omega arith,
+      rest-none s,
+    )
 
 cast-at-3 : tie.Need-cast-at-3 Inv-loop μ-loop Inv-loop2 μ-loop2 Inv-loop3 μ-loop3
 cast-at-3 c = omega arith
@@ -176,12 +205,17 @@ loop3-again c =
 returns-4 : tie.Need-returns-4 Inv-loop μ-loop Inv-loop2 μ-loop2 Inv-loop3 μ-loop3
 returns-4 c =
     let s = c .before .before .before .before .before .before .before .before .before .args .t1 in
-    let n = is-T _ (sym (c .before .before .before .before .before .before .before .frame-holds .ensures) ∙ not-false _ (c .before .before .before .before .before .before .if1 .left)) in
+    let n = is-T _ (sym (c .before .before .before .before .before .before .before .frame-holds .ensures)
+    ∙ not-false _ (c .before .before .before .before .before .before .if1 .left)) in
     let f : ((t : ℕ) → t < 32 → StationSeen s t) = λ t h. c .before .before .before .before .before .loop .inv .1 t (omega arith) in
     let g : ((t : ℕ) → t < s .flying → LetterSeen s t) = λ t h. c .before .before .before .loop2 .inv .1 t (omega arith) in
     let j : c .before .loop3 .j ≡ 4096 = omega arith in
-    let e = c .before .loop3 .inv .3 ∙ ap (λ (k : ℕ). every (restAt s (s .flying)) (below k)) j in
-    (all-seen s _ n f g e, seen-sized s _ n f g e (ends-long (c .before .before .before .before .before .before .before .before .before)) (stations-long (c .before .before .before .before .before .before .before .before .before)) (letters-long (c .before .before .before .before .before .before .before .before .before)))
+    let e = c .before .loop3 .inv .3 ∙ ap (λ (k : ℕ). every (restAt s (s .flying)) (below k)) j in (
+      all-seen s _ n f g e,
+      seen-sized s _ n f g e (ends-long (c .before .before .before .before .before .before .before .before .before))
+          (stations-long (c .before .before .before .before .before .before .before .before .before))
+          (letters-long (c .before .before .before .before .before .before .before .before .before)),
+    )
 
 pub well-formed-spec : {M : Type 1} → statement M
 well-formed-spec =

@@ -13,7 +13,8 @@ join-requires-3 : tie.Need-join-requires-3
 join-requires-3 c κs = search needs
 
 returns : tie.Need-returns
-returns c = beside-is (c .before .before .before .args .w) _ _ _ (c .before .before .join .ensures) (c .before .join2 .ensures) (c .join3 .ensures)
+returns c =
+    beside-is (c .before .before .before .args .w) _ _ _ (c .before .before .join .ensures) (c .before .join2 .ensures) (c .join3 .ensures)
 
 pub beside-token-spec : {M : Type 1} → statement M
 beside-token-spec = tie.close (tie.spec join-requires join-requires-2 join-requires-3 returns)

@@ -15,7 +15,8 @@ counter-holds-requires c κs = search needs
 returns-2 : tie.Need-returns-2
 returns-2 c =
     let a = c .before .before .before .args in
-    counter-live (a .there) (a .live) (a .c) _ (not-false _ (c .before .before .if1 .left)) (c .before .if2 .taken) (c .counter-holds .ensures)
+    counter-live (a .there) (a .live) (a .c) _ (not-false _ (c .before .before .if1 .left)) (c .before .if2 .taken)
+    (c .counter-holds .ensures)
 
 returns-3 : tie.Need-returns-3
 returns-3 c =

@@ -41,7 +41,10 @@ returns c =
     let a = c .before .before .before .before .before .before .before .before .before .before .before .args in
     let e = c .before .before .before .before .before .beside-token .ensures in
     live-is (a .w) (a .own) _ e _ _ _ _ _ _ _
-    (tests-apart (a .w) (a .own) _ e _ _ _ (c .before .before .before .before .before .before .before .before .before .before .join .ensures) (c .before .before .before .before .before .before .before .before .before .join2 .ensures) (c .before .before .before .before .before .before .before .before .apart .ensures))
+    (tests-apart (a .w) (a .own) _ e _ _ _
+    (c .before .before .before .before .before .before .before .before .before .before .join .ensures)
+    (c .before .before .before .before .before .before .before .before .before .join2 .ensures)
+    (c .before .before .before .before .before .before .before .before .apart .ensures))
     (c .before .before .before .before .before .before .before .within .ensures)
     (c .before .before .before .apart2 .ensures)
     (marks-own (a .w) (a .own) _ e _ _ (c .before .before .before .before .join3 .ensures) (c .before .within2 .ensures))

@@ -28,17 +28,20 @@ live-formed-requires c κs = search needs
 returns : tie.Need-returns
 returns c =
     let a = c .before .before .before .args in
-    c .down-formed .ensures ∙ ap (λ (x : Condition). everyPlace (λ t. marksTest x (inWord (a .own) t) (marksAt (a .w) t))) (sym (c .before .enum-told .given .1))
+    c .down-formed .ensures ∙ ap (λ (x : Condition). everyPlace (λ t. marksTest x (inWord (a .own) t) (marksAt (a .w) t)))
+    (sym (c .before .enum-told .given .1))
 
 returns-2 : tie.Need-returns-2
 returns-2 c =
     let a = c .before .before .before .args in
-    c .waiting-formed .ensures ∙ ap (λ (x : Condition). everyPlace (λ t. marksTest x (inWord (a .own) t) (marksAt (a .w) t))) (sym (c .before .enum-told2 .given .1))
+    c .waiting-formed .ensures ∙ ap (λ (x : Condition). everyPlace (λ t. marksTest x (inWord (a .own) t) (marksAt (a .w) t)))
+    (sym (c .before .enum-told2 .given .1))
 
 returns-3 : tie.Need-returns-3
 returns-3 c =
     let a = c .before .before .before .args in
-    c .live-formed .ensures ∙ ap (λ (x : Condition). everyPlace (λ t. marksTest x (inWord (a .own) t) (marksAt (a .w) t))) (sym (c .before .enum-told3 .given .1))
+    c .live-formed .ensures ∙ ap (λ (x : Condition). everyPlace (λ t. marksTest x (inWord (a .own) t) (marksAt (a .w) t)))
+    (sym (c .before .enum-told3 .given .1))
 
 pub marks-formed-spec : {M : Type 1} → statement M
 marks-formed-spec =

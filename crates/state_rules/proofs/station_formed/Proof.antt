@@ -31,7 +31,8 @@ marks-formed-requires c κs = search needs
 returns : tie.Need-returns Inv-loop μ-loop
 returns c =
     let a = c .before .before .before .before .args in
-    mismarked (a .net) (a .s) (a .t3) (size (c .before .before .before .before)) _ _ (c .before .before .before .own-links .ensures) (c .before .marks-formed .ensures) (not-true _ (c .if1 .taken))
+    mismarked (a .net) (a .s) (a .t3) (size (c .before .before .before .before)) _ _ (c .before .before .before .own-links .ensures)
+    (c .before .marks-formed .ensures) (not-true _ (c .if1 .taken))
 
 at-most-64-requires : tie.Need-at-most-64-requires Inv-loop μ-loop
 at-most-64-requires c κs = search needs
@@ -57,7 +58,11 @@ counter-formed-requires c κs = search needs
 returns-2 : tie.Need-returns-2 Inv-loop μ-loop
 returns-2 c =
     let a = c .before .before .before .before .before .before .before .before .before .before .before .args in
-    miscounted (a .net) (a .s) (a .t3) (size (c .before .before .before .before .before .before .before .before .before .before .before)) _ _ (c .before .before .before .before .before .before .before .before .before .before .own-links .ensures) (c .before .before .before .before .before .before .before .before .marks-formed .ensures) _ _ (c .before .before .before .before .before .before .at-most-64 .ensures) (c .before .before .before .before .before .is-live .ensures) (c .before .before .before .before .loop .k) (omega arith) (sym (c .before .counter-formed .ensures) ∙ not-true _ (c .if2 .taken))
+    miscounted (a .net) (a .s) (a .t3) (size (c .before .before .before .before .before .before .before .before .before .before .before)) _
+    _ (c .before .before .before .before .before .before .before .before .before .before .own-links .ensures)
+    (c .before .before .before .before .before .before .before .before .marks-formed .ensures) _ _
+    (c .before .before .before .before .before .before .at-most-64 .ensures) (c .before .before .before .before .before .is-live .ensures)
+    (c .before .before .before .before .loop .k) (omega arith) (sym (c .before .counter-formed .ensures) ∙ not-true _ (c .if2 .taken))
 
 add-k : tie.Need-add-k Inv-loop μ-loop
 add-k c = omega arith
@@ -73,7 +78,11 @@ loop-again c =
 returns-3 : tie.Need-returns-3 Inv-loop μ-loop
 returns-3 c =
     let a = c .before .before .before .before .before .before .before .before .args in
-    well-formed (a .net) (a .s) (a .t3) (size (c .before .before .before .before .before .before .before .before)) _ _ (c .before .before .before .before .before .before .before .own-links .ensures) (c .before .before .before .before .before .marks-formed .ensures) _ _ (c .before .before .before .at-most-64 .ensures) (c .before .before .is-live .ensures) (c .before .loop .k) (omega arith) (not-false _ (c .before .before .before .before .if1 .left)) (c .before .loop .inv .1)
+    well-formed (a .net) (a .s) (a .t3) (size (c .before .before .before .before .before .before .before .before)) _ _
+    (c .before .before .before .before .before .before .before .own-links .ensures)
+    (c .before .before .before .before .before .marks-formed .ensures) _ _ (c .before .before .before .at-most-64 .ensures)
+    (c .before .before .is-live .ensures) (c .before .loop .k) (omega arith) (not-false _ (c .before .before .before .before .if1 .left))
+    (c .before .loop .inv .1)
 
 pub station-formed-spec : {M : Type 1} → statement M
 station-formed-spec =

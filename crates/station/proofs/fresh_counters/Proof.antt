@@ -42,8 +42,12 @@ loop-less c = omega arith
 
 loop-again : tie.Need-loop-again Inv-loop μ-loop
 loop-again c =
-    let l = c .before .loop in
-    (ap (λ (xs : List ℕ). set xs (l .k) 1) (l .inv .0) ∙ filled-more (λ j. 1) (c .before .before .no-counters .result) (l .k) (omega (arith, ap length (c .before .before .no-counters .ensures))), omega arith)
+    let l = c .before .loop in (
+      ap (λ (xs : List ℕ). set xs (l .k) 1) (l .inv .0)
+          ∙ filled-more (λ j. 1) (c .before .before .no-counters .result) (l .k)
+          (omega (arith, ap length (c .before .before .no-counters .ensures))),
+      omega arith,
+    )
 
 fresh-is : (xs : List ℕ) (n m : ℕ) → xs ≡ replicate 64 0 → n ≡ m → filled (λ j. 1) xs n ≡ freshTable m
 unfolding freshTable

@@ -32,7 +32,17 @@ returns-9 : tie.Need-returns-9
 returns-9 c =
     let n = c .before .args .n in
     let m = c .match .rest in
-    simp (ne-eqb n 1 (m .0 .0 .0 .0 .0 .0 .0 .1), ne-eqb n 2 (m .0 .0 .0 .0 .0 .0 .1), ne-eqb n 3 (m .0 .0 .0 .0 .0 .1), ne-eqb n 4 (m .0 .0 .0 .0 .1), ne-eqb n 5 (m .0 .0 .0 .1), ne-eqb n 6 (m .0 .0 .1), ne-eqb n 7 (m .0 .1), ne-eqb n 8 (m .1))
+    simp (
+      ne-eqb n 1 (m .0 .0 .0 .0 .0 .0 .0 .1),
+      ne-eqb n 2 (m .0 .0 .0 .0 .0 .0 .1),
+      ne-eqb n 3 (m .0 .0 .0 .0 .0 .1),
+      ne-eqb n 4
+          (m .0 .0 .0 .0 .1),
+      ne-eqb n 5 (m .0 .0 .0 .1),
+      ne-eqb n 6 (m .0 .0 .1),
+      ne-eqb n 7 (m .0 .1),
+      ne-eqb n 8 (m .1),
+    )
 
 pub kind-of-spec : {M : Type 1} → statement M
 kind-of-spec = tie.close (tie.spec returns returns-2 returns-3 returns-4 returns-5 returns-6 returns-7 returns-8 returns-9)

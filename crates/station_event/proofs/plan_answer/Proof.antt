@@ -24,7 +24,9 @@ counted-requires c κs = search needs
 returns : tie.Need-returns
 returns c =
     let a = c .before .before .before .before .before .before .args in
-    answer-is 0 (a .k) (a .c) (a .settled) (a .condition) (a .w) _ _ _ _ _ _ (c .before .before .before .before .before .requested-words .ensures) (c .before .before .before .before .is-even .ensures) (c .before .before .before .put .ensures) (c .before .before .pick .ensures) (c .before .put2 .ensures) (c .counted .ensures)
+    answer-is 0 (a .k) (a .c) (a .settled) (a .condition) (a .w) _ _ _ _ _ _
+    (c .before .before .before .before .before .requested-words .ensures) (c .before .before .before .before .is-even .ensures)
+    (c .before .before .before .put .ensures) (c .before .before .pick .ensures) (c .before .put2 .ensures) (c .counted .ensures)
 
 pub plan-answer-spec : {M : Type 1} → statement M
 plan-answer-spec =

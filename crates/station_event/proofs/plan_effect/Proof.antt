@@ -60,7 +60,8 @@ returns : tie.Need-returns
 returns c =
     let a = c .before .before .before .before .args in
     by-effect (a .own) (a .k) (a .c) (a .settled) (a .condition) (a .w) (a .effect) Defers 0 _ (c .before .before .enum-told .given .1)
-    refl (marks-alone (a .own) (a .k) (a .c) (a .settled) (a .condition) (a .w) (setAsked true) _ _ (c .before .asked-words .ensures) (c .staying .ensures))
+    refl (marks-alone (a .own) (a .k) (a .c) (a .settled) (a .condition) (a .w) (setAsked true) _ _ (c .before .asked-words .ensures)
+    (c .staying .ensures))
 
 returns-2 : tie.Need-returns-2
 returns-2 c =
@@ -71,20 +72,23 @@ returns-2 c =
 returns-3 : tie.Need-returns-3
 returns-3 c =
     let a = c .before .before .before .before .before .args in
-    by-effect (a .own) (a .k) (a .c) (a .settled) (a .condition) (a .w) (a .effect) (Heals _) _ _ (c .before .before .before .effect .given .1)
+    by-effect (a .own) (a .k) (a .c) (a .settled) (a .condition) (a .w) (a .effect) (Heals _) _ _
+    (c .before .before .before .effect .given .1)
     (c .before .one-if .ensures) (c .plan-reply .ensures)
 
 returns-4 : tie.Need-returns-4
 returns-4 c =
     let a = c .before .before .before .before .before .args in
-    by-effect (a .own) (a .k) (a .c) (a .settled) (a .condition) (a .w) (a .effect) (Levels _) _ _ (c .before .before .before .effect2 .given .1)
+    by-effect (a .own) (a .k) (a .c) (a .settled) (a .condition) (a .w) (a .effect) (Levels _) _ _
+    (c .before .before .before .effect2 .given .1)
     (c .before .one-if2 .ensures) (c .plan-reply2 .ensures)
 
 returns-5 : tie.Need-returns-5
 returns-5 c =
     let a = c .before .before .before .before .args in
     by-effect (a .own) (a .k) (a .c) (a .settled) (a .condition) (a .w) (a .effect) Equal 0 _ (c .before .before .enum-told3 .given .1)
-    refl (marks-alone (a .own) (a .k) (a .c) (a .settled) (a .condition) (a .w) repliedMarks _ _ (c .before .replied-words .ensures) (c .staying2 .ensures))
+    refl (marks-alone (a .own) (a .k) (a .c) (a .settled) (a .condition) (a .w) repliedMarks _ _ (c .before .replied-words .ensures)
+    (c .staying2 .ensures))
 
 returns-6 : tie.Need-returns-6
 returns-6 c =

@@ -18,7 +18,8 @@ plan-drop-requires c κs = search needs
 returns : tie.Need-returns
 returns c =
     let a = c .before .before .before .before .args in
-    letter-drops (a .own) (a .k) (a .c) _ (a .condition) (a .w) (a .me) (a .told) (a .letter) _ (c .before .before .settled-by .ensures) (c .before .before .before .hearing .ensures) _ (c .before .match .keys2) (c .plan-drop .ensures)
+    letter-drops (a .own) (a .k) (a .c) _ (a .condition) (a .w) (a .me) (a .told) (a .letter) _ (c .before .before .settled-by .ensures)
+    (c .before .before .before .hearing .ensures) _ (c .before .match .keys2) (c .plan-drop .ensures)
 
 plan-effect-requires : tie.Need-plan-effect-requires
 plan-effect-requires c κs = search needs
@@ -26,7 +27,9 @@ plan-effect-requires c κs = search needs
 returns-2 : tie.Need-returns-2
 returns-2 c =
     let a = c .before .before .before .before .before .before .args in
-    letter-does (a .own) (a .k) (a .c) _ (a .condition) (a .w) (a .me) (a .told) (a .letter) _ (c .before .before .before .before .settled-by .ensures) (c .before .before .before .before .before .hearing .ensures) _ _ (c .before .before .said .given .1) (c .plan-effect .ensures)
+    letter-does (a .own) (a .k) (a .c) _ (a .condition) (a .w) (a .me) (a .told) (a .letter) _
+    (c .before .before .before .before .settled-by .ensures) (c .before .before .before .before .before .hearing .ensures) _ _
+    (c .before .before .said .given .1) (c .plan-effect .ensures)
 
 pub plan-letter-spec : {M : Type 1} → statement M
 plan-letter-spec =

@@ -24,7 +24,9 @@ telling-requires c κs = search needs
 returns : tie.Need-returns
 returns c =
     let a = c .before .before .before .before .before .before .args in
-    reply-is (a .own) (a .k) 0 (a .settled) (a .condition) (a .w) (a .raised) (a .to) (a .heals) _ _ _ _ _ _ (c .before .before .before .before .before .replied-words .ensures) (c .before .before .before .before .put .ensures) (c .before .before .before .pick .ensures) (c .before .before .without .ensures) (c .before .counted .ensures) (c .telling .ensures)
+    reply-is (a .own) (a .k) 0 (a .settled) (a .condition) (a .w) (a .raised) (a .to) (a .heals) _ _ _ _ _ _
+    (c .before .before .before .before .before .replied-words .ensures) (c .before .before .before .before .put .ensures)
+    (c .before .before .before .pick .ensures) (c .before .before .without .ensures) (c .before .counted .ensures) (c .telling .ensures)
 
 pub plan-reply-spec : {M : Type 1} → statement M
 plan-reply-spec =

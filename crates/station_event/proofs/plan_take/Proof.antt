@@ -21,7 +21,8 @@ telling-requires c κs = search needs
 returns : tie.Need-returns
 returns c =
     let a = c .before .before .before .before .before .args in
-    take-is (a .own) (a .k) 0 (a .settled) (a .condition) (a .w) (a .j) (a .to) _ _ _ _ _ (c .before .before .before .before .put .ensures) (c .before .before .before .without .ensures) (c .before .before .put2 .ensures) (c .before .counted .ensures) (c .telling .ensures)
+    take-is (a .own) (a .k) 0 (a .settled) (a .condition) (a .w) (a .j) (a .to) _ _ _ _ _ (c .before .before .before .before .put .ensures)
+    (c .before .before .before .without .ensures) (c .before .before .put2 .ensures) (c .before .counted .ensures) (c .telling .ensures)
 
 pub plan-take-spec : {M : Type 1} → statement M
 plan-take-spec =

@@ -13,7 +13,9 @@ with-marks-requires : tie.Need-with-marks-requires
 with-marks-requires c κs = search needs
 
 returns : tie.Need-returns
-returns c = c .with-marks .ensures ∙ ap (λ (m : Marks). wordsWith (c .before .before .args .w) (c .before .before .args .k) (repliedMarks m)) (c .before .marks-at .ensures)
+returns c =
+    c .with-marks .ensures ∙ ap (λ (m : Marks). wordsWith (c .before .before .args .w) (c .before .before .args .k) (repliedMarks m))
+    (c .before .marks-at .ensures)
 
 pub replied-words-spec : {M : Type 1} → statement M
 replied-words-spec = tie.close (tie.spec marks-at-requires with-marks-requires returns)

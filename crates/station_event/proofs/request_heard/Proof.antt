@@ -7,7 +7,8 @@ returns : tie.Need-returns
 returns c = let a = c .before .before .args in put-off (a .testing) (a .sender) (a .me) (c .before .if1 .taken) (c .if2 .taken)
 
 returns-2 : tie.Need-returns-2
-returns-2 c = let a = c .before .before .args in not-lower (a .testing) (a .sender) (a .me) (c .before .if1 .taken) (omega (arith, c .if2 .left))
+returns-2 c =
+    let a = c .before .before .args in not-lower (a .testing) (a .sender) (a .me) (c .before .if1 .taken) (omega (arith, c .if2 .left))
 
 returns-3 : tie.Need-returns-3
 returns-3 c = let a = c .before .args in no-tester (a .testing) (a .sender) (a .me) (c .if1 .left)

@@ -9,7 +9,9 @@ fresh-counters-requires : tie.Need-fresh-counters-requires
 fresh-counters-requires c κs = search needs
 
 returns : tie.Need-returns
-returns c = let a = c .before .before .args in c .fresh-counters .ensures ∙ kept-fresh (a .net) (a .me) (a .resets) (a .purges) (a .table) (c .before .if1 .taken)
+returns c =
+    let a = c .before .before .args in c .fresh-counters .ensures
+    ∙ kept-fresh (a .net) (a .me) (a .resets) (a .purges) (a .table) (c .before .if1 .taken)
 
 working-links-requires : tie.Need-working-links-requires
 working-links-requires c κs = search needs

@@ -18,7 +18,10 @@ without-requires-2 : tie.Need-without-requires-2
 without-requires-2 c κs = search needs
 
 returns-2 : tie.Need-returns-2
-returns-2 c = let a = c .before .before .before .before .args in narrow-is (min (a .links) 64) (a .table) (a .sends) (a .knows) _ _ _ (not-false _ (c .before .before .before .if1 .left)) (c .before .before .known-links .ensures) (c .before .without .ensures) (c .without2 .ensures)
+returns-2 c =
+    let a = c .before .before .before .before .args in narrow-is (min (a .links) 64) (a .table) (a .sends) (a .knows) _ _ _
+    (not-false _ (c .before .before .before .if1 .left)) (c .before .before .known-links .ensures) (c .before .without .ensures)
+    (c .without2 .ensures)
 
 pub narrow-spec : {M : Type 1} → statement M
 narrow-spec =

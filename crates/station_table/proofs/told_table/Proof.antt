@@ -14,7 +14,9 @@ returns : tie.Need-returns
 returns c = let a = c .before .args in told-same (a .sets) (a .at) (a .counter) (a .table) (not-true _ (c .if1 .taken))
 
 returns-2 : tie.Need-returns-2
-returns-2 c = let a = c .before .before .args in told-past (a .sets) (a .at) (a .counter) (a .table) (not-false _ (c .before .if1 .left)) (omega (arith, size (c .before .before), c .if2 .taken))
+returns-2 c =
+    let a = c .before .before .args in told-past (a .sets) (a .at) (a .counter) (a .table) (not-false _ (c .before .if1 .left))
+    (omega (arith, size (c .before .before), c .if2 .taken))
 
 mul-next : tie.Need-mul-next
 mul-next c = search needs

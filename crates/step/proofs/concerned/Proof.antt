@@ -19,7 +19,8 @@ in-room-requires c κs = search needs
 returns : tie.Need-returns
 returns c =
     let a = c .before .before .before .before .args in
-    concerned-receiver (networkOf (a .net)) (a .kind) (a .a) (a .letter) _ (c .before .before .before .takes-letter .ensures) _ _ (c .before .before .if1 .taken) (c .in-room .ensures) (c .before .receiver .ensures)
+    concerned-receiver (networkOf (a .net)) (a .kind) (a .a) (a .letter) _ (c .before .before .before .takes-letter .ensures) _ _
+    (c .before .before .if1 .taken) (c .in-room .ensures) (c .before .receiver .ensures)
 
 in-room-requires-2 : tie.Need-in-room-requires-2
 in-room-requires-2 c κs = search needs
@@ -27,7 +28,8 @@ in-room-requires-2 c κs = search needs
 returns-2 : tie.Need-returns-2
 returns-2 c =
     let a = c .before .before .before .args in
-    concerned-act (networkOf (a .net)) (a .kind) (a .a) (a .letter) _ (c .before .before .takes-letter .ensures) _ (c .before .if1 .left) (c .in-room2 .ensures)
+    concerned-act (networkOf (a .net)) (a .kind) (a .a) (a .letter) _ (c .before .before .takes-letter .ensures) _ (c .before .if1 .left)
+    (c .in-room2 .ensures)
 
 pub concerned-spec : {M : Type 1} → statement M
 concerned-spec =

@@ -16,7 +16,8 @@ returns-2 : tie.Need-returns-2
 returns-2 c = left-less (c .before .before .args .leaves) (c .before .before .args .flying) _ (not-false _ (c .before .if1 .left)) refl
 
 returns-3 : tie.Need-returns-3
-returns-3 c = left-less (c .before .before .args .leaves) (c .before .before .args .flying) 0 (not-false _ (c .before .if1 .left)) (omega arith)
+returns-3 c =
+    left-less (c .before .before .args .leaves) (c .before .before .args .flying) 0 (not-false _ (c .before .if1 .left)) (omega arith)
 
 pub left-of-spec : {M : Type 1} → statement M
 left-of-spec = tie.close (tie.spec returns sub-result returns-2 returns-3)

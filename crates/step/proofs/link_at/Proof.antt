@@ -25,7 +25,9 @@ returns-2 : tie.Need-returns-2
 returns-2 c =
     let a = c .before .before .before .before .before .args in
     let e = c .before .before .ends-of .ensures in
-    link-low (a .net) (a .b) (a .a) _ _ (omega (arith, c .before .before .before .before .at-most-64 .ensures, c .before .before .before .if1 .left)) (e .0) (e .1) (c .if2 .taken)
+    link-low (a .net) (a .b) (a .a) _ _
+    (omega (arith, c .before .before .before .before .at-most-64 .ensures, c .before .before .before .if1 .left)) (e .0) (e .1)
+    (c .if2 .taken)
 
 cast-result : tie.Need-cast-result
 cast-result c = search needs
@@ -34,7 +36,9 @@ returns-3 : tie.Need-returns-3
 returns-3 c =
     let a = c .before .before .before .before .before .before .args in
     let e = c .before .before .before .ends-of .ensures in
-    link-high (a .net) (a .b) (a .a) _ _ (omega (arith, c .before .before .before .before .before .at-most-64 .ensures, c .before .before .before .before .if1 .left)) (e .0) (e .1) (c .before .if2 .left)
+    link-high (a .net) (a .b) (a .a) _ _
+    (omega (arith, c .before .before .before .before .before .at-most-64 .ensures, c .before .before .before .before .if1 .left)) (e .0)
+    (e .1) (c .before .if2 .left)
 
 pub link-at-spec : {M : Type 1} → statement M
 link-at-spec =

@@ -17,7 +17,7 @@ use Rattle.station.specs.declared.Kind.{Kind}
 use Rattle.station.specs.Events.{takesLetter, linkOf}
 use Rattle.station_plan.specs.Comes.{EventPlans}
 use Rattle.world.specs.World.{noLetter, existsAs, concernedBy}
-use Rattle.step.specs.Concerned.{inRoom}
+use Rattle.sets.specs.Rooms.{inRoom}
 use Rattle.state.specs.declared.State.{State}
 use Rattle.state.specs.State.{letterIn, stationIn}
 use Rattle.post.specs.Post.{posted, Going}
@@ -30,19 +30,23 @@ use Rattle.step.proofs.step.Tie as tie
 
 abbrev Inv-loop : tie.InvT-loop
 Inv-loop kind a b s₀ flying place x me named k about own who on of plan told send count leaves left answer last from i₀ s i =
-    (from ≤ i) × (i ≤ last) × (from < last → last < 4096) × (length (s₀ .letters) ≡ 4096) × (s ≡ withLetters s₀ (closing from (s₀ .letters) i))
+    (from ≤ i) × (i ≤ last) × (from < last → last < 4096) × (length (s₀ .letters) ≡ 4096) × (s ≡ withLetters s₀
+    (closing from (s₀ .letters) i))
 
 abbrev μ-loop : tie.MeasureT-loop
 μ-loop kind a b s₀ flying place x me named k about own who on of plan told send count leaves left answer last from i₀ s i = last - i
 
 abbrev Inv-loop2 : tie.InvT-loop2
 Inv-loop2 kind a b s₀ flying place me named k about own who on of plan told count leaves left answer last from free post₀ i₀ s post i =
-    (i ≤ count) × (last + count ≤ 4096) × (count ≡ length (posted me told post₀)) × Going post × (posted me told post ≡ drop i (posted me told post₀)) × (s ≡ withLetters s₀ (s .letters))
+    (i ≤ count) × (last + count ≤ 4096) × (count ≡ length (posted me told post₀)) × Going
+    post × (posted me told post ≡ drop i (posted me told post₀)) × (s ≡ withLetters s₀ (s .letters))
     × (length told ≡ 64)
-    × ((ls : List Letter) → s₀ .letters ≡ roomed 4096 noLetter ls → length ls ≡ last → s .letters ≡ roomed 4096 noLetter (ls ++ take i (posted me told post₀)))
+    × ((ls : List Letter) → s₀ .letters ≡ roomed 4096 noLetter ls → length ls ≡ last
+    → s .letters ≡ roomed 4096 noLetter (ls ++ take i (posted me told post₀)))
 
 abbrev μ-loop2 : tie.MeasureT-loop2
-μ-loop2 kind a b s₀ flying place me named k about own who on of plan told count leaves left answer last from free post₀ i₀ s post i = count - i
+μ-loop2 kind a b s₀ flying place me named k about own who on of plan told count leaves left answer last from free post₀ i₀ s post i =
+    count - i
 
 -- what is read is within its room
 place-within : (c : tie.After-place-of Inv-loop μ-loop Inv-loop2 μ-loop2) → c .place-of .result < 4096
@@ -51,14 +55,19 @@ place-within c = place-few (c .before .before .before .before .before .args .a) 
 who-within : (c : tie.After-concerned Inv-loop μ-loop Inv-loop2 μ-loop2) → c .concerned .result < 32
 who-within c =
     let a = c .before .before .before .before .before .before .before .args in
-    room-few (concernedBy (c .before .before .before .kind-of .result) (networkOf (a .t1 .net)) (a .a) (letterIn (a .t1) (c .before .before .place-of .result))) (c .concerned .result)
+    room-few (concernedBy (c .before .before .before .kind-of .result) (networkOf (a .t1 .net)) (a .a)
+    (letterIn (a .t1) (c .before .before .place-of .result))) (c .concerned .result)
     (c .concerned .ensures)
 
 -- what the code has seen when it has its answer
 facts : (c : tie.After-number-of Inv-loop μ-loop Inv-loop2 μ-loop2) → Facts (c .before .before .before .before .before .before .before .before .before .before .before .before .before .before .before .before .before .before .before .before .before .before .args .t1) (c .before .before .before .before .before .before .before .before .before .before .before .before .before .before .before .before .before .before .before .before .before .before .args .kind) (c .before .before .before .before .before .before .before .before .before .before .before .before .before .before .before .before .before .before .before .before .before .before .args .a) (c .before .before .before .before .before .before .before .before .before .before .before .before .before .before .before .before .before .before .before .before .before .before .args .b)
     (c .before .before .before .before .before .before .before .before .before .before .before .before .before .before .before .before .before .place-of .result)
     (c .before .before .before .before .before .before .before .before .before .before .before .before .before .before .before .concerned .result) (c .before .before .before .before .before .before .before .before .before .before .before .before .before .before .there .result) (c .before .before .before .before .before .before .before .before .before .before .before .before .before .link-of .result)
-    (c .before .before .before .before .before .before .before .before .before .before .before .before .subject-of .result) (c .before .before .before .before .before .before .before .before .before .before .before .own-links .result) (c .before .before .before .before .before .before .before .plan-event .result) (c .before .before .before .before .before .before .told-table .result) (c .before .before .before .before .narrow .result) (c .before .before .before .count .result)
+    (c .before .before .before .before .before .before .before .before .before .before .before .before .subject-of .result)
+    (c .before .before .before .before .before .before .before .before .before .before .before .own-links .result)
+    (c .before .before .before .before .before .before .before .plan-event .result)
+    (c .before .before .before .before .before .before .told-table .result) (c .before .before .before .before .narrow .result)
+    (c .before .before .before .count .result)
     (c .before .left-of .result) (c .number-of .result) (c .before .before .takes-letter .result)
 facts c =
     let a = c .before .before .before .before .before .before .before .before .before .before .before .before .before .before .before .before .before .before .before .before .before .before .args in
@@ -72,7 +81,9 @@ facts c =
         at = c .before .before .before .before .before .before .before .before .before .before .before .before .before .before .before .before .before .place-of .ensures;
         who = c .before .before .before .before .before .before .before .before .before .before .before .before .before .before .before .concerned .ensures ∙ ap (λ (e : Kind). inRoom (concernedBy e (networkOf (a .t1 .net)) (a .a) x)) k;
         names = c .before .before .before .before .before .before .before .before .before .before .before .before .before .before .there .ensures ∙ ap (λ (e : Kind). existsAs e (networkOf (a .t1 .net)) (a .t1 .flying) (a .a) (a .b)) k;
-        link = c .before .before .before .before .before .before .before .before .before .before .before .before .before .link-of .ensures ∙ ap (λ (e : Kind). linkOf e (a .b) x % 64) k;
+        link =
+            c .before .before .before .before .before .before .before .before .before .before .before .before .before .link-of .ensures
+            ∙ ap (λ (e : Kind). linkOf e (a .b) x % 64) k;
         subject = c .before .before .before .before .before .before .before .before .before .before .before .before .subject-of .ensures;
         mine = c .before .before .before .before .before .before .before .before .before .before .before .own-links .ensures;
         plans = subst (λ (e : Kind). EventPlans (c .before .before .before .before .before .before .before .before .before .before .before .before .before .before .there .result) e (c .before .before .before .before .before .before .before .before .before .before .before .own-links .result) (c .before .before .before .before .before .before .before .before .before .before .before .before .before .before .before .concerned .result) (c .before .before .before .before .before .before .before .before .before .before .before .before .before .link-of .result) x (getD (st .counters) (c .before .before .before .before .before .before .before .before .before .before .before .before .before .link-of .result) 0) (getD (st .counters) (c .before .before .before .before .before .before .before .before .before .before .before .before .subject-of .result) 0) (st .condition) (st .marks) (c .before .before .before .before .before .before .before .plan-event .result)) k (c .before .before .before .before .before .before .before .plan-event .ensures .1);
@@ -103,14 +114,17 @@ closesFrom c =
     }
 
 abbrev putsFrom : tie.After-begun Inv-loop μ-loop Inv-loop2 μ-loop2 → State
-putsFrom c = withLetters (c .before .before .before .before .loop .s) (set (c .before .before .before .before .loop .s .letters) (c .before .before .pick2 .result) (c .before .freed .result))
+putsFrom c =
+    withLetters (c .before .before .before .before .loop .s)
+    (set (c .before .before .before .before .loop .s .letters) (c .before .before .pick2 .result) (c .before .freed .result))
 
 well-formed-requires : tie.Need-well-formed-requires Inv-loop μ-loop Inv-loop2 μ-loop2
 well-formed-requires c κs = search needs
 
 returns : tie.Need-returns Inv-loop μ-loop Inv-loop2 μ-loop2
 returns c =
-    let a = c .before .before .args in refused-bad (a .t1) (a .kind) (a .a) (a .b) (sym (c .before .well-formed .ensures .0) ∙ not-true _ (c .if1 .taken))
+    let a = c .before .before .args in refused-bad (a .t1) (a .kind) (a .a) (a .b)
+    (sym (c .before .well-formed .ensures .0) ∙ not-true _ (c .if1 .taken))
 
 kind-of-requires : tie.Need-kind-of-requires Inv-loop μ-loop Inv-loop2 μ-loop2
 kind-of-requires c κs = search needs
@@ -212,7 +226,8 @@ pick-requires c κs = search needs
 loop-holds : tie.Need-loop-holds Inv-loop μ-loop Inv-loop2 μ-loop2
 loop-holds c =
     let f = facts (c .before .before .before .before) in
-    let r = closes-within f (c .before .before .before .if2 .left) (c .pick .result) (c .before .before .before .before .before .left-of .result) refl (c .pick .ensures) in
+    let r = closes-within f (c .before .before .before .if2 .left) (c .pick .result)
+    (c .before .before .before .before .before .left-of .result) refl (c .pick .ensures) in
     (omega arith, r .0, r .1, f .seen .sized .letters, not-shifted (closesFrom c) (c .pick .result))
 
 add-j : tie.Need-add-j Inv-loop μ-loop Inv-loop2 μ-loop2
@@ -244,7 +259,8 @@ loop-again c =
       omega arith,
       l .inv .2,
       l .inv .3,
-      shifted (closesFrom (c .before .before .before)) (l .s) (c .before .before .before .pick .result) (l .i) (l .inv .0) (omega (arith, l .inv .3, few)) (l .inv .4),
+      shifted (closesFrom (c .before .before .before)) (l .s) (c .before .before .before .pick .result) (l .i) (l .inv .0)
+          (omega (arith, l .inv .3, few)) (l .inv .4),
     )
 
 pick-requires-2 : tie.Need-pick-requires-2 Inv-loop μ-loop Inv-loop2 μ-loop2
@@ -255,11 +271,18 @@ freed-requires c κs = search needs
 
 mul-unused : tie.Need-mul-unused Inv-loop μ-loop Inv-loop2 μ-loop2
 mul-unused c =
-    omega (arith, free-within (facts (c .before .before .before .before .before .before .before .before)) (c .before .before .before .before .before .before .before .if2 .left) (c .before .before .before .before .before .before .before .before .before .left-of .result) (c .before .pick2 .result) refl (c .before .pick2 .ensures))
+    omega (
+      arith,
+      free-within (facts (c .before .before .before .before .before .before .before .before))
+          (c .before .before .before .before .before .before .before .if2 .left)
+          (c .before .before .before .before .before .before .before .before .before .left-of .result) (c .before .pick2 .result) refl
+          (c .before .pick2 .ensures),
+    )
 
 element-set-from-unused : tie.Need-element-set-from-unused Inv-loop μ-loop Inv-loop2 μ-loop2
 element-set-from-unused c =
-    free-within (facts (c .before .before .before .before .before .before .before .before)) (c .before .before .before .before .before .before .before .if2 .left) _ _ refl (c .before .pick2 .ensures)
+    free-within (facts (c .before .before .before .before .before .before .before .before))
+    (c .before .before .before .before .before .before .before .if2 .left) _ _ refl (c .before .pick2 .ensures)
 
 begun-requires : tie.Need-begun-requires Inv-loop μ-loop Inv-loop2 μ-loop2
 begun-requires c κs = search needs
@@ -269,10 +292,13 @@ loop2-holds c =
     let f = facts (c .before .before .before .before .before .before .before .before .before) in
     let me = c .before .before .before .before .before .before .before .before .before .before .before .before .before .before .before .before .before .before .before .before .before .before .before .before .concerned .result in
     let told = c .before .before .before .before .before .before .before .before .before .before .before .before .before .before .before .told-table .result in
-    let g = P.start me told (c .before .before .before .before .before .before .before .before .before .before .before .before .before .narrow .result) _ (c .begun .ensures) in (
+    let g = P.start me told
+    (c .before .before .before .before .before .before .before .before .before .before .before .before .before .narrow .result) _
+    (c .begun .ensures) in (
       omega arith,
       few-after f (c .before .before .before .before .before .before .before .before .if2 .left),
-      c .before .before .before .before .before .before .before .before .before .before .before .before .count .ensures me told ∙ ap length (sym (g .0)),
+      c .before .before .before .before .before .before .before .before .before .before .before .before .count .ensures me told
+          ∙ ap length (sym (g .0)),
       g .1,
       refl,
       refl,
@@ -324,16 +350,19 @@ loop2-again c =
     let post = c .before .before .before .before .before .begun .result in
     let at : ℕ = c .before .before .before .before .before .before .before .before .before .before .before .before .before .before .before .left-of .result + l .i in
     let k : l .i < length (posted me told post) = omega (arith, l .inv .2) in
-    let st = P.step-seen me told (l .post) _ _ _ _ (posted me told post) (l .i) noLetter (c .before .before .subject .ensures) refl (c .before .first .ensures) (c .rest .ensures) (l .inv .3) (l .inv .4) k in (
+    let st = P.step-seen me told (l .post) _ _ _ _ (posted me told post) (l .i) noLetter (c .before .before .subject .ensures) refl
+    (c .before .first .ensures) (c .rest .ensures) (l .inv .3) (l .inv .4) k in (
       omega arith,
       l .inv .1,
       l .inv .2,
       st .2,
       st .1,
-      other-letters (putsFrom (c .before .before .before .before .before)) (l .s) (set (l .s .letters) at (c .before .first .result)) (l .inv .5),
+      other-letters (putsFrom (c .before .before .before .before .before)) (l .s) (set (l .s .letters) at (c .before .first .result))
+          (l .inv .5),
       l .inv .6,
       λ ls e n. ap (λ (x : List Letter). set x at (c .before .first .result)) (l .inv .7 ls e n)
-          ∙ posted-more ls (posted me told post) (l .i) at (c .before .first .result) (omega (arith, n, l .inv .1, l .inv .2)) k (ap (λ (m : ℕ). m + l .i) (sym n)) (st .0),
+          ∙ posted-more ls (posted me told post) (l .i) at (c .before .first .result) (omega (arith, n, l .inv .1, l .inv .2)) k
+          (ap (λ (m : ℕ). m + l .i) (sym n)) (st .0),
     )
 
 add-s : tie.Need-add-s Inv-loop μ-loop Inv-loop2 μ-loop2
@@ -357,12 +386,16 @@ returns-3 c =
     let from = c .before .before .before .before .before .before .before .before .pick .result in
     let free = c .before .before .before .before .before .pick2 .result in
     let unused = c .before .before .before .before .freed .result in
-    let closed = ap (λ (x : State). set (x .letters) free unused) (m .inv .4) ∙ ap (λ (i : ℕ). set (closing from (a .t1 .letters) i) free unused) end
-    ∙ closed-up f q from left free unused refl (c .before .before .before .before .before .before .before .before .pick .ensures) (c .before .before .before .before .before .pick2 .ensures) (c .before .before .before .before .freed .ensures) in
+    let closed = ap (λ (x : State). set (x .letters) free unused) (m .inv .4)
+    ∙ ap (λ (i : ℕ). set (closing from (a .t1 .letters) i) free unused) end
+    ∙ closed-up f q from left free unused refl (c .before .before .before .before .before .before .before .before .pick .ensures)
+    (c .before .before .before .before .before .pick2 .ensures) (c .before .before .before .before .freed .ensures) in
     let put = l .inv .7 (leftLetters f q) closed (left-length f q)
-    ∙ ap (λ (x : List Letter). roomed 4096 noLetter (leftLetters f q ++ x)) (ap (λ (i : ℕ). take i (posted me told post)) all ∙ take-length (posted me told post) ∙ new) in
+    ∙ ap (λ (x : List Letter). roomed 4096 noLetter (leftLetters f q ++ x))
+    (ap (λ (i : ℕ). take i (posted me told post)) all ∙ take-length (posted me told post) ∙ new) in
     made f q (l .s .net) (l .s .stations) (l .s .letters) (left + c .before .before .before .before .before .before .before .before .before .before .before .before .before .before .before .count .result) (c .before .before .before .before .before .before .before .before .before .before .kept-table .result)
-    (ap (λ (x : State). x .net) (l .inv .5) ∙ ap (λ (x : State). x .net) (m .inv .4)) (c .before .before .before .before .before .before .before .before .before .before .kept-table .ensures)
+    (ap (λ (x : State). x .net) (l .inv .5) ∙ ap (λ (x : State). x .net) (m .inv .4))
+    (c .before .before .before .before .before .before .before .before .before .before .kept-table .ensures)
     (ap (λ (x : State). x .stations) (l .inv .5) ∙ ap (λ (x : State). x .stations) (m .inv .4)) put refl
 
 pub step-spec : {M : Type 1} → statement M

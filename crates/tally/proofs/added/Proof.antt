@@ -1,4 +1,4 @@
--- `tally::added` meets its contract: each of the three is what `count_on` promises. Assumes nothing.
+-- `tally::added` meets its contract: each of the three is what `count_on` promises.
 use borrow.Author.Needs.{needs}
 use Rattle.tally.proofs.added.Statement.{statement}
 use Rattle.tally.proofs.added.Tie as tie

@@ -25,7 +25,8 @@ returns : tie.Need-returns
 returns c =
     let p = c .before .before in
     let d = p .before .before .before in
-    same-text _ _ _ _ _ _ (ap₂ {C = List ℕ} (λ x y. x ∷ y ∷ []) (d .before .hex-digit .ensures) (d .hex-digit2 .ensures)) (p .put-word .ensures)
+    same-text _ _ _ _ _ _ (ap₂ {C = List ℕ} (λ x y. x ∷ y ∷ []) (d .before .hex-digit .ensures) (d .hex-digit2 .ensures))
+    (p .put-word .ensures)
 
 pub put-hex-spec : {M : Type 1} → statement M
 put-hex-spec =

@@ -34,7 +34,8 @@ returns c =
     let p = c .before .before in
     let s = p .before .before .before .before .before .spell in
     same-text _ _ _ _ _ _
-    (take-all (20 - s .result) (drop (s .result) (s .last .0)) (omega (arith, length-drop (s .result) (s .last .0), s .kept .0)) ∙ s .ensures .1)
+    (take-all (20 - s .result) (drop (s .result) (s .last .0)) (omega (arith, length-drop (s .result) (s .last .0), s .kept .0))
+    ∙ s .ensures .1)
     (p .put-word .ensures)
 
 pub put-number-spec : {M : Type 1} → statement M

@@ -53,8 +53,11 @@ loop-less c = search needs
 loop-again : tie.Need-loop-again Inv-loop μ-loop
 loop-again c =
     let a = c .before .before .before .before .before .args in
-    let l = c .before .before .loop in
-    (omega arith, copied-more (now (a .word)) (a .at) (now (a .out)) (l .i) (l .out) (omega arith) (l .inv .1) (c .before .loop-test .taken))
+    let l = c .before .before .loop in (
+      omega arith,
+      copied-more (now (a .word)) (a .at) (now (a .out)) (l .i) (l .out) (omega arith) (l .inv .1)
+          (c .before .loop-test .taken),
+    )
 
 add-result-3 : tie.Need-add-result-3 Inv-loop μ-loop
 add-result-3 c = search needs

@@ -30,19 +30,31 @@ put-field-requires-3 : tie.Need-put-field-requires-3
 put-field-requires-3 c κs = search needs
 
 returns : tie.Need-returns
-returns c = let a = c .before .before .before .args in put-same _ _ 12 (a .at) (now (a .out)) _ _ (sym (ap bodyText (c .enum-told .given .1))) (put-nothing 12 (a .at) (now (a .out)) (omega arith))
+returns c =
+    let a = c .before .before .before .args in put-same _ _ 12 (a .at) (now (a .out)) _ _ (sym (ap bodyText (c .enum-told .given .1)))
+    (put-nothing 12 (a .at) (now (a .out)) (omega arith))
 
 same-length : tie.Need-same-length
 same-length c = search needs
 
 returns-2 : tie.Need-returns-2
-returns-2 c = let a = c .before .before .before .before .before .before .before .before .args in put-same _ _ 12 (a .at) (now (a .out)) _ _ (sym (ap bodyText (c .before .before .before .before .before .body .given .1))) (put-wider 12 (omega arith) (field-more (put-nothing 0 (a .at) (now (a .out)) (omega arith)) _ (search needs) (omega arith) (c .before .before .put-field .ensures)))
+returns-2 c =
+    let a = c .before .before .before .before .before .before .before .before .args in put-same _ _ 12 (a .at) (now (a .out)) _ _
+    (sym (ap bodyText (c .before .before .before .before .before .body .given .1)))
+    (put-wider 12 (omega arith) (field-more (put-nothing 0 (a .at) (now (a .out)) (omega arith)) _ (search needs) (omega arith)
+    (c .before .before .put-field .ensures)))
 
 same-length-2 : tie.Need-same-length-2
 same-length-2 c = search needs
 
 returns-3 : tie.Need-returns-3
-returns-3 c = let a = c .before .before .before .before .before .before .before .before .before .before .before .before .args in put-same _ _ 12 (a .at) (now (a .out)) _ _ (sym (ap bodyText (c .before .before .before .before .before .before .before .before .before .body2 .given .1))) (field-more (field-more (put-nothing 0 (a .at) (now (a .out)) (omega arith)) _ (search needs) (omega arith) (c .before .before .before .before .before .before .put-field2 .ensures)) _ (search needs) (omega arith) (c .before .before .put-field3 .ensures))
+returns-3 c =
+    let a = c .before .before .before .before .before .before .before .before .before .before .before .before .args in put-same _ _ 12
+    (a .at) (now (a .out)) _ _
+    (sym (ap bodyText (c .before .before .before .before .before .before .before .before .before .body2 .given .1)))
+    (field-more (field-more (put-nothing 0 (a .at) (now (a .out)) (omega arith)) _ (search needs) (omega arith)
+    (c .before .before .before .before .before .before .put-field2 .ensures)) _ (search needs) (omega arith)
+    (c .before .before .put-field3 .ensures))
 
 pub put-body-spec : {M : Type 1} → statement M
 put-body-spec =

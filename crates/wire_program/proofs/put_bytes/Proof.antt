@@ -32,10 +32,13 @@ add-result-2 : tie.Need-add-result-2 Inv-loop μ-loop
 add-result-2 c = search needs
 
 returns-2 : tie.Need-returns-2 Inv-loop μ-loop
-returns-2 c = let a = c .before .before .before .before .args in left-over (hexText (now (a .bytes))) (a .at) (now (a .out)) (omega (arith, text-length (now (a .bytes))))
+returns-2 c =
+    let a = c .before .before .before .before .args in left-over (hexText (now (a .bytes))) (a .at) (now (a .out))
+    (omega (arith, text-length (now (a .bytes))))
 
 loop-holds : tie.Need-loop-holds Inv-loop μ-loop
-loop-holds c = let a = c .before .before .before .before .args in (omega arith, omega arith, chain-none (a .at) (now (a .out)) (omega arith))
+loop-holds c =
+    let a = c .before .before .before .before .args in (omega arith, omega arith, chain-none (a .at) (now (a .out)) (omega arith))
 
 shared-slice-read-put-hex : tie.Need-shared-slice-read-put-hex Inv-loop μ-loop
 shared-slice-read-put-hex c = omega arith
@@ -56,7 +59,9 @@ same-length : tie.Need-same-length Inv-loop μ-loop
 same-length c = c .before .loop .inv .2 .size
 
 returns-3 : tie.Need-returns-3 Inv-loop μ-loop
-returns-3 c = let l = c .before .loop in let a = c .before .before .before .before .before .before .args in bytes-all (now (a .bytes)) (a .at) (now (a .out)) (l .i) (l .to) (l .out) (l .inv .2) (omega arith) (omega arith)
+returns-3 c =
+    let l = c .before .loop in let a = c .before .before .before .before .before .before .args in bytes-all (now (a .bytes)) (a .at)
+    (now (a .out)) (l .i) (l .to) (l .out) (l .inv .2) (omega arith) (omega arith)
 
 pub put-bytes-spec : {M : Type 1} → statement M
 put-bytes-spec =

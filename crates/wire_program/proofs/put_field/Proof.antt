@@ -27,8 +27,11 @@ put-word-requires : tie.Need-put-word-requires
 put-word-requires c κs = search needs
 
 -- the number and its space stand in the room
-spelled : (c : tie.After-put-word) → Spelled (c .before .before .before .before .before .before .before .args .n) (c .put-word .last .0) (c .put-word .result)
-spelled c = field-spelled _ _ _ _ _ _ (few (c .before .before .before .before .before .before .before)) (search needs) (c .before .before .before .before .put-number .ensures) (c .put-word .ensures)
+spelled : (c : tie.After-put-word) → Spelled (c .before .before .before .before .before .before .before .args .n) (c .put-word .last .0)
+    (c .put-word .result)
+spelled c =
+    field-spelled _ _ _ _ _ _ (few (c .before .before .before .before .before .before .before)) (search needs)
+    (c .before .before .before .before .put-number .ensures) (c .put-word .ensures)
 
 array-share-prefix-room : tie.Need-array-share-prefix-room
 array-share-prefix-room c = let s = spelled (c .before .before) in omega (arith, s .size, s .few)
@@ -43,7 +46,8 @@ same-length : tie.Need-same-length
 same-length c = search needs
 
 returns : tie.Need-returns
-returns c = same-text _ _ _ _ _ _ (spelled (c .before .before .before .before .before .before) .text) (c .before .before .put-word2 .ensures)
+returns c =
+    same-text _ _ _ _ _ _ (spelled (c .before .before .before .before .before .before) .text) (c .before .before .put-word2 .ensures)
 
 pub put-field-spec : {M : Type 1} → statement M
 put-field-spec =

@@ -39,19 +39,28 @@ same-length : tie.Need-same-length
 same-length c = search needs
 
 returns : tie.Need-returns
-returns c = let a = c .before .before .before .before .before .before .before .before .args in put-same _ _ 10 (a .at) (now (a .out)) _ _ (sym (ap kindWord (c .before .before .before .before .before .enum-told .given .1))) (put-of (kindWord Request) 10 (a .at) (now (a .out)) _ _ (omega arith) (omega arith) (c .before .before .put-word .ensures))
+returns c =
+    let a = c .before .before .before .before .before .before .before .before .args in put-same _ _ 10 (a .at) (now (a .out)) _ _
+    (sym (ap kindWord (c .before .before .before .before .before .enum-told .given .1)))
+    (put-of (kindWord Request) 10 (a .at) (now (a .out)) _ _ (omega arith) (omega arith) (c .before .before .put-word .ensures))
 
 same-length-2 : tie.Need-same-length-2
 same-length-2 c = search needs
 
 returns-2 : tie.Need-returns-2
-returns-2 c = let a = c .before .before .before .before .before .before .before .before .before .args in put-same _ _ 10 (a .at) (now (a .out)) _ _ (sym (ap kindWord (c .before .before .before .before .before .before .body .given .1))) (put-of (kindWord (Reply 0)) 10 (a .at) (now (a .out)) _ _ (omega arith) (omega arith) (c .before .before .put-word2 .ensures))
+returns-2 c =
+    let a = c .before .before .before .before .before .before .before .before .before .args in put-same _ _ 10 (a .at) (now (a .out)) _ _
+    (sym (ap kindWord (c .before .before .before .before .before .before .body .given .1)))
+    (put-of (kindWord (Reply 0)) 10 (a .at) (now (a .out)) _ _ (omega arith) (omega arith) (c .before .before .put-word2 .ensures))
 
 same-length-3 : tie.Need-same-length-3
 same-length-3 c = search needs
 
 returns-3 : tie.Need-returns-3
-returns-3 c = let a = c .before .before .before .before .before .before .before .before .before .args in put-same _ _ 10 (a .at) (now (a .out)) _ _ (sym (ap kindWord (c .before .before .before .before .before .before .body2 .given .1))) (put-of (kindWord (Notice 0 0)) 10 (a .at) (now (a .out)) _ _ (omega arith) (omega arith) (c .before .before .put-word3 .ensures))
+returns-3 c =
+    let a = c .before .before .before .before .before .before .before .before .before .args in put-same _ _ 10 (a .at) (now (a .out)) _ _
+    (sym (ap kindWord (c .before .before .before .before .before .before .body2 .given .1)))
+    (put-of (kindWord (Notice 0 0)) 10 (a .at) (now (a .out)) _ _ (omega arith) (omega arith) (c .before .before .put-word3 .ensures))
 
 pub put-kind-spec : {M : Type 1} → statement M
 put-kind-spec =

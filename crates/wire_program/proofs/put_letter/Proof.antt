@@ -38,15 +38,20 @@ put-field-requires-2 : tie.Need-put-field-requires-2
 put-field-requires-2 c κs = search needs
 
 -- the letter stands in the room
-written : (c : tie.After-letter-size) → let a = c .before .before .before .before .before .before .args in Back (writeLetter (networkOf (a .net)) (a .letter)) (c .before .before .before .before .letter-room .result) (c .before .before .write .last .1 .1 .0) (c .letter-size .result)
+written : (c : tie.After-letter-size) → let a = c .before .before .before .before .before .before .args in Back
+    (writeLetter (networkOf (a .net)) (a .letter)) (c .before .before .before .before .letter-room .result)
+    (c .before .before .write .last .1 .1 .0) (c .letter-size .result)
 written c =
     let a = c .before .before .before .before .before .before .args in
     let p = c .before .before .before .before .before .before .pre in
-    letter-back (a .net) (a .letter) _ _ _ _ (p .1 .0) (p .1 .1) (c .before .before .before .before .letter-room .ensures) (c .before .before .write .ensures .0) (c .before .before .write .ensures .1) (c .letter-size .ensures)
+    letter-back (a .net) (a .letter) _ _ _ _ (p .1 .0) (p .1 .1) (c .before .before .before .before .letter-room .ensures)
+    (c .before .before .write .ensures .0) (c .before .before .write .ensures .1) (c .letter-size .ensures)
 
 -- the kind, link and sender were put
 fields : (c : tie.After-put-field2) → let a = c .before .before .before .before .before .before .before .before .before .before .before .before .before .before .before .before .args in Put (kindWord (a .letter .body) ++ fieldText (a .letter .link) ++ fieldText (a .letter .sender)) 22 (a .at) (now (a .out)) (c .put-field2 .result) (c .put-field2 .last .0)
-fields c = field-more (field-more (c .before .before .before .before .before .before .before .before .put-kind .ensures) _ (search needs) (omega arith) (c .before .before .before .before .put-field .ensures)) _ (search needs) (omega arith) (c .put-field2 .ensures)
+fields c =
+    field-more (field-more (c .before .before .before .before .before .before .before .before .put-kind .ensures) _ (search needs)
+    (omega arith) (c .before .before .before .before .put-field .ensures)) _ (search needs) (omega arith) (c .put-field2 .ensures)
 
 put-body-requires : tie.Need-put-body-requires
 put-body-requires c κs = let w = fields (c .before .before .before) in omega (arith, w .place, w .few, put-size w)

@@ -35,13 +35,16 @@ size c = search needs
 
 -- the bytes of a line stand in the reading's room
 within : (c : tie.After-put-read-arg) → c .before .before .n .given .0 .0 ≤ 32
-within c = hex-size (c .before .before .before .before .before .before .before .args .r) _ (sym (c .before .before .n .given .1) ∙ c .before .before .before .before .hex-end .ensures)
+within c =
+    hex-size (c .before .before .before .before .before .before .before .args .r) _
+    (sym (c .before .before .n .given .1) ∙ c .before .before .before .before .hex-end .ensures)
 
 array-share-prefix-bytes : tie.Need-array-share-prefix-bytes
 array-share-prefix-bytes c = omega (arith, within c, size (c .before .before .before .before .before .before .before))
 
 slice-aggregate-put-read : tie.Need-slice-aggregate-put-read
-slice-aggregate-put-read c = sym (length-take-le _ _ (omega (arith, within (c .before), size (c .before .before .before .before .before .before .before .before))))
+slice-aggregate-put-read c =
+    sym (length-take-le _ _ (omega (arith, within (c .before), size (c .before .before .before .before .before .before .before .before))))
 
 put-read-requires : tie.Need-put-read-requires
 put-read-requires c κs = search needs
@@ -50,13 +53,24 @@ same-length : tie.Need-same-length
 same-length c = search needs
 
 returns : tie.Need-returns
-returns c = let a = c .before .before .before .before .before .before .before .before .before .before .args in put-same _ _ 64 (a .at) (now (a .out)) _ _ (ap (λ (l : HexLine). spoken (a .net) (hexSays l (a .r .bytes))) (sym (c .before .before .before .before .before .enum-told .given .1) ∙ c .before .before .before .before .before .before .before .hex-end .ensures)) (put-wider 64 (omega arith) (put-of malformedLine 10 (a .at) (now (a .out)) _ _ (omega arith) (omega arith) (c .before .before .put-word .ensures)))
+returns c =
+    let a = c .before .before .before .before .before .before .before .before .before .before .args in put-same _ _ 64 (a .at)
+    (now (a .out)) _ _ (ap (λ (l : HexLine). spoken (a .net) (hexSays l (a .r .bytes)))
+    (sym (c .before .before .before .before .before .enum-told .given .1)
+    ∙ c .before .before .before .before .before .before .before .hex-end .ensures))
+    (put-wider 64 (omega arith) (put-of malformedLine 10 (a .at) (now (a .out)) _ _ (omega arith) (omega arith)
+    (c .before .before .put-word .ensures)))
 
 same-length-2 : tie.Need-same-length-2
 same-length-2 c = search needs
 
 returns-2 : tie.Need-returns-2
-returns-2 c = let a = c .before .before .before .before .before .before .before .before .before .before .before .args in put-same _ _ 64 (a .at) (now (a .out)) _ _ (ap (λ (l : HexLine). spoken (a .net) (hexSays l (a .r .bytes))) (sym (c .before .before .before .before .before .before .n .given .1) ∙ c .before .before .before .before .before .before .before .before .hex-end .ensures)) (put-lined _ (a .at) (now (a .out)) _ _ (omega arith) (c .before .before .put-read .ensures))
+returns-2 c =
+    let a = c .before .before .before .before .before .before .before .before .before .before .before .args in put-same _ _ 64 (a .at)
+    (now (a .out)) _ _ (ap (λ (l : HexLine). spoken (a .net) (hexSays l (a .r .bytes)))
+    (sym (c .before .before .before .before .before .before .n .given .1)
+    ∙ c .before .before .before .before .before .before .before .before .hex-end .ensures))
+    (put-lined _ (a .at) (now (a .out)) _ _ (omega arith) (c .before .before .put-read .ensures))
 
 pub put-line-spec : {M : Type 1} → statement M
 put-line-spec =

@@ -39,16 +39,25 @@ cast-put-field : tie.Need-cast-put-field
 cast-put-field c = search needs
 
 -- the sheet stands in the room
-written : (c : tie.After-sheet-size) → let a = c .before .before .before .before .before .before .args in Back (writeSheet (networkOf (a .net))) (c .before .before .before .before .sheet-room .result) (c .before .before .write .last .1 .0) (c .sheet-size .result)
+written : (c : tie.After-sheet-size) → let a = c .before .before .before .before .before .before .args in Back
+    (writeSheet (networkOf (a .net))) (c .before .before .before .before .sheet-room .result) (c .before .before .write .last .1 .0)
+    (c .sheet-size .result)
 written c =
     let a = c .before .before .before .before .before .before .args in
-    sheet-back (a .net) _ _ _ _ (c .before .before .before .before .before .before .pre .1) (c .before .before .before .before .sheet-room .ensures) (c .before .before .write .ensures .0) (c .before .before .write .ensures .1) (c .sheet-size .ensures)
+    sheet-back (a .net) _ _ _ _ (c .before .before .before .before .before .before .pre .1)
+    (c .before .before .before .before .sheet-room .ensures) (c .before .before .write .ensures .0) (c .before .before .write .ensures .1)
+    (c .sheet-size .ensures)
 
 -- "sheet 0 ", and the numbers of stations and links
-first : (c : tie.After-put-word) → let a = c .before .before .before .before .before .before .before .before .before .args in Put goodWord 8 0 (now (a .out)) (c .put-word .result) (c .put-word .last .0)
-first c = let a = c .before .before .before .before .before .before .before .before .before .args in put-of goodWord 8 0 (now (a .out)) _ _ (omega arith) (omega arith) (c .put-word .ensures)
+first : (c : tie.After-put-word) → let a = c .before .before .before .before .before .before .before .before .before .args in Put goodWord 8
+    0 (now (a .out)) (c .put-word .result) (c .put-word .last .0)
+first c =
+    let a = c .before .before .before .before .before .before .before .before .before .args in put-of goodWord 8 0 (now (a .out)) _ _
+    (omega arith) (omega arith) (c .put-word .ensures)
 
-second : (c : tie.After-put-field) → let a = c .before .before .before .before .before .before .before .before .before .before .before .before .before .before .args in Put (goodWord ++ fieldText (a .net .stations)) 14 0 (now (a .out)) (c .put-field .result) (c .put-field .last .0)
+second : (c : tie.After-put-field)
+    → let a = c .before .before .before .before .before .before .before .before .before .before .before .before .before .before .args in Put
+    (goodWord ++ fieldText (a .net .stations)) 14 0 (now (a .out)) (c .put-field .result) (c .put-field .last .0)
 second c = field-more (first (c .before .before .before .before .before)) _ (search needs) (omega arith) (c .put-field .ensures)
 
 third : (c : tie.After-put-field2) → let a = c .before .before .before .before .before .before .before .before .before .before .before .before .before .before .before .before .before .before .before .args in Put (goodWord ++ fieldText (a .net .stations) ++ fieldText (a .net .links)) 20 0 (now (a .out)) (c .put-field2 .result) (c .put-field2 .last .0)
@@ -89,7 +98,8 @@ returns c =
     let t = c .before .before .before .before .before .before .before .before .before .before .before .before .before .before .before .before .before .before .before .before .before .before .before .before .before .before .before .before .before .before .before .pre .1 in
     let x = room-more (third (c .before .before .before .before .before .before .before .before .before .before .before .before)) 327 (written (c .before .before .before .before .before .before .before .before .before .before .before .before .before .before .before .before .before .before .before .before .before .before .before .before .before)) (c .before .before .before .before .before .before .before .before .before .before .before .before .before .before .before .before .before .before .before .before .before .before .before .before .before .before .before .before .before .sheet-room .ensures) (omega (arith, r)) (c .before .before .before .before .before .before .before .put-bytes .ensures) in
     let y = put-wider 700 (omega arith) (text-more x newline 1 (omega arith) (omega (arith, r)) (c .before .before .put-word2 .ensures)) in
-    put-same _ _ 700 0 (now (a .out)) _ _ (ap₂ (λ (n m : ℕ). goodWord ++ fieldText n ++ fieldText m ++ hexText (writeSheet (networkOf (a .net))) ++ newline) (stations-said (a .net) t) (links-said (a .net) t)) y
+    put-same _ _ 700 0 (now (a .out)) _ _ (ap₂ (λ (n m : ℕ). goodWord ++ fieldText n ++ fieldText m ++ hexText
+    (writeSheet (networkOf (a .net))) ++ newline) (stations-said (a .net) t) (links-said (a .net) t)) y
 
 pub put-network-spec : {M : Type 1} → statement M
 put-network-spec =

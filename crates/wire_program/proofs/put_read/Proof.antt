@@ -24,7 +24,8 @@ add-result-2 : tie.Need-add-result-2
 add-result-2 c = search needs
 
 returns-2 : tie.Need-returns-2
-returns-2 c = let a = c .before .before .before .before .args in lined-short (readLine (a .net) (now (a .bytes))) (a .at) (now (a .out)) (omega arith)
+returns-2 c =
+    let a = c .before .before .before .before .args in lined-short (readLine (a .net) (now (a .bytes))) (a .at) (now (a .out)) (omega arith)
 
 read-requires : tie.Need-read-requires
 read-requires c κs = search needs
@@ -33,7 +34,12 @@ enum-known-letter : tie.Need-enum-known-letter
 enum-known-letter c = search needs
 
 put-letter-requires : tie.Need-put-letter-requires
-put-letter-requires c κs = let a = c .before .before .before .before .before .before .before .before .before .args in (omega arith, was-read (a .net) (now (a .bytes)) _ (sym (c .before .before .before .before .read .ensures) ∙ ap lettersOf (c .before .before .letter .given .1)))
+put-letter-requires c κs =
+    let a = c .before .before .before .before .before .before .before .before .before .args in (
+      omega arith,
+      was-read (a .net)
+          (now (a .bytes)) _ (sym (c .before .before .before .before .read .ensures) ∙ ap lettersOf (c .before .before .letter .given .1)),
+    )
 
 enum-told : tie.Need-enum-told
 enum-told c = search needs
@@ -65,8 +71,10 @@ same-length c = search needs
 returns-3 : tie.Need-returns-3
 returns-3 c =
     let a = c .before .before .before .before .before .before .before .before .before .before .before .before .args in
-    let text = ap (readText (networkOf (a .net))) (sym (ap lettersOf (c .before .before .before .before .before .letter .given .1)) ∙ c .before .before .before .before .before .before .before .read .ensures) in
-    lined-put (readLine (a .net) (now (a .bytes))) (a .at) (now (a .out)) _ _ (omega arith) (put-same _ _ 64 (a .at) (now (a .out)) _ _ text (c .before .before .put-letter .ensures))
+    let text = ap (readText (networkOf (a .net))) (sym (ap lettersOf (c .before .before .before .before .before .letter .given .1))
+    ∙ c .before .before .before .before .before .before .before .read .ensures) in
+    lined-put (readLine (a .net) (now (a .bytes))) (a .at) (now (a .out)) _ _ (omega arith)
+    (put-same _ _ 64 (a .at) (now (a .out)) _ _ text (c .before .before .put-letter .ensures))
 
 same-length-2 : tie.Need-same-length-2
 same-length-2 c = search needs
@@ -74,8 +82,10 @@ same-length-2 c = search needs
 returns-4 : tie.Need-returns-4
 returns-4 c =
     let a = c .before .before .before .before .before .before .before .before .before .before .before .args in
-    let text = ap (readText (networkOf (a .net))) (sym (ap lettersOf (c .before .before .before .before .enum-told .given .1)) ∙ c .before .before .before .before .before .before .read .ensures) in
-    lined-put (readLine (a .net) (now (a .bytes))) (a .at) (now (a .out)) _ _ (omega arith) (put-same _ _ 64 (a .at) (now (a .out)) _ _ text (c .before .before .put-number-line .ensures))
+    let text = ap (readText (networkOf (a .net))) (sym (ap lettersOf (c .before .before .before .before .enum-told .given .1))
+    ∙ c .before .before .before .before .before .before .read .ensures) in
+    lined-put (readLine (a .net) (now (a .bytes))) (a .at) (now (a .out)) _ _ (omega arith)
+    (put-same _ _ 64 (a .at) (now (a .out)) _ _ text (c .before .before .put-number-line .ensures))
 
 same-length-3 : tie.Need-same-length-3
 same-length-3 c = search needs
@@ -83,8 +93,10 @@ same-length-3 c = search needs
 returns-5 : tie.Need-returns-5
 returns-5 c =
     let a = c .before .before .before .before .before .before .before .before .before .before .before .args in
-    let text = ap (readText (networkOf (a .net))) (sym (ap lettersOf (c .before .before .before .before .enum-told2 .given .1)) ∙ c .before .before .before .before .before .before .read .ensures) in
-    lined-put (readLine (a .net) (now (a .bytes))) (a .at) (now (a .out)) _ _ (omega arith) (put-same _ _ 64 (a .at) (now (a .out)) _ _ text (c .before .before .put-number-line2 .ensures))
+    let text = ap (readText (networkOf (a .net))) (sym (ap lettersOf (c .before .before .before .before .enum-told2 .given .1))
+    ∙ c .before .before .before .before .before .before .read .ensures) in
+    lined-put (readLine (a .net) (now (a .bytes))) (a .at) (now (a .out)) _ _ (omega arith)
+    (put-same _ _ 64 (a .at) (now (a .out)) _ _ text (c .before .before .put-number-line2 .ensures))
 
 same-length-4 : tie.Need-same-length-4
 same-length-4 c = search needs
@@ -92,8 +104,10 @@ same-length-4 c = search needs
 returns-6 : tie.Need-returns-6
 returns-6 c =
     let a = c .before .before .before .before .before .before .before .before .before .before .before .args in
-    let text = ap (readText (networkOf (a .net))) (sym (ap lettersOf (c .before .before .before .before .enum-told3 .given .1)) ∙ c .before .before .before .before .before .before .read .ensures) in
-    lined-put (readLine (a .net) (now (a .bytes))) (a .at) (now (a .out)) _ _ (omega arith) (put-same _ _ 64 (a .at) (now (a .out)) _ _ text (c .before .before .put-number-line3 .ensures))
+    let text = ap (readText (networkOf (a .net))) (sym (ap lettersOf (c .before .before .before .before .enum-told3 .given .1))
+    ∙ c .before .before .before .before .before .before .read .ensures) in
+    lined-put (readLine (a .net) (now (a .bytes))) (a .at) (now (a .out)) _ _ (omega arith)
+    (put-same _ _ 64 (a .at) (now (a .out)) _ _ text (c .before .before .put-number-line3 .ensures))
 
 same-length-5 : tie.Need-same-length-5
 same-length-5 c = search needs
@@ -101,8 +115,10 @@ same-length-5 c = search needs
 returns-7 : tie.Need-returns-7
 returns-7 c =
     let a = c .before .before .before .before .before .before .before .before .before .before .before .args in
-    let text = ap (readText (networkOf (a .net))) (sym (ap lettersOf (c .before .before .before .before .enum-told4 .given .1)) ∙ c .before .before .before .before .before .before .read .ensures) in
-    lined-put (readLine (a .net) (now (a .bytes))) (a .at) (now (a .out)) _ _ (omega arith) (put-same _ _ 64 (a .at) (now (a .out)) _ _ text (c .before .before .put-number-line4 .ensures))
+    let text = ap (readText (networkOf (a .net))) (sym (ap lettersOf (c .before .before .before .before .enum-told4 .given .1))
+    ∙ c .before .before .before .before .before .before .read .ensures) in
+    lined-put (readLine (a .net) (now (a .bytes))) (a .at) (now (a .out)) _ _ (omega arith)
+    (put-same _ _ 64 (a .at) (now (a .out)) _ _ text (c .before .before .put-number-line4 .ensures))
 
 pub put-read-spec : {M : Type 1} → statement M
 put-read-spec =

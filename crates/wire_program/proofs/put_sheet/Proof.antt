@@ -14,11 +14,13 @@ use borrow.Author.Needs.{needs}
 use Rattle.wire_program.proofs.put_sheet.Statement.{statement}
 use Rattle.wire_program.proofs.put_sheet.Tie as tie
 
-few : (c : tie.After-struct-known) → c .before .before .before .before .before .before .before .before .before .before .open-sheet .result .number < 256
+few : (c : tie.After-struct-known)
+    → c .before .before .before .before .before .before .before .before .before .before .open-sheet .result .number < 256
 few c = search needs
 
 returns : tie.Need-returns
-returns c = let a = c .before .before .before .args in wrote-short 700 (sheetText (fileSheet (now (a .file)))) (now (a .out)) (c .if1 .taken)
+returns c =
+    let a = c .before .before .before .args in wrote-short 700 (sheetText (fileSheet (now (a .file)))) (now (a .out)) (c .if1 .taken)
 
 open-sheet-requires : tie.Need-open-sheet-requires
 open-sheet-requires c κs = search needs
@@ -52,11 +54,16 @@ returns-2 c =
     let a = c .before .before .before .before .before .before .before .before .before .before .before .before .before .before .before .before .before .before .before .before .before .before .args in
     let r = c .before .before .before .before .before .before .before .before .before .before .before .before .before .before .before .before .before .before .before .if1 .left in
     let o = c .before .before .before .before .before .before .before .before .before .before .before .before .before .before .before .before .before .before .open-sheet in
-    let w = put-of sheetWord 6 0 (now (a .out)) _ _ (omega arith) (omega (arith, r)) (c .before .before .before .before .before .before .before .before .before .before .before .before .put-word .ensures) in
-    let x = put-then (omega (arith, r)) w (put-of (digits (o .result .number)) 3 _ _ _ _ (byte-digits (o .result .number) (few (c .before .before .before .before .before .before .before .before))) (omega (arith, r, w .place, w .few, put-size w)) (c .before .before .before .before .before .before .before .put-number .ensures)) in
-    let y = put-then (omega (arith, r)) x (put-of (10 ∷ []) 1 _ _ _ _ (omega arith) (omega (arith, r, x .place, x .few, put-size x)) (c .before .before .put-word2 .ensures)) in
+    let w = put-of sheetWord 6 0 (now (a .out)) _ _ (omega arith) (omega (arith, r))
+    (c .before .before .before .before .before .before .before .before .before .before .before .before .put-word .ensures) in
+    let x = put-then (omega (arith, r)) w (put-of (digits (o .result .number)) 3 _ _ _ _
+    (byte-digits (o .result .number) (few (c .before .before .before .before .before .before .before .before)))
+    (omega (arith, r, w .place, w .few, put-size w)) (c .before .before .before .before .before .before .before .put-number .ensures)) in
+    let y = put-then (omega (arith, r)) x (put-of (10 ∷ []) 1 _ _ _ _ (omega arith) (omega (arith, r, x .place, x .few, put-size x))
+    (c .before .before .put-word2 .ensures)) in
     let text = sheet-bad (now (a .file)) (o .result) (o .ensures) (sym (c .before .before .before .before .before .before .before .before .before .before .before .before .before .before .before .before .keeps-sheet-rules .ensures) ∙ not-true _ (c .before .before .before .before .before .before .before .before .before .before .before .before .before .before .before .if2 .taken)) in
-    wrote-all 700 (sheetText (fileSheet (now (a .file)))) (now (a .out)) _ _ (omega (arith, r)) (put-wider 700 (omega arith) (put-same _ _ 10 0 (now (a .out)) _ _ text y))
+    wrote-all 700 (sheetText (fileSheet (now (a .file)))) (now (a .out)) _ _ (omega (arith, r))
+    (put-wider 700 (omega arith) (put-same _ _ 10 0 (now (a .out)) _ _ text y))
 
 put-network-requires : tie.Need-put-network-requires
 put-network-requires c κs = (omega arith, is-T _ (sym (c .before .before .keeps-sheet-rules .ensures) ∙ not-false _ (c .before .if2 .left)))
@@ -68,8 +75,11 @@ returns-3 : tie.Need-returns-3
 returns-3 c =
     let a = c .before .before .before .before .before .before .before .before .before .before .before .args in
     let o = c .before .before .before .before .before .before .before .open-sheet in
-    let text = sheet-said (now (a .file)) (o .result) (o .ensures) (sym (c .before .before .before .before .before .keeps-sheet-rules .ensures) ∙ not-false _ (c .before .before .before .before .if2 .left)) in
-    wrote-all 700 (sheetText (fileSheet (now (a .file)))) (now (a .out)) _ _ (omega arith) (put-same _ _ 700 0 (now (a .out)) _ _ text (c .before .before .put-network .ensures))
+    let text = sheet-said (now (a .file)) (o .result) (o .ensures)
+    (sym (c .before .before .before .before .before .keeps-sheet-rules .ensures)
+    ∙ not-false _ (c .before .before .before .before .if2 .left)) in
+    wrote-all 700 (sheetText (fileSheet (now (a .file)))) (now (a .out)) _ _ (omega arith)
+    (put-same _ _ 700 0 (now (a .out)) _ _ text (c .before .before .put-network .ensures))
 
 pub put-sheet-spec : {M : Type 1} → statement M
 put-sheet-spec =

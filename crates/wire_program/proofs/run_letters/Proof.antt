@@ -15,7 +15,8 @@ use Rattle.wire_program.proofs.run_letters.Statement.{statement}
 use Rattle.wire_program.proofs.run_letters.Tie as tie
 
 abbrev Inv-loop : tie.InvT-loop
-Inv-loop net bytes out₀ at₀ part₀ out at part = Going hexStart readHex saidBy acted spoken 64 bytes out₀ net (stopIn part₀) out net at (stopIn part)
+Inv-loop net bytes out₀ at₀ part₀ out at part =
+    Going hexStart readHex saidBy acted spoken 64 bytes out₀ net (stopIn part₀) out net at (stopIn part)
 
 abbrev μ-loop : tie.MeasureT-loop
 μ-loop net bytes out₀ at₀ part₀ out at part = length bytes - part .next + bit (part .ended)
@@ -27,10 +28,16 @@ read-part-requires : tie.Need-read-part-requires Inv-loop μ-loop
 read-part-requires c κs = omega arith
 
 loop-holds : tie.Need-loop-holds Inv-loop μ-loop
-loop-holds c = let a = c .before .before .before .before .args in going-begins hexStart readHex saidBy acted spoken 64 (now (a .bytes)) (now (a .out)) (a .net) (stopIn (c .read-part .result)) (a .r) (c .read-part .ensures) (omega arith)
+loop-holds c =
+    let a = c .before .before .before .before .args in going-begins hexStart readHex saidBy acted spoken 64 (now (a .bytes)) (now (a .out))
+    (a .net) (stopIn (c .read-part .result)) (a .r) (c .read-part .ensures) (omega arith)
 
 put-line-requires : tie.Need-put-line-requires Inv-loop μ-loop
-put-line-requires c κs = let a = c .before .before .before .before .before .before .before .before .args in let l = c .before .before .before .loop in going-room hexStart readHex saidBy acted spoken 64 (now (a .bytes)) (now (a .out)) (a .net) (stopIn (c .before .before .before .before .read-part .result)) (l .out) (a .net) (l .at) (stopIn (l .part)) (l .inv) (c .before .before .loop-test .taken)
+put-line-requires c κs =
+    let a = c .before .before .before .before .before .before .before .before .args in let l = c .before .before .before .loop in going-room
+    hexStart readHex saidBy acted spoken 64 (now (a .bytes)) (now (a .out)) (a .net)
+    (stopIn (c .before .before .before .before .read-part .result)) (l .out) (a .net) (l .at) (stopIn (l .part)) (l .inv)
+    (c .before .before .loop-test .taken)
 
 begin-hex-requires : tie.Need-begin-hex-requires Inv-loop μ-loop
 begin-hex-requires c κs = search needs
@@ -42,15 +49,23 @@ loop-less : tie.Need-loop-less Inv-loop μ-loop
 loop-less c =
     let a = c .before .before .before .before .before .before .before .before .before .before .before .before .before .args in
     let l = c .before .before .before .before .before .before .before .before .loop in
-    going-less hexStart readHex saidBy acted spoken 64 (now (a .bytes)) (now (a .out)) (a .net) (stopIn (c .before .before .before .before .before .before .before .before .before .read-part .result)) (l .out) (a .net) (l .at) (stopIn (l .part)) (l .inv) (c .before .before .before .before .before .before .before .loop-test .taken)
-    (a .net) refl _ refl _ _ (c .before .before .before .before .put-line .ensures) (stopIn (c .read-part2 .result)) (c .read-part2 .ensures ∙ ap (λ (v : HexReading). stopOf readHex v (drop (l .part .next) (now (a .bytes))) (l .part .next)) (c .before .begin-hex .ensures))
+    going-less hexStart readHex saidBy acted spoken 64 (now (a .bytes)) (now (a .out)) (a .net)
+    (stopIn (c .before .before .before .before .before .before .before .before .before .read-part .result)) (l .out) (a .net) (l .at)
+    (stopIn (l .part)) (l .inv) (c .before .before .before .before .before .before .before .loop-test .taken)
+    (a .net) refl _ refl _ _ (c .before .before .before .before .put-line .ensures) (stopIn (c .read-part2 .result))
+    (c .read-part2 .ensures ∙ ap (λ (v : HexReading). stopOf readHex v (drop (l .part .next) (now (a .bytes))) (l .part .next))
+    (c .before .begin-hex .ensures))
 
 loop-again : tie.Need-loop-again Inv-loop μ-loop
 loop-again c =
     let a = c .before .before .before .before .before .before .before .before .before .before .before .before .before .args in
     let l = c .before .before .before .before .before .before .before .before .loop in
-    going-more hexStart readHex saidBy acted spoken 64 (now (a .bytes)) (now (a .out)) (a .net) (stopIn (c .before .before .before .before .before .before .before .before .before .read-part .result)) (l .out) (a .net) (l .at) (stopIn (l .part)) (l .inv) (c .before .before .before .before .before .before .before .loop-test .taken)
-    (a .net) refl _ refl _ _ (c .before .before .before .before .put-line .ensures) (stopIn (c .read-part2 .result)) (c .read-part2 .ensures ∙ ap (λ (v : HexReading). stopOf readHex v (drop (l .part .next) (now (a .bytes))) (l .part .next)) (c .before .begin-hex .ensures))
+    going-more hexStart readHex saidBy acted spoken 64 (now (a .bytes)) (now (a .out)) (a .net)
+    (stopIn (c .before .before .before .before .before .before .before .before .before .read-part .result)) (l .out) (a .net) (l .at)
+    (stopIn (l .part)) (l .inv) (c .before .before .before .before .before .before .before .loop-test .taken)
+    (a .net) refl _ refl _ _ (c .before .before .before .before .put-line .ensures) (stopIn (c .read-part2 .result))
+    (c .read-part2 .ensures ∙ ap (λ (v : HexReading). stopOf readHex v (drop (l .part .next) (now (a .bytes))) (l .part .next))
+    (c .before .begin-hex .ensures))
 
 same-length : tie.Need-same-length Inv-loop μ-loop
 same-length c = c .before .before .loop .inv .size
@@ -59,7 +74,8 @@ returns-2 : tie.Need-returns-2 Inv-loop μ-loop
 returns-2 c =
     let a = c .before .before .before .before .before .before .before .args in
     let l = c .before .before .loop in
-    passed-all (a .net) (a .r) (now (a .bytes)) (now (a .out)) (stopIn (c .before .before .before .read-part .result)) (l .out) (l .at) (stopIn (l .part)) (c .before .before .before .read-part .ensures) (omega arith) (l .inv) (c .before .loop-test .left)
+    passed-all (a .net) (a .r) (now (a .bytes)) (now (a .out)) (stopIn (c .before .before .before .read-part .result)) (l .out) (l .at)
+    (stopIn (l .part)) (c .before .before .before .read-part .ensures) (omega arith) (l .inv) (c .before .loop-test .left)
 
 pub run-letters-spec : {M : Type 1} → statement M
 run-letters-spec =

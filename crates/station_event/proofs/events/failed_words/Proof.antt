@@ -20,7 +20,8 @@ with-marks-requires c κs = search needs
 returns : tie.Need-returns
 returns c =
     let a = c .before .before .before .args in
-    c .with-marks .ensures ∙ ap (λ (m : Marks). wordsWith (a .w) (a .k) (setQuiet true m)) (c .before .test-ended .ensures ∙ ap testEnded (c .before .before .marks-at .ensures))
+    c .with-marks .ensures ∙ ap (λ (m : Marks). wordsWith (a .w) (a .k) (setQuiet true m))
+    (c .before .test-ended .ensures ∙ ap testEnded (c .before .before .marks-at .ensures))
 
 pub failed-words-spec : {M : Type 1} → statement M
 failed-words-spec = tie.close (tie.spec marks-at-requires test-ended-requires with-marks-requires returns)

@@ -18,7 +18,8 @@ returns-2 c =
 returns-3 : tie.Need-returns-3
 returns-3 c =
     let a = c .before .before .before .before .args in
-    end-quiet (a .condition) (a .m) _ (c .before .before .before .is-live .ensures) (not-false _ (c .before .before .if1 .left)) (c .before .if2 .left)
+    end-quiet (a .condition) (a .m) _ (c .before .before .before .is-live .ensures) (not-false _ (c .before .before .if1 .left))
+    (c .before .if2 .left)
 
 pub may-end-spec : {M : Type 1} → statement M
 may-end-spec = tie.close (tie.spec is-live-requires returns returns-2 returns-3)

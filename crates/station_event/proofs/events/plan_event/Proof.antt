@@ -15,7 +15,8 @@ staying-requires c κs = search needs
 returns : tie.Need-returns
 returns c =
     let a = c .before .before .args in
-    none-there (a .there) (a .kind) (a .own) (a .me) (a .k) (a .letter) (a .c) (a .told) (a .condition) (a .w) (fit (c .before .before)) _ (not-true _ (c .before .if1 .taken)) (c .staying .ensures)
+    none-there (a .there) (a .kind) (a .own) (a .me) (a .k) (a .letter) (a .c) (a .told) (a .condition) (a .w) (fit (c .before .before)) _
+    (not-true _ (c .before .if1 .taken)) (c .staying .ensures)
 
 enum-told : tie.Need-enum-told
 enum-told c = search needs
@@ -77,55 +78,78 @@ staying-requires-2 c κs = search needs
 returns-2 : tie.Need-returns-2
 returns-2 c =
     let a = c .before .before .before .before .args in
-    by-kind (a .there) (a .kind) (a .own) (a .me) (a .k) (a .letter) (a .c) (a .told) (a .condition) (a .w) (fit (c .before .before .before .before)) _ NoSuch (not-false _ (c .before .before .before .if1 .left)) (c .before .enum-told .given .1)
-    (no-such (a .there) (a .kind) (a .own) (a .me) (a .k) (a .letter) (a .c) (a .told) (a .condition) (a .w) (fit (c .before .before .before .before)) _ (c .turning .ensures))
+    by-kind (a .there) (a .kind) (a .own) (a .me) (a .k) (a .letter) (a .c) (a .told) (a .condition) (a .w)
+    (fit (c .before .before .before .before)) _ NoSuch (not-false _ (c .before .before .before .if1 .left)) (c .before .enum-told .given .1)
+    (no-such (a .there) (a .kind) (a .own) (a .me) (a .k) (a .letter) (a .c) (a .told) (a .condition) (a .w)
+    (fit (c .before .before .before .before)) _ (c .turning .ensures))
 
 returns-3 : tie.Need-returns-3
 returns-3 c =
     let a = c .before .before .before .before .args in
-    by-kind (a .there) (a .kind) (a .own) (a .me) (a .k) (a .letter) (a .c) (a .told) (a .condition) (a .w) (fit (c .before .before .before .before)) _ Start (not-false _ (c .before .before .before .if1 .left)) (c .before .enum-told2 .given .1)
-    (is-start (a .there) (a .kind) (a .own) (a .me) (a .k) (a .letter) (a .c) (a .told) (a .condition) (a .w) (fit (c .before .before .before .before)) _ (c .plan-start .ensures))
+    by-kind (a .there) (a .kind) (a .own) (a .me) (a .k) (a .letter) (a .c) (a .told) (a .condition) (a .w)
+    (fit (c .before .before .before .before)) _ Start (not-false _ (c .before .before .before .if1 .left)) (c .before .enum-told2 .given .1)
+    (is-start (a .there) (a .kind) (a .own) (a .me) (a .k) (a .letter) (a .c) (a .told) (a .condition) (a .w)
+    (fit (c .before .before .before .before)) _ (c .plan-start .ensures))
 
 returns-4 : tie.Need-returns-4
 returns-4 c =
     let a = c .before .before .before .before .args in
-    by-kind (a .there) (a .kind) (a .own) (a .me) (a .k) (a .letter) (a .c) (a .told) (a .condition) (a .w) (fit (c .before .before .before .before)) _ Stop (not-false _ (c .before .before .before .if1 .left)) (c .before .enum-told3 .given .1)
-    (is-stop (a .there) (a .kind) (a .own) (a .me) (a .k) (a .letter) (a .c) (a .told) (a .condition) (a .w) (fit (c .before .before .before .before)) _ (c .plan-stop .ensures))
+    by-kind (a .there) (a .kind) (a .own) (a .me) (a .k) (a .letter) (a .c) (a .told) (a .condition) (a .w)
+    (fit (c .before .before .before .before)) _ Stop (not-false _ (c .before .before .before .if1 .left)) (c .before .enum-told3 .given .1)
+    (is-stop (a .there) (a .kind) (a .own) (a .me) (a .k) (a .letter) (a .c) (a .told) (a .condition) (a .w)
+    (fit (c .before .before .before .before)) _ (c .plan-stop .ensures))
 
 returns-5 : tie.Need-returns-5
 returns-5 c =
     let a = c .before .before .before .before .args in
-    by-kind (a .there) (a .kind) (a .own) (a .me) (a .k) (a .letter) (a .c) (a .told) (a .condition) (a .w) (fit (c .before .before .before .before)) _ Recovery (not-false _ (c .before .before .before .if1 .left)) (c .before .enum-told4 .given .1)
-    (is-recovery (a .there) (a .kind) (a .own) (a .me) (a .k) (a .letter) (a .c) (a .told) (a .condition) (a .w) (fit (c .before .before .before .before)) _ (c .plan-recovery .ensures))
+    by-kind (a .there) (a .kind) (a .own) (a .me) (a .k) (a .letter) (a .c) (a .told) (a .condition) (a .w)
+    (fit (c .before .before .before .before)) _ Recovery (not-false _ (c .before .before .before .if1 .left))
+    (c .before .enum-told4 .given .1)
+    (is-recovery (a .there) (a .kind) (a .own) (a .me) (a .k) (a .letter) (a .c) (a .told) (a .condition) (a .w)
+    (fit (c .before .before .before .before)) _ (c .plan-recovery .ensures))
 
 returns-6 : tie.Need-returns-6
 returns-6 c =
     let a = c .before .before .before .before .args in
-    by-kind (a .there) (a .kind) (a .own) (a .me) (a .k) (a .letter) (a .c) (a .told) (a .condition) (a .w) (fit (c .before .before .before .before)) _ IntervalEnd (not-false _ (c .before .before .before .if1 .left)) (c .before .enum-told5 .given .1)
-    (is-interval (a .there) (a .kind) (a .own) (a .me) (a .k) (a .letter) (a .c) (a .told) (a .condition) (a .w) (fit (c .before .before .before .before)) _ (c .plan-interval .ensures))
+    by-kind (a .there) (a .kind) (a .own) (a .me) (a .k) (a .letter) (a .c) (a .told) (a .condition) (a .w)
+    (fit (c .before .before .before .before)) _ IntervalEnd (not-false _ (c .before .before .before .if1 .left))
+    (c .before .enum-told5 .given .1)
+    (is-interval (a .there) (a .kind) (a .own) (a .me) (a .k) (a .letter) (a .c) (a .told) (a .condition) (a .w)
+    (fit (c .before .before .before .before)) _ (c .plan-interval .ensures))
 
 returns-7 : tie.Need-returns-7
 returns-7 c =
     let a = c .before .before .before .before .args in
-    by-kind (a .there) (a .kind) (a .own) (a .me) (a .k) (a .letter) (a .c) (a .told) (a .condition) (a .w) (fit (c .before .before .before .before)) _ TimeoutEnd (not-false _ (c .before .before .before .if1 .left)) (c .before .enum-told6 .given .1)
-    (is-timeout (a .there) (a .kind) (a .own) (a .me) (a .k) (a .letter) (a .c) (a .told) (a .condition) (a .w) (fit (c .before .before .before .before)) _ (c .plan-timeout .ensures))
+    by-kind (a .there) (a .kind) (a .own) (a .me) (a .k) (a .letter) (a .c) (a .told) (a .condition) (a .w)
+    (fit (c .before .before .before .before)) _ TimeoutEnd (not-false _ (c .before .before .before .if1 .left))
+    (c .before .enum-told6 .given .1)
+    (is-timeout (a .there) (a .kind) (a .own) (a .me) (a .k) (a .letter) (a .c) (a .told) (a .condition) (a .w)
+    (fit (c .before .before .before .before)) _ (c .plan-timeout .ensures))
 
 returns-8 : tie.Need-returns-8
 returns-8 c =
     let a = c .before .before .before .before .args in
-    by-kind (a .there) (a .kind) (a .own) (a .me) (a .k) (a .letter) (a .c) (a .told) (a .condition) (a .w) (fit (c .before .before .before .before)) _ QuietEnd (not-false _ (c .before .before .before .if1 .left)) (c .before .enum-told7 .given .1)
-    (is-quiet-end (a .there) (a .kind) (a .own) (a .me) (a .k) (a .letter) (a .c) (a .told) (a .condition) (a .w) (fit (c .before .before .before .before)) _ (c .plan-quiet-end .ensures))
+    by-kind (a .there) (a .kind) (a .own) (a .me) (a .k) (a .letter) (a .c) (a .told) (a .condition) (a .w)
+    (fit (c .before .before .before .before)) _ QuietEnd (not-false _ (c .before .before .before .if1 .left))
+    (c .before .enum-told7 .given .1)
+    (is-quiet-end (a .there) (a .kind) (a .own) (a .me) (a .k) (a .letter) (a .c) (a .told) (a .condition) (a .w)
+    (fit (c .before .before .before .before)) _ (c .plan-quiet-end .ensures))
 
 returns-9 : tie.Need-returns-9
 returns-9 c =
     let a = c .before .before .before .before .args in
-    by-kind (a .there) (a .kind) (a .own) (a .me) (a .k) (a .letter) (a .c) (a .told) (a .condition) (a .w) (fit (c .before .before .before .before)) _ Delivery (not-false _ (c .before .before .before .if1 .left)) (c .before .enum-told8 .given .1) (c .plan-letter .ensures)
+    by-kind (a .there) (a .kind) (a .own) (a .me) (a .k) (a .letter) (a .c) (a .told) (a .condition) (a .w)
+    (fit (c .before .before .before .before)) _ Delivery (not-false _ (c .before .before .before .if1 .left))
+    (c .before .enum-told8 .given .1) (c .plan-letter .ensures)
 
 returns-10 : tie.Need-returns-10
 returns-10 c =
     let a = c .before .before .before .before .before .args in
-    by-kind (a .there) (a .kind) (a .own) (a .me) (a .k) (a .letter) (a .c) (a .told) (a .condition) (a .w) (fit (c .before .before .before .before .before)) _ Loss (not-false _ (c .before .before .before .before .if1 .left)) (c .before .before .enum-told9 .given .1)
-    (lost (a .there) (a .kind) (a .own) (a .me) (a .k) (a .letter) (a .c) (a .told) (a .condition) (a .w) (fit (c .before .before .before .before .before)) _ _ (c .before .settled-by .ensures) (c .staying2 .ensures))
+    by-kind (a .there) (a .kind) (a .own) (a .me) (a .k) (a .letter) (a .c) (a .told) (a .condition) (a .w)
+    (fit (c .before .before .before .before .before)) _ Loss (not-false _ (c .before .before .before .before .if1 .left))
+    (c .before .before .enum-told9 .given .1)
+    (lost (a .there) (a .kind) (a .own) (a .me) (a .k) (a .letter) (a .c) (a .told) (a .condition) (a .w)
+    (fit (c .before .before .before .before .before)) _ _ (c .before .settled-by .ensures) (c .staying2 .ensures))
 
 pub plan-event-spec : {M : Type 1} → statement M
 plan-event-spec =

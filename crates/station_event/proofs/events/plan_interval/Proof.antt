@@ -17,7 +17,8 @@ staying-requires c κs = search needs
 returns : tie.Need-returns
 returns c =
     let a = c .before .before .before .before .args in
-    interval-refused (a .condition) (a .w) (a .k) _ _ (c .before .before .before .marks-at .ensures) (c .before .before .may-end .ensures) _ (not-true _ (c .before .if1 .taken)) (c .staying .ensures)
+    interval-refused (a .condition) (a .w) (a .k) _ _ (c .before .before .before .marks-at .ensures) (c .before .before .may-end .ensures) _
+    (not-true _ (c .before .if1 .taken)) (c .staying .ensures)
 
 tests-now-requires : tie.Need-tests-now-requires
 tests-now-requires c κs = search needs
@@ -37,8 +38,10 @@ turning-requires c κs = search needs
 returns-2 : tie.Need-returns-2
 returns-2 c =
     let a = c .before .before .before .before .before .before .before .before .args in
-    interval-done (a .condition) (a .w) (a .k) _ _ (c .before .before .before .before .before .before .before .marks-at .ensures) (c .before .before .before .before .before .before .may-end .ensures) _ _ _ _ _
-    (not-false _ (c .before .before .before .before .before .if1 .left)) (c .before .before .before .before .tests-now .ensures) (c .before .before .before .put .ensures) (c .before .before .interval-marks .ensures)
+    interval-done (a .condition) (a .w) (a .k) _ _ (c .before .before .before .before .before .before .before .marks-at .ensures)
+    (c .before .before .before .before .before .before .may-end .ensures) _ _ _ _ _
+    (not-false _ (c .before .before .before .before .before .if1 .left)) (c .before .before .before .before .tests-now .ensures)
+    (c .before .before .before .put .ensures) (c .before .before .interval-marks .ensures)
     (c .before .with-marks .ensures) (c .turning .ensures)
 
 pub plan-interval-spec : {M : Type 1} → statement M

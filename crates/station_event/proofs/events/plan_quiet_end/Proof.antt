@@ -15,7 +15,8 @@ staying-requires c κs = search needs
 returns : tie.Need-returns
 returns c =
     let a = c .before .before .before .args in
-    refused QuietEnd 0 (a .k) 0 (a .condition) (a .w) _ (sym (c .before .before .has .ensures) ∙ not-true _ (c .before .if1 .taken)) (c .staying .ensures)
+    refused QuietEnd 0 (a .k) 0 (a .condition) (a .w) _ (sym (c .before .before .has .ensures) ∙ not-true _ (c .before .if1 .taken))
+    (c .staying .ensures)
 
 loud-words-requires : tie.Need-loud-words-requires
 loud-words-requires c κs = search needs
@@ -26,7 +27,8 @@ turning-requires c κs = search needs
 returns-2 : tie.Need-returns-2
 returns-2 c =
     let a = c .before .before .before .before .args in
-    quiet-done (a .condition) (a .w) (a .k) _ _ (sym (c .before .before .before .has .ensures) ∙ not-false _ (c .before .before .if1 .left)) (c .before .loud-words .ensures) (c .turning .ensures)
+    quiet-done (a .condition) (a .w) (a .k) _ _ (sym (c .before .before .before .has .ensures) ∙ not-false _ (c .before .before .if1 .left))
+    (c .before .loud-words .ensures) (c .turning .ensures)
 
 pub plan-quiet-end-spec : {M : Type 1} → statement M
 plan-quiet-end-spec =

@@ -15,7 +15,8 @@ staying-requires c κs = search needs
 returns : tie.Need-returns
 returns c =
     let a = c .before .before .before .args in
-    refused Recovery (a .own) 0 0 (a .condition) (a .w) _ (sym (c .before .before .is-waiting .ensures) ∙ not-true _ (c .before .if1 .taken)) (c .staying .ensures)
+    refused Recovery (a .own) 0 0 (a .condition) (a .w) _
+    (sym (c .before .before .is-waiting .ensures) ∙ not-true _ (c .before .if1 .taken)) (c .staying .ensures)
 
 tests-on-requires : tie.Need-tests-on-requires
 tests-on-requires c κs = search needs
@@ -29,7 +30,9 @@ turning-requires c κs = search needs
 returns-2 : tie.Need-returns-2
 returns-2 c =
     let a = c .before .before .before .before .before .args in
-    recovery-done (a .condition) (a .w) (a .own) _ _ _ (sym (c .before .before .before .before .is-waiting .ensures) ∙ not-false _ (c .before .before .before .if1 .left)) (c .before .recovered-words .ensures) (c .before .before .tests-on .ensures) (c .turning .ensures)
+    recovery-done (a .condition) (a .w) (a .own) _ _ _
+    (sym (c .before .before .before .before .is-waiting .ensures) ∙ not-false _ (c .before .before .before .if1 .left))
+    (c .before .recovered-words .ensures) (c .before .before .tests-on .ensures) (c .turning .ensures)
 
 pub plan-recovery-spec : {M : Type 1} → statement M
 plan-recovery-spec =

@@ -15,7 +15,8 @@ staying-requires c κs = search needs
 returns : tie.Need-returns
 returns c =
     let a = c .before .before .before .args in
-    refused Start (a .own) 0 0 (a .condition) (a .w) _ (sym (c .before .before .is-down .ensures) ∙ not-true _ (c .before .if1 .taken)) (c .staying .ensures)
+    refused Start (a .own) 0 0 (a .condition) (a .w) _ (sym (c .before .before .is-down .ensures) ∙ not-true _ (c .before .if1 .taken))
+    (c .staying .ensures)
 
 turning-requires : tie.Need-turning-requires
 turning-requires c κs = search needs
@@ -23,7 +24,8 @@ turning-requires c κs = search needs
 returns-2 : tie.Need-returns-2
 returns-2 c =
     let a = c .before .before .before .args in
-    start-done (a .own) (search needs) (a .w) (a .condition) _ (sym (c .before .before .is-down .ensures) ∙ not-false _ (c .before .if1 .left)) (c .turning .ensures)
+    start-done (a .own) (search needs) (a .w) (a .condition) _
+    (sym (c .before .before .is-down .ensures) ∙ not-false _ (c .before .if1 .left)) (c .turning .ensures)
 
 pub plan-start-spec : {M : Type 1} → statement M
 plan-start-spec =

@@ -15,7 +15,8 @@ staying-requires c κs = search needs
 returns : tie.Need-returns
 returns c =
     let a = c .before .before .before .args in
-    refused Stop 0 0 0 (a .condition) (a .w) _ (ap not (sym (c .before .before .is-down .ensures) ∙ c .before .if1 .taken)) (c .staying .ensures)
+    refused Stop 0 0 0 (a .condition) (a .w) _ (ap not (sym (c .before .before .is-down .ensures) ∙ c .before .if1 .taken))
+    (c .staying .ensures)
 
 turning-requires : tie.Need-turning-requires
 turning-requires c κs = search needs

@@ -15,7 +15,8 @@ staying-requires c κs = search needs
 returns : tie.Need-returns
 returns c =
     let a = c .before .before .before .args in
-    refused TimeoutEnd (a .own) (a .k) (a .c) (a .condition) (a .w) _ (sym (c .before .before .has .ensures) ∙ not-true _ (c .before .if1 .taken)) (c .staying .ensures)
+    refused TimeoutEnd (a .own) (a .k) (a .c) (a .condition) (a .w) _
+    (sym (c .before .before .has .ensures) ∙ not-true _ (c .before .if1 .taken)) (c .staying .ensures)
 
 is-even-requires : tie.Need-is-even-requires
 is-even-requires c κs = search needs
@@ -29,8 +30,10 @@ turning-requires c κs = search needs
 returns-2 : tie.Need-returns-2
 returns-2 c =
     let a = c .before .before .before .before .before .before .args in
-    timeout-odd (a .condition) (a .w) (a .k) (a .own) (a .c) _ (sym (c .before .before .before .before .before .has .ensures) ∙ not-false _ (c .before .before .before .before .if1 .left))
-    (c .before .before .before .is-even .ensures) _ _ (not-true _ (c .before .before .if2 .taken)) (c .before .ended-words .ensures) (c .turning .ensures)
+    timeout-odd (a .condition) (a .w) (a .k) (a .own) (a .c) _
+    (sym (c .before .before .before .before .before .has .ensures) ∙ not-false _ (c .before .before .before .before .if1 .left))
+    (c .before .before .before .is-even .ensures) _ _ (not-true _ (c .before .before .if2 .taken)) (c .before .ended-words .ensures)
+    (c .turning .ensures)
 
 failed-words-requires : tie.Need-failed-words-requires
 failed-words-requires c κs = search needs
@@ -53,9 +56,13 @@ telling-requires c κs = search needs
 returns-3 : tie.Need-returns-3
 returns-3 c =
     let a = c .before .before .before .before .before .before .before .before .before .before .args in
-    timeout-even (a .condition) (a .w) (a .k) (a .own) (a .c) _ (sym (c .before .before .before .before .before .before .before .before .before .has .ensures) ∙ not-false _ (c .before .before .before .before .before .before .before .before .if1 .left))
-    (c .before .before .before .before .before .before .before .is-even .ensures) _ _ _ _ _ _ (not-false _ (c .before .before .before .before .before .before .if2 .left))
-    (c .before .before .before .before .before .failed-words .ensures) (c .before .before .before .before .put .ensures) (c .before .before .before .without .ensures) (c .before .before .put2 .ensures) (c .before .timed-out .ensures) (c .telling .ensures)
+    timeout-even (a .condition) (a .w) (a .k) (a .own) (a .c) _
+    (sym (c .before .before .before .before .before .before .before .before .before .has .ensures)
+    ∙ not-false _ (c .before .before .before .before .before .before .before .before .if1 .left))
+    (c .before .before .before .before .before .before .before .is-even .ensures) _ _ _ _ _ _
+    (not-false _ (c .before .before .before .before .before .before .if2 .left))
+    (c .before .before .before .before .before .failed-words .ensures) (c .before .before .before .before .put .ensures)
+    (c .before .before .before .without .ensures) (c .before .before .put2 .ensures) (c .before .timed-out .ensures) (c .telling .ensures)
 
 pub plan-timeout-spec : {M : Type 1} → statement M
 plan-timeout-spec =

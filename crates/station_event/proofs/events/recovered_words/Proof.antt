@@ -27,7 +27,9 @@ without-requires-4 c κs = search needs
 returns : tie.Need-returns
 returns c =
     let a = c .before .before .before .before .before .before .before .args in
-    words-are (a .own) (a .w) (search needs) (search needs) _ _ _ _ _ _ _ (c .before .before .before .before .before .before .without .ensures) (c .before .before .before .before .before .without2 .ensures) (c .before .before .before .before .without3 .ensures) (c .before .before .before .join .ensures)
+    words-are (a .own) (a .w) (search needs) (search needs) _ _ _ _ _ _ _
+    (c .before .before .before .before .before .before .without .ensures) (c .before .before .before .before .before .without2 .ensures)
+    (c .before .before .before .before .without3 .ensures) (c .before .before .before .join .ensures)
     (c .before .before .tests-on .ensures) (c .before .join2 .ensures) (c .without4 .ensures)
 
 pub recovered-words-spec : {M : Type 1} → statement M

@@ -3,6 +3,6 @@ use Prim.Native.Nat.{ℕ}
 use lib.Dec.{ltb}
 use Rattle.lists.specs.Lists.{if_then_else_}
 
--- a station's number that may be read in a room of 32; any other becomes 0
+-- one that has a place there; any other becomes 0
 abbrev pub inRoom : ℕ → ℕ
 inRoom n = if ltb n 32 then n else 0

@@ -1,7 +1,7 @@
 use borrow.Author.Tests.{lt-ltb, le-ltb}
 use borrow.Author.Needs.{needs}
-use Rattle.step.proofs.in_room.Statement.{statement}
-use Rattle.step.proofs.in_room.Tie as tie
+use Rattle.sets.proofs.in_room.Statement.{statement}
+use Rattle.sets.proofs.in_room.Tie as tie
 
 cast-result : tie.Need-cast-result
 cast-result c = search needs

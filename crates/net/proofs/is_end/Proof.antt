@@ -1,6 +1,6 @@
 use borrow.Author.Tests.{eq-eqb, ne-eqb}
-use Rattle.marks.proofs.is_end.Statement.{statement}
-use Rattle.marks.proofs.is_end.Tie as tie
+use Rattle.net.proofs.is_end.Statement.{statement}
+use Rattle.net.proofs.is_end.Tie as tie
 
 returns : tie.Need-returns
 returns c = simp (eq-eqb _ _ (c .if1 .taken))
