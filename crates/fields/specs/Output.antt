@@ -1,11 +1,23 @@
--- What writing to lent output gives, for sheets and letters alike.
+-- What writing to lent output gives: bytes over its front, or 10 where it is too short; for sheets, letters and the report alike.
 use Prim.Native.Nat.{ℕ}
+use mathlib.Core.Bool.{Bool}
 use mathlib.Core.List.{List, [], _∷_}
-use lib.Dec.{ltb}
+use lib.Dec.{eqb, ltb}
 use lib.ListN.{length}
 use Rattle.lists.specs.Lists.{if_then_else_}
 use Rattle.fields.specs.Fields.{onto}
 
+abbrev pub tooShort : List ℕ → List ℕ → Bool
+tooShort new old = ltb (length old) (length new)
+
+-- ---- where a call answers a number alone, and one may refuse before: the number, and the output after
+abbrev pub withRoom : ℕ → List ℕ → List ℕ → ℕ
+withRoom number new old = if eqb number 0 then (if tooShort new old then 10 else 0) else number
+
+abbrev pub writtenOver : ℕ → List ℕ → List ℕ → List ℕ
+writtenOver number new old = if eqb number 0 then onto new old else old
+
+-- ---- where it answers how many bytes were written
 -- the number of a refusal, or the bytes that are written
 pub data Writing : Type 0 where
   denied : ℕ → Writing
@@ -13,7 +25,7 @@ pub data Writing : Type 0 where
 
 -- bytes for an output: 10 where it is too short
 unfoldable pub fitting : List ℕ → List ℕ → Writing
-fitting new old = if ltb (length old) (length new) then denied 10 else writes new
+fitting new old = if tooShort new old then denied 10 else writes new
 
 -- the number, and how many bytes were written
 abbrev pub writingNumbers : Writing → List ℕ

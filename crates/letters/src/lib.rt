@@ -12,6 +12,13 @@ use net::Body;
 use net::Letter;
 use net::Net;
 
+// document 01's tags
+const REQUEST: u8 = 0x21;
+
+const REPLY: u8 = 0x22;
+
+const NOTICE: u8 = 0x23;
+
 // What reading a letter answers.
 pub enum Answer {
     Good(Letter),
@@ -44,20 +51,20 @@ fn form_of(bytes: &[u8], tag: u8, n: usize) -> Shape
     requires { ⌜ n + 3 ≤ length (now bytes) ⌝ }
     ensures { λ r. ⌜ formIn r ≡ formOf tag (take n (drop 3 (now (bytes .entry)))) ⌝ }
 {
-    if tag == 33 {
+    if tag == REQUEST {
         if n != 2 {
             return Shape::Unknown;
         }
         return Shape::Says(Body::Request);
     }
-    if tag == 34 {
+    if tag == REPLY {
         if n != 4 {
             return Shape::Unknown;
         }
         let c = fields::two_bytes(bytes[5], bytes[6]);
         return Shape::Says(Body::Reply(c));
     }
-    if tag != 35 {
+    if tag != NOTICE {
         return Shape::Unknown;
     }
     if n != 5 {
@@ -157,15 +164,15 @@ fn put_letter(out: &mut [u8], link: u8, side: u8, body: Body) -> Wrote
     match body {
         Body::Request => {
             let value = [link, side];
-            put_value(out, 33, &value)
+            put_value(out, REQUEST, &value)
         }
         Body::Reply(c) => {
             let value = [link, side, high_byte(c), low_byte(c)];
-            put_value(out, 34, &value)
+            put_value(out, REPLY, &value)
         }
         Body::Notice(subject, c) => {
             let value = [link, side, subject, high_byte(c), low_byte(c)];
-            put_value(out, 35, &value)
+            put_value(out, NOTICE, &value)
         }
     }
 }

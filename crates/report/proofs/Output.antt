@@ -18,7 +18,7 @@ use Rattle.net.specs.Values.{networkOf, linkCount}
 use Rattle.net.proofs.ValueLaws.{stations-of, links-of, ends-of}
 use Rattle.reach.specs.Reach.{has, near, linkValue, report}
 use Rattle.reach.specs.Values.{reachOf}
-use Rattle.report.specs.ReportsAnswers.{withRoom, writtenOver}
+use Rattle.fields.specs.Output.{withRoom, writtenOver}
 use Rattle.report.specs.Steps.{linkShown, reportIn}
 
 -- a turn of a loop that stores g k at place k

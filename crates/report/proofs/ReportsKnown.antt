@@ -16,7 +16,8 @@ use Rattle.state.specs.declared.State.{State}
 use Rattle.state.specs.State.{stationIn, worldOf, stateHolds, Sized}
 use Rattle.sets.specs.Rooms.{inRoom}
 use Rattle.report.proofs.AskingKnown.{world-net, me-is, table-is, Read, holds, number-is, is-good, there}
-use Rattle.report.specs.ReportsAnswers.{withRoom, writtenOver, answerOf, outputOf}
+use Rattle.report.specs.ReportsAnswers.{answerOf, outputOf}
+use Rattle.fields.specs.Output.{withRoom, writtenOver}
 use Rattle.report.specs.Steps.{reportIn}
 
 -- ---- a well-formed state

@@ -11,6 +11,13 @@ ghost use Rattle.fields.specs.Output.{writingNumbers, writingOutput};
 use fields::Cut;
 use net::Net;
 
+// document 01's tags
+const STATIONS: u8 = 0x01;
+
+const LINK: u8 = 0x02;
+
+const END: u8 = 0x0F;
+
 // What reading a sheet answers.
 pub enum Answer {
     Good,
@@ -83,7 +90,7 @@ fn first_field(bytes: &[u8]) -> First
     let Cut::Whole { tag, length } = fields::cut_first(bytes) else {
         return First::Faulty(Answer::Short);
     };
-    if tag != 1 {
+    if tag != STATIONS {
         return First::Faulty(Answer::Malformed);
     }
     if length != 1 {
@@ -128,13 +135,13 @@ fn next_field(bytes: &[u8], n: u8, a: u8, b: u8) -> Next
     let Cut::Whole { tag, length } = fields::cut_first(bytes) else {
         return Next::Wrong(Answer::Short);
     };
-    if tag == 2 {
+    if tag == LINK {
         if length != 2 {
             return Next::Wrong(Answer::Malformed);
         }
         return link_verdict(n, a, b, bytes[3], bytes[4]);
     }
-    if tag != 15 {
+    if tag != END {
         return Next::Wrong(Answer::Malformed);
     }
     if length != 0 {
@@ -208,7 +215,7 @@ fn put_stations(out: &mut [u8], n: u8)
     ensures { λ r. ⌜ now (out .exit) ≡ onto (writeField 1 (n ∷ [])) (now (out .entry)) ⌝ }
 {
     let value = [n];
-    fields::put(out, 1, &value);
+    fields::put(out, STATIONS, &value);
 }
 
 fn put_link(out: &mut [u8], low: u8, high: u8)
@@ -216,14 +223,14 @@ fn put_link(out: &mut [u8], low: u8, high: u8)
     ensures { λ r. ⌜ now (out .exit) ≡ onto (linkBytes (endsOf low high)) (now (out .entry)) ⌝ }
 {
     let value = [low, high];
-    fields::put(out, 2, &value);
+    fields::put(out, LINK, &value);
 }
 
 fn put_last(out: &mut [u8])
     requires { ⌜ 3 ≤ length (now out) ⌝ }
     ensures { λ r. ⌜ now (out .exit) ≡ onto (writeField 15 []) (now (out .entry)) ⌝ }
 {
-    fields::put(out, 15, b"");
+    fields::put(out, END, b"");
 }
 
 fn put_links(out: &mut [u8], low: [u8; 64], high: [u8; 64], m: usize)
