@@ -21,7 +21,7 @@ use Rattle.tally.specs.declared.Tally.{Tally}
 use Rattle.tally.specs.Sums.{tallied}
 use Rattle.net.specs.declared.Letter.{Letter}
 use Rattle.net.specs.declared.Net.{Net}
-use Rattle.net.specs.Network.{Network, linkNumbers, own}
+use Rattle.net.specs.Network.{Network, linkNumbers}
 use Rattle.net.specs.Values.{networkOf}
 use Rattle.sheet.specs.declared.Answer.the-variants as SheetAnswer
 use Rattle.sheet.specs.declared.Wrote.the-variants as sheetWrote
@@ -36,9 +36,10 @@ use Rattle.letters.specs.Values.{lettersOf}
 use Rattle.letters.proofs.Refusals as LetterOne
 use Rattle.reach.specs.Reach.{worksIn, Reaches}
 use Rattle.station.specs.Holding.{counter, isLive}
-use Rattle.world.specs.World.{World, Event, holdingAt, refusal, refused, accepted, step, wellFormed, fresh, noticesOf, reportAt}
-use Rattle.world.specs.History.{next, run, everSettled, everSent, everDelivered, everLost}
-use Rattle.world.proofs.Steps.{Why, refused-stays}
+use Rattle.station.proofs.Doing.{own}
+use Rattle.world.specs.World.{World, Event, holdingAt, refusal, next, after, wellFormed, fresh, noticesOf, reportAt}
+use Rattle.world.specs.History.{run, everSettled, everSent, everDelivered, everLost}
+use Rattle.world.proofs.Steps.{Why, step-refuses}
 use Rattle.world.proofs.Keeps.{step-keeps, run-well}
 use Rattle.world.proofs.Ledger as Ledger
 use Rattle.world.proofs.Reports as Reports
@@ -126,7 +127,7 @@ pub record Demand1 : Type 0 where
   pub report-refused : (s : State) (a : ℕ) (old : List ℕ) (c : AsksReport s a old) → (c .answer ≡ 0 → ⊥) → c .output ≡ old
   -- In the rules themselves, for every world, well formed or not: 6, 7, 8, 9 for their reasons, and a refused event changes nothing.
   pub rules-number : (w : World) (e : Event) (n : ℕ) → (refusal w e ≡ n) ↔ Why w e n
-  pub rules-refused : (w : World) (e : Event) (n : ℕ) → step w e ≡ refused n → next w e ≡ w
+  pub rules-refused : (w : World) (e : Event) → (refusal w e ≡ 0 → ⊥) → next w e ≡ w
 
 pub demand1 : Demand1
 demand1 =
@@ -152,7 +153,7 @@ demand1 =
       report-number = λ s a old c. States.report-numbers s a old (c .answer) (c .promise);
       report-refused = λ s a old c. States.report-keeps s a old (c .answer) (c .promise) (c .output) (c .promise-output);
       rules-number = λ w e n. States.rules-numbers w e n;
-      rules-refused = refused-stays;
+      rules-refused = step-refuses;
     }
 
 -- DEMAND 2. "Each step is exactly the rules of our document 01, made from the published token form of Distributed Network Reachability. A
@@ -366,7 +367,7 @@ pub record Counts : Type 0 where
       → let w = fresh (networkOf (c .answer .net)) in everSent w es ≡ everDelivered w es + everLost w es + length (worldOf u .letters)
   -- In the rules themselves: an accepted step keeps well-formedness, every history from a lawful network's fresh world does, and in it
   -- letters are conserved.
-  pub rules-keep : (w : World) (e : Event) (v : World) → T (wellFormed w) → step w e ≡ accepted v → T (wellFormed v)
+  pub rules-keep : (w : World) (e : Event) → T (wellFormed w) → refusal w e ≡ 0 → T (wellFormed (after w e))
   pub rules-for-ever : (net : Network) (es : List Event) → Lawful net → T (wellFormed (run (fresh net) es))
   pub rules-conserve : (net : Network) (es : List Event)
       → everSent (fresh net) es ≡ everDelivered (fresh net) es + everLost (fresh net) es + length (run (fresh net) es .letters)

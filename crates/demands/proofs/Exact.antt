@@ -15,7 +15,7 @@ use Rattle.net.specs.declared.Net.{Net}
 use Rattle.net.specs.Values.{networkOf}
 use Rattle.reach.specs.Reach.{worksIn, Reaches}
 use Rattle.world.specs.World.{World, Event, holdingAt, fresh}
-use Rattle.world.specs.History.{next}
+use Rattle.world.specs.World.{next}
 use Rattle.state.specs.declared.State.{State}
 use Rattle.state.specs.State.{worldOf, stateOf, stateHolds, Ends64, Sized}
 use Rattle.state.specs.declared.Begun.{Begun}

@@ -1,7 +1,7 @@
 -- What one call counts (specs/Counted.antt); and runs of calls: a run of the step that is lent a tally is a run of the step, after any
 -- first events of a run there is the state that it comes to, and runs from a freshly read sheet.
 use Prim.Native.Nat.{ℕ, _+_, _*_, _-_, _≤_, max}
-use mathlib.Core.Bool.{Bool, not, _&&_, _||_}
+use mathlib.Core.Bool.{Bool, true, not, _&&_, _||_}
 use mathlib.Core.Path.{_≡_, refl, sym, ap, _∙_, subst, subst⁻¹}
 use mathlib.Core.List.{List, [], _∷_, _++_}
 use native.Mathlib.Omega.{arith}
@@ -26,10 +26,10 @@ use Rattle.station.specs.declared.Kind.the-variants.{NoSuch, Start, Stop, Recov
 use Rattle.station.specs.Holding.{counter, isLive}
 use Rattle.station.specs.Events.{kindOf, delivers, loses, takesLetter, isNotice}
 use Rattle.station.proofs.Tallies.{rule-settles, rule-drops}
-use Rattle.world.specs.World.{World, Event, Outcome, holdingAt, receiverIn, concernedBy, concerned, rule, comes, after, accepted}
-use Rattle.world.specs.World.{step, fresh, noticesOf, higher, raised}
-use Rattle.world.specs.History.{orElse, everSent, everDelivered, everLost}
-use Rattle.world.proofs.Steps.{step-number, step-accepts, taken}
+use Rattle.world.specs.World.{World, Event, holdingAt, receiverIn, concernedBy, concerned, rule, comes, refusal}
+use Rattle.world.specs.World.{fresh, noticesOf, higher, raised}
+use Rattle.world.specs.History.{everSent, everDelivered, everLost}
+use Rattle.world.proofs.Steps.{is-accepted, step-accepts, taken}
 use Rattle.state.specs.declared.State.{State}
 use Rattle.state.specs.State.{worldOf, Ends64}
 use Rattle.state.proofs.Meaning.{world-well}
@@ -68,14 +68,14 @@ module _ (s : State) (e : Event) (r : Stepped) (i : IsStep s e r) (z : r .answer
   abbrev w : World
   w = worldOf s
 
-  is-accepted : step w e ≡ accepted (after w e)
-  is-accepted = step-accepts w e (sym (step-number w e) ∙ sym (i .number) ∙ z)
+  zero : refusal w e ≡ 0
+  zero = sym (i .number) ∙ z
 
-  counts-are : r .counts ≡ countsBy (accepted (after w e)) w e
-  counts-are = i .counts ∙ ap (λ (o : Outcome). countsBy o w e) is-accepted
+  counts-are : r .counts ≡ countsBy true w e
+  counts-are = i .counts ∙ ap (λ (b : Bool). countsBy b w e) (is-accepted w e zero)
 
   rule-counts : comes w e .counts ≡ rule w e .counts
-  rule-counts = taken w e (after w e) is-accepted .counts
+  rule-counts = taken w e zero .counts
 
   dropped-by : rule w e .counts .dropped ≡ bit (loses
       (kindOf (e .kind)) || (delivers (kindOf (e .kind)) && not (heardAt w (letterOf s e) (concerned w e))))
@@ -91,7 +91,7 @@ module _ (s : State) (e : Event) (r : Stepped) (i : IsStep s e r) (z : r .answer
   unfolding raised
   raised-by =
       ap (λ (v : World). sumOf (λ k. higher (w .net) (holdingAt w k) (holdingAt v k)) (below (w .net .stations)))
-      (sym (i .world ∙ ap (orElse w) is-accepted))
+      (sym (i .world ∙ step-accepts w e zero))
 
   receiver-is : bit (loses (kindOf (e .kind)) || (delivers (kindOf (e .kind)) && not (heardAt w (letterOf s e) (concerned w e))))
       ≡ bit (loses (kindOf (e .kind)) || (delivers (kindOf (e .kind)) && not (isHeard s e)))

@@ -6,7 +6,7 @@ use lib.Dec.{T}
 use lib.ListN.{length}
 use Rattle.net.specs.declared.Net.{Net}
 use Rattle.station.specs.Holding.{isLive}
-use Rattle.world.specs.World.{Event, exists, allowed, over, fits}
+use Rattle.world.specs.World.{Event, exists, rule, fits}
 use Rattle.state.specs.declared.State.{State}
 use Rattle.state.specs.State.{stationIn, worldOf, stateHolds}
 use Rattle.demands.specs.Given.{GoodNet, BadNet}
@@ -29,11 +29,11 @@ pub data Fresh (net : Net) : ℕ → Type 0 where
 pub data Step (s : State) (e : Event) : ℕ → Type 0 where
   eleven : BadState s → Step s e 11
   six : GoodState s → T (not (exists (worldOf s) e)) → Step s e 6
-  seven : GoodState s → T (exists (worldOf s) e) → T (not (allowed (worldOf s) e)) → Step s e 7
-  eight : GoodState s → T (exists (worldOf s) e) → T (allowed (worldOf s) e) → T (over (worldOf s) e) → Step s e 8
-  nine : GoodState s → T (exists (worldOf s) e) → T (allowed (worldOf s) e) → T (not (over (worldOf s) e)) → T (not (fits (worldOf s) e))
+  seven : GoodState s → T (exists (worldOf s) e) → T (not (rule (worldOf s) e .allowed)) → Step s e 7
+  eight : GoodState s → T (exists (worldOf s) e) → T (rule (worldOf s) e .allowed) → T (rule (worldOf s) e .over) → Step s e 8
+  nine : GoodState s → T (exists (worldOf s) e) → T (rule (worldOf s) e .allowed) → T (not (rule (worldOf s) e .over)) → T (not (fits (worldOf s) e))
       → Step s e 9
-  taken : GoodState s → T (exists (worldOf s) e) → T (allowed (worldOf s) e) → T (not (over (worldOf s) e)) → T (fits (worldOf s) e)
+  taken : GoodState s → T (exists (worldOf s) e) → T (rule (worldOf s) e .allowed) → T (not (rule (worldOf s) e .over)) → T (fits (worldOf s) e)
       → Step s e 0
 
 -- ---- THE REACH of station a: 11, 6, 7

@@ -1,6 +1,6 @@
 -- What is printed for a line, in other words of document 01: a malformed line, and the notices settled so far.
 use Prim.Native.Nat.{ℕ, _/_, _≤_}
-use mathlib.Core.Bool.{true}
+use mathlib.Core.Bool.{Bool, true}
 use mathlib.Core.Path.{_≡_, refl, ap, ap₂, _∙_}
 use mathlib.Core.List.{List, [], _∷_, map}
 use native.Mathlib.Omega.{arith}
@@ -8,10 +8,10 @@ use lib.ListN.{length}
 use borrow.Author.Tests.{le-leb}
 use Rattle.tally.specs.declared.Tally.{Tally}
 use Rattle.tally.specs.Sums.{counted}
-use Rattle.station.specs.Events.{dueOf, comesTo}
-use Rattle.world.specs.World.{World, Outcome, refused, step, exists, comes, refusal}
-use Rattle.world.specs.History.{run, orElse, everSettled}
-use Rattle.world.proofs.Steps.{step-refuses, step-number}
+use Rattle.station.specs.Events.{dueOf}
+use Rattle.world.specs.World.{World, exists, comes, refusal}
+use Rattle.world.specs.History.{run, everSettled}
+use Rattle.world.proofs.Steps.{is-refused, step-refuses}
 use Rattle.laws.specs.Tallied.{acceptedCounts, tallyBy, tallyAfter}
 use Rattle.laws.proofs.Tallies.{Fits, tally-is-history}
 use Rattle.event_program.specs.Events.{Standing, eventBy, answerText, done, printedFor, doneAll}
@@ -19,11 +19,11 @@ use Rattle.event_program.specs.Runs.{enough}
 
 -- ---- a malformed line names no event
 no-kind : (w : World) → refusal w (eventBy (6 ∷ [])) ≡ 6
-unfolding refusal exists comes comesTo dueOf
+unfolding refusal exists comes dueOf
 no-kind w = refl
 
-none-taken : (w : World) → step w (eventBy (6 ∷ [])) ≡ refused 6
-none-taken w = step-refuses w (eventBy (6 ∷ [])) 6 (no-kind w) (λ e. omega arith)
+none-taken : (w : World) → refusal w (eventBy (6 ∷ [])) ≡ 0 → ⊥
+none-taken w z = omega (arith, no-kind w)
 
 -- it changes nothing, and prints 6 with the two standing numbers
 pub malformed-stays : (st : Standing) → done st (eventBy (6 ∷ [])) ≡ st
@@ -32,15 +32,15 @@ malformed-stays st =
     let o = none-taken (st .world) in
     let e = eventBy (6 ∷ []) in
     λ i. record {
-      world = ap (orElse (st .world)) o i;
-      tally = ap (λ (x : Outcome). tallyBy x (st .tally) (acceptedCounts (st .world) e)) o i;
+      world = step-refuses (st .world) e o i;
+      tally = ap (λ (x : Bool). tallyBy x (st .tally) (acceptedCounts (st .world) e)) (is-refused (st .world) e o) i;
     }
 
 pub malformed : (st : Standing) → printedFor st (eventBy (6 ∷ [])) ≡ answerText 6 (length (st .world .letters)) (st .tally .settled)
 unfolding printedFor
 malformed st =
     ap₂ (λ (n : ℕ) (x : Standing). answerText n (length (x .world .letters)) (x .tally .settled))
-    (step-number (st .world) (eventBy (6 ∷ [])) ∙ no-kind (st .world)) (malformed-stays st)
+    (no-kind (st .world)) (malformed-stays st)
 
 -- ---- lines are a history
 pub world-after : (said : List (List ℕ)) (st : Standing) → doneAll st said .world ≡ run (st .world) (map eventBy said)

@@ -14,7 +14,7 @@ use Rattle.lists.specs.Places.{collect}
 use Rattle.lists.proofs.Tests.{T-is}
 use Rattle.tally.specs.declared.Tally.{Tally}
 use Rattle.tally.specs.Sums.{largest, counted, tallied}
-use Rattle.tally.specs.Plain.{noCounts}
+use Rattle.tally.proofs.Plain.{noCounts}
 use Rattle.tally.proofs.Sums.{counted-fits}
 use Rattle.event_lines.specs.Steps.{start, readOn, lineEnd}
 use Rattle.net.specs.declared.Net.{Net}
@@ -25,10 +25,9 @@ use Rattle.reach.specs.Values.{tableOf}
 use Rattle.station.specs.declared.Station.{Station}
 use Rattle.station.specs.Holding.{Holding}
 use Rattle.station.specs.Values.{holdingOf}
-use Rattle.world.specs.World.{World, Event, Outcome, refused, accepted, numberOf, comes, refusal, step, after, settled, raised, dropped, holdingAt}
-use Rattle.world.specs.History.{next, orElse}
+use Rattle.world.specs.World.{World, Event, accepted, next, comes, refusal, after, settled, raised, dropped, holdingAt}
 use Rattle.world.proofs.Keeps.{Formed, step-formed}
-use Rattle.world.proofs.Steps.{passes, accepted-passes, step-accepts, step-refuses, step-number, after-net}
+use Rattle.world.proofs.Steps.{passes, accepted-passes, is-accepted, is-refused, step-accepts, step-refuses, after-net}
 use Rattle.world.proofs.OneRaised.{counts-are}
 use Rattle.state.specs.declared.State.{State}
 use Rattle.state.specs.State.{stationIn, worldOf, stateOf, stateHolds, Ends64}
@@ -120,11 +119,10 @@ module _ (v : Net) (w : World) (c : Carried v w) (t : Tally) (f : Fits t) (said 
   line-taken : refusal w ev ≡ 0 → Line v w t said
   unfolding acted spoken done printedFor
   line-taken z =
-      let o : step w ev ≡ accepted (after w ev) = step-accepts w ev z in
       let d = stepped-taken v w c (getD said 1 0) (getD said 2 0) (getD said 3 0) z in
-      let world : next w ev ≡ after w ev = ap (orElse w) o in
-      let tally : tallyBy (step w ev) t (acceptedCounts w ev) ≡ tallied t (acceptedCounts w ev) = ap
-      (λ (x : Outcome). tallyBy x t (acceptedCounts w ev)) o in
+      let world : next w ev ≡ after w ev = step-accepts w ev z in
+      let tally : tallyBy (accepted w ev) t (acceptedCounts w ev) ≡ tallied t (acceptedCounts w ev) = ap
+      (λ (x : Bool). tallyBy x t (acceptedCounts w ev)) (is-accepted w ev z) in
       record {
         carried =
             subst⁻¹ (Carried v) world (record {
@@ -132,7 +130,7 @@ module _ (v : Net) (w : World) (c : Carried v w) (t : Tally) (f : Fits t) (said 
               ends = c .ends;
               net = c .net
                   ∙ sym (after-net w ev);
-              formed = step-formed w ev (after w ev) (c .formed) o;
+              formed = step-formed w ev (c .formed) z;
             });
         fits =
             subst⁻¹ Fits tally (record {
@@ -147,18 +145,18 @@ module _ (v : Net) (w : World) (c : Carried v w) (t : Tally) (f : Fits t) (said 
         says =
             ap (λ (x : Stepped). answerText (x .answer) (x .state .flying) (tallied t (x .counts) .settled)) d
             ∙ ap (λ (n : ℕ). answerText 0 n (tallied t (acceptedCounts w ev) .settled)) (flying-is (after w ev))
-            ∙ sym (ap₂ (λ (x : World) (u : Tally). answerText (numberOf (step w ev)) (length (x .letters)) (u .settled)) world tally
-            ∙ ap (λ (n : ℕ). answerText n (length (after w ev .letters)) (tallied t (acceptedCounts w ev) .settled))
-            (step-number w ev ∙ z));
+            ∙ sym (ap₂ (λ (x : World) (u : Tally). answerText (refusal w ev) (length (x .letters)) (u .settled)) world tally
+            ∙ ap (λ (n : ℕ). answerText n (length (after w ev .letters)) (tallied t (acceptedCounts w ev) .settled)) z);
       }
 
   line-refused : (n : ℕ) → refusal w ev ≡ n → (n ≡ 0 → ⊥) → Line v w t said
   unfolding acted spoken done printedFor
   line-refused n p h =
-      let o : step w ev ≡ refused n = step-refuses w ev n p h in
+      let z : refusal w ev ≡ 0 → ⊥ = λ q. h (sym p ∙ q) in
       let d = stepped-refused v w c (getD said 1 0) (getD said 2 0) (getD said 3 0) n p h in
-      let world : next w ev ≡ w = ap (orElse w) o in
-      let tally : tallyBy (step w ev) t (acceptedCounts w ev) ≡ t = ap (λ (x : Outcome). tallyBy x t (acceptedCounts w ev)) o in
+      let world : next w ev ≡ w = step-refuses w ev z in
+      let tally : tallyBy (accepted w ev) t (acceptedCounts w ev) ≡ t = ap (λ (x : Bool). tallyBy x t (acceptedCounts w ev))
+      (is-refused w ev z) in
       record {
         carried = subst⁻¹ (Carried v) world c;
         fits = subst⁻¹ Fits tally f;
@@ -168,8 +166,8 @@ module _ (v : Net) (w : World) (c : Carried v w) (t : Tally) (f : Fits t) (said 
         says =
             ap (λ (x : Stepped). answerText (x .answer) (x .state .flying) (tallied t (x .counts) .settled)) d
             ∙ ap₂ (λ (k : ℕ) (u : Tally). answerText n k (u .settled)) (flying-is w) (nothing-more t f)
-            ∙ sym (ap₂ (λ (x : World) (u : Tally). answerText (numberOf (step w ev)) (length (x .letters)) (u .settled)) world tally
-            ∙ ap (λ (k : ℕ). answerText k (length (w .letters)) (t .settled)) (step-number w ev ∙ p));
+            ∙ sym (ap₂ (λ (x : World) (u : Tally). answerText (refusal w ev) (length (x .letters)) (u .settled)) world tally
+            ∙ ap (λ (k : ℕ). answerText k (length (w .letters)) (t .settled)) p);
       }
 
   pub line : Line v w t said

@@ -10,8 +10,7 @@ use Rattle.event_lines.specs.Events.{eventLine}
 use Rattle.event_lines.specs.Split.{linesOf}
 use Rattle.net.specs.Network.{Network}
 use Rattle.sheet.specs.Sheet.{Sheet, refused, sheet}
-use Rattle.world.specs.World.{World, Event, numberOf, step, holdingAt, fresh}
-use Rattle.world.specs.History.{next}
+use Rattle.world.specs.World.{World, Event, refusal, accepted, next, holdingAt, fresh}
 use Rattle.laws.specs.Tallied.{acceptedCounts, tallyBy}
 use Rattle.console.specs.Sheets.{fileSheet, refusalText}
 use Rattle.event_program.specs.Stations.{stationText}
@@ -35,11 +34,11 @@ unfoldable pub done : Standing → Event → Standing
 done st e =
     record {
       world = next (st .world) e;
-      tally = tallyBy (step (st .world) e) (st .tally) (acceptedCounts (st .world) e);
+      tally = tallyBy (accepted (st .world) e) (st .tally) (acceptedCounts (st .world) e);
     }
 
 unfoldable pub printedFor : Standing → Event → List ℕ
-printedFor st e = answerText (numberOf (step (st .world) e)) (length (done st e .world .letters)) (done st e .tally .settled)
+printedFor st e = answerText (refusal (st .world) e) (length (done st e .world .letters)) (done st e .tally .settled)
 
 -- lines one after the other, each given by its numbers
 unfoldable pub printed : Standing → List (List ℕ) → List ℕ

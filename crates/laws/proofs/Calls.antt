@@ -10,16 +10,16 @@ use lib.Dec.{T}
 use lib.ListN.{length}
 use Rattle.tally.specs.declared.Tally.{Tally}
 use Rattle.tally.specs.Sums.{tallied}
-use Rattle.tally.specs.Plain.{noCounts, plus}
+use Rattle.tally.proofs.Plain.{noCounts, plus}
 use Rattle.net.specs.Network.{Network}
 use Rattle.station.specs.Holding.{counter}
-use Rattle.world.specs.World.{World, Event, step, holdingAt, wellFormed, fresh}
-use Rattle.world.specs.History.{next, run, total, everSent, everDelivered, everLost}
+use Rattle.world.specs.World.{World, Event, accepted, next, holdingAt, wellFormed, fresh}
+use Rattle.world.specs.History.{run, total, everSent, everDelivered, everLost}
 use Rattle.world.proofs.Ledger.{letters-conserved}
 use Rattle.laws.specs.Flood.{onlyNotices, Begins, highest, bound}
 use Rattle.laws.specs.Tallied.{acceptedCounts, countsOf, everCounted, tallyBy, tallyAfter}
 use Rattle.laws.proofs.Demand3.{flood-of-notices-dies-out}
-use Rattle.laws.proofs.Tallies.{Fits, tally-is-history}
+use Rattle.laws.proofs.Tallies.{Fits, taken-is, tally-is-history}
 
 -- one call from the state s for the event e handed back the state t and the counts n
 module _ {S : Type 0} (worldOf : S → World) (Call : S → Event → S → Tally → Type 0) where
@@ -77,7 +77,7 @@ module _ {S : Type 0} (worldOf : S → World) (Call : S → Event → S → Tall
     calls-counts f none = refl
     calls-counts f (more {s = s} {t = t} {e = e} {es = es} {n = n} c r) =
         let p = promise s e t n f c in
-        ap₂ plus (p .counts) (calls-counts (p .fit) r ∙ ap (λ (w : World). everCounted w es) (p .world))
+        ap₂ plus (p .counts ∙ sym (taken-is (accepted (worldOf s) e) (acceptedCounts (worldOf s) e))) (calls-counts (p .fit) r ∙ ap (λ (w : World). everCounted w es) (p .world))
 
     -- and the settled ones meet the bound: demand 3 for a run of calls, at every state that it comes to
     pub record CallsDieOut {s u : S} {es : List Event} {n : Tally} (r : Calls s es n u) : Type 0 where
@@ -128,7 +128,7 @@ module _ {S : Type 0} (worldOf : S → World) (Lent : S → Tally → Event → 
   pub record IsLentStep (Fit : S → Type 0) (s : S) (x : Tally) (e : Event) (t : S) (y : Tally) : Type 0 where
     pub fit : Fit t
     pub world : worldOf t ≡ next (worldOf s) e
-    pub tally : y ≡ tallyBy (step (worldOf s) e) x (acceptedCounts (worldOf s) e)
+    pub tally : y ≡ tallyBy (accepted (worldOf s) e) x (acceptedCounts (worldOf s) e)
 
   module _ (Fit : S → Type 0) (promise : (s : S) (x : Tally) (e : Event) (t : S) (y : Tally) → Fit s → Lent s x e t y
       → IsLentStep Fit s x e t y) where

@@ -9,7 +9,7 @@ use lib.Dec.{T}
 use lib.ListN.{length, replicate}
 use Rattle.lists.specs.Words.{bit, wordOf}
 use Rattle.lists.specs.Places.{collect}
-use Rattle.lists.specs.Lists.{below}
+use Rattle.lists.specs.Lists.{if_then_else_, below}
 use Rattle.fields.specs.Fields.{firstField}
 use Rattle.sheet.specs.Sheet.{Sheet, refused, sheet, opened, judged, readLinks, readSheet}
 use Rattle.net.specs.declared.Body.{Body}
@@ -23,13 +23,13 @@ use Rattle.reach.specs.Reach.{spread, within, reach, purge, report}
 use Rattle.reach.proofs.Cases.{Case}
 use Rattle.station.specs.declared.Condition.the-variants.{Live}
 use Rattle.station.specs.Holding.{Holding, noMarks, setToken, setTesting, holdingHolds}
-use Rattle.station.specs.Done.{letter, known, stopped, doneBy, ownLinks}
+use Rattle.station.specs.Done.{letter, known, doneBy, ownLinks}
 use Rattle.station.proofs.Doing.{openLinks, started, recovered, interval, timeout, answer, effectOn, received}
-use Rattle.station.specs.Events.{dueOf, comesTo}
+use Rattle.station.specs.Events.{dueOf}
 use Rattle.station.proofs.Cases.{bodyNumbers, letterNumbers}
-use Rattle.world.specs.World.{World, Event, holdingAt, exists, concerned, rule, comes, left, after, fits, refusal, step}
+use Rattle.world.specs.World.{World, Event, holdingAt, exists, concerned, rule, comes, done, left, after, fits, refusal, accepted, next}
 use Rattle.world.specs.World.{wellFormed, fresh, settled, askRefusal, reportAt, reachAt}
-use Rattle.world.specs.History.{ifTaken, next, run, total, everSettled}
+use Rattle.world.specs.History.{run, total, everSettled}
 use Rattle.laws.specs.Flood.{onlyNotices, highest, distance, share, bound}
 
 -- ---- a sheet that is read: the answer, and for a good sheet the numbers of stations and links
@@ -70,7 +70,7 @@ middle h xs = record { net = line; holdings = live false 1 1 ∷ h ∷ live fals
 -- 1 if the world before is well formed; the answer; the counters of station 1 after the event; then the letters in flight, each
 -- as link, sender, tag and what it carries
 seen : World → Event → List ℕ
-unfolding wellFormed holdingHolds letterHolds refusal exists concerned rule comes comesTo dueOf left after fits step answer doneBy healed healing ownLinks known purge reach within spread letterNumbers bodyNumbers
+unfolding wellFormed holdingHolds letterHolds refusal exists concerned rule comes done dueOf left after fits answer doneBy healed healing ownLinks known purge reach within spread letterNumbers bodyNumbers
 seen w e = bit (wellFormed w) ∷ refusal w e ∷ (holdingAt (next w e) 1 .table ++ letterNumbers (next w e .letters))
 
 -- station 1 times out on link 0, on which it tests
@@ -109,7 +109,7 @@ flood = event 7 0 0 ∷ event 7 0 0 ∷ []
 -- 1 if well formed; 1 if the run is made only of notices; the bound; how many are settled; letters in flight at the end; then
 -- every table at the end
 floods : List ℕ
-unfolding flooded flood line live event wellFormed holdingHolds letterHolds refusal exists concerned rule comes comesTo dueOf left after fits step answer doneBy ownLinks run total onlyNotices highest distance share bound
+unfolding flooded flood line live event wellFormed holdingHolds letterHolds refusal exists concerned rule comes done dueOf left after fits answer doneBy ownLinks run total onlyNotices highest distance share bound
 floods =
     bit (wellFormed flooded) ∷ bit (onlyNotices flooded flood) ∷ bound flooded ∷ everSettled flooded flood ∷ length
     (run flooded flood .letters)
@@ -118,14 +118,14 @@ floods =
 -- ---- document 01's own run: for each event the answer, letters in flight, notices settled so far; at the end each station's
 -- number and counters
 lines : ℕ → World → List Event → List ℕ
-unfolding refusal exists concerned rule comes comesTo dueOf left after fits step doneBy stopped answer healed healing ownLinks known purge reach within spread
+unfolding refusal exists concerned rule comes done dueOf left after fits doneBy answer healed healing ownLinks known purge reach within spread
 lines n w [] = collect (λ s. s ∷ holdingAt w s .table) (below (w .net .stations))
 lines n w (e ∷ es) =
-    let m = n + ifTaken (step w e) (settled w e) in
+    let m = n + (if accepted w e then settled w e else 0) in
     refusal w e ∷ length (next w e .letters) ∷ m ∷ lines m (next w e) es
 
 sampleRun : List ℕ
-unfolding lines event fresh stopped doneBy
+unfolding lines event fresh doneBy
 sampleRun =
     lines 0 (fresh (record { stations = 2; links = record { low = 0; high = 1 } ∷ [] }))
     (event 1 0 0 ∷ event 1 1 0 ∷ event 3 0 0 ∷ event 3 1 0 ∷ event 7 0 0 ∷ event 7 0 0 ∷ event 7 0 0 ∷ event 7 0 0 ∷ event 7 0 0 ∷ [])
@@ -217,11 +217,11 @@ unfolding flooded line live wellFormed holdingHolds letterHolds
 flooded-formed = rw line-of-three tt
 
 pub flood-only-notices : T (onlyNotices flooded flood)
-unfolding flooded flood line live event refusal exists concerned rule comes comesTo dueOf left after fits step answer doneBy ownLinks onlyNotices
+unfolding flooded flood line live event refusal exists concerned rule comes done dueOf left after fits answer doneBy ownLinks onlyNotices
 flood-only-notices = tt
 
 pub bound-is-met : everSettled flooded flood ≡ bound flooded
-unfolding flooded flood line live event refusal exists concerned rule comes comesTo dueOf left after fits step answer doneBy ownLinks total highest distance share bound
+unfolding flooded flood line live event refusal exists concerned rule comes done dueOf left after fits answer doneBy ownLinks total highest distance share bound
 bound-is-met = refl
 
 -- ---- the edge of 9: with 4,095 letters in flight a request may still be sent, with 4,096 no more
@@ -237,7 +237,7 @@ crowded n =
     }
 
 pub edge : ℕ → List ℕ
-unfolding crowded line live event wellFormed holdingHolds letterHolds refusal exists concerned rule comes comesTo dueOf left after fits step doneBy
+unfolding crowded line live event wellFormed holdingHolds letterHolds refusal exists concerned rule comes done dueOf left after fits doneBy
 edge n = bit (wellFormed (crowded n)) ∷ refusal (crowded n) (event 4 1 0) ∷ length (next (crowded n) (event 4 1 0) .letters) ∷ []
 
 pub edge-of-letters : (edge 4095 ++ edge 4096 ++ edge 4097) ≡ ((1 ∷ 0 ∷ 4096 ∷ []) ++ (1 ∷ 9 ∷ 4096 ∷ []) ++ (0 ∷ 9 ∷ 4097 ∷ []))

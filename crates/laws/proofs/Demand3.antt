@@ -20,16 +20,16 @@ use Rattle.net.specs.Network.{Network}
 use Rattle.station.specs.Holding.{counter, isLive}
 use Rattle.station.specs.Events.{kindOf, takesLetter, isNotice}
 use Rattle.station.proofs.Tallies.{rule-settles}
-use Rattle.world.specs.World.{World, Event, holdingAt, letterAt, concerned, rule, after, refusal, Outcome, accepted, step}
+use Rattle.world.specs.World.{World, Event, holdingAt, letterAt, concerned, rule, after, refusal, accepted, next}
 use Rattle.world.specs.World.{wellFormed, noticesOf, settled}
-use Rattle.world.specs.History.{ifTaken, orElse, next, run, total, everSettled}
-use Rattle.world.proofs.Steps.{step-accepts, taken}
+use Rattle.world.specs.History.{run, total, everSettled}
+use Rattle.world.proofs.Steps.{is-accepted, step-accepts, taken}
 use Rattle.world.proofs.Keeps.{Formed, formed}
 use Rattle.world.proofs.Ledger.{run-append}
 use Rattle.laws.specs.Flood.{takesNotice, onlyNotices, Begins, carried, highest, neighbours, distance, share, bound}
 use Rattle.laws.proofs.Settling.{noticeOf, notice, floodOf, weightIn, siteOf, Fits, settles}
 use Rattle.ranks.specs.Flood as R
-use Rattle.ranks.specs.Flood.{Site, Run}
+use Rattle.ranks.specs.Flood.{Site, Settles, Run}
 use Rattle.ranks.specs.Bound as B
 use Rattle.ranks.proofs.FloodDiesOut.{flood-dies-out}
 
@@ -41,9 +41,9 @@ module _ (w : World) (e : Event) (es : List Event) (t : T (onlyNotices w (e ∷ 
   abbrev takes : Bool
   takes = takesNotice (kindOf (e .kind)) (letterAt w (e .a))
 
-  first-accepted : step w e ≡ accepted (after w e)
+  first-accepted : refusal w e ≡ 0
   unfolding onlyNotices
-  first-accepted = step-accepts w e (eqb→eq (refusal w e) 0 (and-l none _ (and-l (none && takes) _ t)))
+  first-accepted = eqb→eq (refusal w e) 0 (and-l none _ (and-l (none && takes) _ t))
 
   first-notice : T takes
   unfolding onlyNotices
@@ -73,13 +73,13 @@ unfolding run
 runs site w [] f t = (R.none, f)
 runs site w (e ∷ es) f t =
     let q = first-accepted w e es t in
-    let n : next w e ≡ after w e = ap (orElse w) q in
-    let p = settles site w e (next w e) f (q ∙ ap accepted (sym n)) (first-notice w e es t) in
+    let p = subst⁻¹ (λ (v : World). Settles site (floodOf w) (floodOf v) × Fits site v) (step-accepts w e q)
+    (settles site w e f q (first-notice w e es t)) in
     let r = runs site (next w e) es (p .1) (then-only w e es t) in
     (R.more (p .0) (r .0), r .1)
 
 -- each event of such a run settles one notice: the count is of events in the history
-settled-one : (w : World) (e : Event) → step w e ≡ accepted (after w e) → T (takesNotice (kindOf (e .kind)) (letterAt w (e .a)))
+settled-one : (w : World) (e : Event) → refusal w e ≡ 0 → T (takesNotice (kindOf (e .kind)) (letterAt w (e .a)))
     → settled w e ≡ 1
 unfolding rule
 settled-one w e q t =
@@ -87,7 +87,7 @@ settled-one w e q t =
     let x = letterAt w (e .a) in
     let takes = T-is (takesLetter k) (and-l (takesLetter k) _ t) in
     let notice = T-is (isNotice (x .body)) (and-r (takesLetter k) _ t) in
-    ap (λ (c : Tally). c .settled) (taken w e (after w e) q .counts)
+    ap (λ (c : Tally). c .settled) (taken w e q .counts)
     ∙ rule-settles (concerned w e) (e .b) x (holdingAt w (concerned w e)) k
     ∙ ap₂ (λ (a b : Bool). if a then bit b else 0) takes notice
 
@@ -97,7 +97,7 @@ settled-is-length w [] t = refl
 settled-is-length w (e ∷ es) t =
     let q = first-accepted w e es t in
     let n = settled-one w e q (first-notice w e es t) in
-    let one : ifTaken (step w e) (settled w e) ≡ 1 = ap (λ (o : Outcome). ifTaken o (settled w e)) q ∙ n in
+    let one : (if accepted w e then settled w e else 0) ≡ 1 = ap (λ (b : Bool). if b then settled w e else 0) (is-accepted w e q) ∙ n in
     omega (arith, settled-is-length (next w e) es (then-only w e es t))
 
 -- ---- the bound over ranks is the mission's

@@ -15,10 +15,11 @@ use Rattle.lists.proofs.Tests.{T-is, and-l, and-r, and-i, or-cases, or-left, or
 use Rattle.lists.proofs.Numbers.{any-out, any-in}
 use Rattle.lists.proofs.Sums.{sum-le}
 use Rattle.lists.proofs.OneSum.{sum-none, sum-only}
-use Rattle.net.specs.Network.{Network, ends, isEnd, other, own, ties}
+use Rattle.net.specs.Network.{Network, ends, isEnd, other, ties}
 use Rattle.sheet_rules.specs.Rules.{sheetHolds}
 use Rattle.sheet_rules.proofs.Ends.{ends-rise, other-real}
 use Rattle.sheet_rules.proofs.Neighbours.{neighbours-differ}
+use Rattle.station.proofs.Doing.{own}
 use Rattle.laws.specs.Flood.{neighbours}
 
 -- ---- counting by sums

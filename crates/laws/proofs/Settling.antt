@@ -23,15 +23,16 @@ use Rattle.counters.specs.Counters.{newer}
 use Rattle.station.specs.declared.Kind.{Kind}
 use Rattle.station.specs.declared.Kind.the-variants.{NoSuch, Start, Stop, Recovery, IntervalEnd, TimeoutEnd, QuietEnd, Delivery, Loss}
 use Rattle.station.specs.Holding.{Holding, counter, isLive}
+use Rattle.station.specs.Acts.{Act}
 use Rattle.station.specs.Done.{Done, doneBy}
-use Rattle.station.proofs.Doing.{unchanged, answer, received}
-use Rattle.station.specs.Events.{kindOf, isNotice, ruleAt}
+use Rattle.station.proofs.Doing.{unchanged, answer, delivery-act, received}
+use Rattle.station.specs.Events.{kindOf, takesLetter, isNotice, ruleAt}
 use Rattle.station.proofs.Answers.{heard}
 use Rattle.station.proofs.Rises.{Took, notice-takes, notice-drops, received-gone}
 use Rattle.station.proofs.Counts.{is-notice, Spreads, notice-spreads}
 use Rattle.station.proofs.Counts as Counts
 use Rattle.world.specs.World.{World, Event, nobody, noLetter, holdingAt, letterAt, existsAs, exists, receiverIn, concernedBy}
-use Rattle.world.specs.World.{concerned, rule, leftBy, left, after, accepted, step}
+use Rattle.world.specs.World.{concerned, rule, left, after, refusal}
 use Rattle.world.proofs.Steps.{taken}
 use Rattle.world.proofs.Keeps.{Formed, Posted, at-posted, step-formed}
 use Rattle.laws.specs.Flood.{takesNotice, neighbours}
@@ -220,15 +221,20 @@ module _ (site : Site) where
   Step u v = Settles site (floodOf u) (floodOf v) × ((v .net ≡ u .net) × ((s : ℕ) → holdingAt v s .condition ≡ holdingAt u s .condition))
 
   -- the world after an event for which d was done
-  abbrev done : World → Event → Done → World
-  done u e d = record { net = u .net; holdings = set (u .holdings) (concerned u e) (d .holding); letters = left u e ++ d .sent }
+  abbrev stored : World → Event → Done → World
+  stored u e d = record { net = u .net; holdings = set (u .holdings) (concerned u e) (d .holding); letters = left u e ++ d .sent }
 
   -- by its kind: a letter that is taken off is delivered or lost
+  abbrev acted : Kind → World → ℕ → Act → World
+  acted k u a y =
+      let r = concernedBy k (u .net) a (letterAt u a) in
+      let d = doneBy (u .net) r (holdingAt u r) y in
+      record { net = u .net; holdings = set (u .holdings) r (d .holding); letters = (if takesLetter k then without a (u .letters) else u .letters) ++ d .sent }
+
   abbrev ruled : Kind → World → ℕ → ℕ → World
   ruled k u a b =
       let r = concernedBy k (u .net) a (letterAt u a) in
-      let d = doneBy (u .net) r (holdingAt u r) (ruleAt r k b (letterAt u a) (holdingAt u r) .act) in
-      record { net = u .net; holdings = set (u .holdings) r (d .holding); letters = leftBy k a (u .letters) ++ d .sent }
+      acted k u a (ruleAt r k b (letterAt u a) (holdingAt u r) .act)
 
   as-kind : (k : Kind) (u : World) (a b : ℕ) → Fits site u → T (existsAs k (u .net) (length (u .letters)) a b)
       → T (takesNotice k (letterAt u a)) → Step u (ruled k u a b)
@@ -245,6 +251,7 @@ module _ (site : Site) where
       let n = notice-is (letterAt u a .body) t in
       let r = receiverIn (u .net) (letterAt u a) in
       let d = delivered site u f a h (n .0) (n .1) (n .2) in
+      subst⁻¹ (λ (y : Act). Step u (acted Delivery u a y)) (delivery-act r b (letterAt u a) (holdingAt u r))
       (d .0, (refl, conditions site u f a h (n .0) (n .1) (n .2) (received (u .net) r (letterAt u a) (holdingAt u r)) (d .1)))
   as-kind Loss u a b f x t =
       let h = ltb→lt a _ (and-l (ltb a (length (u .letters))) _ x) in
@@ -253,11 +260,11 @@ module _ (site : Site) where
       let d = dropped site u f a h (n .0) (n .1) (n .2) in
       (d .0, (refl, conditions site u f a h (n .0) (n .1) (n .2) (unchanged (holdingAt u r)) (d .1)))
 
-  pub settles : (u : World) (e : Event) (v : World) → Fits site u → step u e ≡ accepted v
-      → T (takesNotice (kindOf (e .kind)) (letterAt u (e .a))) → Settles site (floodOf u) (floodOf v) × Fits site v
+  pub settles : (u : World) (e : Event) → Fits site u → refusal u e ≡ 0
+      → T (takesNotice (kindOf (e .kind)) (letterAt u (e .a))) → Settles site (floodOf u) (floodOf (after u e)) × Fits site (after u e)
   unfolding after rule concerned left exists
-  settles u e v f q t =
-      let x = taken u e v q in
+  settles u e f q t =
+      let x = taken u e q in
       let k = as-kind (kindOf (e .kind)) u (e .a) (e .b) f (x .exists) t in
-      let p = subst⁻¹ (Step u) (x .is) (subst⁻¹ (λ (d : Done). Step u (done u e d)) (x .done) k) in
-      (p .0, fits-still u v (p .1 .0) (p .1 .1) (step-formed u e v (f .ok) q) f)
+      let p = subst⁻¹ (λ (d : Done). Step u (stored u e d)) (x .done) k in
+      (p .0, fits-still u (after u e) (p .1 .0) (p .1 .1) (step-formed u e (f .ok) q) f)

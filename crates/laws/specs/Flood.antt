@@ -14,8 +14,7 @@ use Rattle.net.specs.Network.{Network, linkNumbers, ties}
 use Rattle.station.specs.declared.Kind.{Kind}
 use Rattle.station.specs.Holding.{Holding, counter, isLive}
 use Rattle.station.specs.Events.{kindOf, takesLetter, isNotice}
-use Rattle.world.specs.World.{World, Event, holdingAt, letterAt, noticesOf, refusal}
-use Rattle.world.specs.History.{next}
+use Rattle.world.specs.World.{World, Event, holdingAt, letterAt, accepted, next, noticesOf}
 
 -- ---- a run made only of accepted deliveries and losses of notices, with no other event in it
 abbrev pub takesNotice : Kind → Letter → Bool
@@ -23,7 +22,7 @@ takesNotice k x = takesLetter k && isNotice (x .body)
 
 unfoldable pub onlyNotices : World → List Event → Bool
 onlyNotices w [] = true
-onlyNotices w (e ∷ es) = (eqb (refusal w e) 0 && takesNotice (kindOf (e .kind)) (letterAt w (e .a))) && onlyNotices (next w e) es
+onlyNotices w (e ∷ es) = (accepted w e && takesNotice (kindOf (e .kind)) (letterAt w (e .a))) && onlyNotices (next w e) es
 
 -- a moment of a run: ds are its first events
 pub record Begins (ds es : List Event) : Type 0 where

@@ -4,7 +4,7 @@ use mathlib.Core.Bool.{Bool, _&&_, _||_}
 use mathlib.Core.List.{List}
 use lib.Dec.{eqb}
 use lib.ListN.{length, getD}
-use Rattle.lists.specs.Lists.{if_then_else_, keep, below}
+use Rattle.lists.specs.Lists.{if_then_else_, below}
 
 -- a link's two ends
 pub record Ends : Type 0 where
@@ -34,7 +34,3 @@ isEnd net k s = eqb (ends net k .low) s || eqb (ends net k .high) s
 -- the end of k that is not s
 abbrev pub other : Network → ℕ → ℕ → ℕ
 other net k s = if eqb (ends net k .low) s then ends net k .high else ends net k .low
-
--- a station's own links, by number
-abbrev pub own : Network → ℕ → List ℕ
-own net s = keep (λ k. isEnd net k s) (linkNumbers net)

@@ -19,7 +19,8 @@ use Rattle.sheet_rules.proofs.Good.{few-stations}
 use Rattle.net.proofs.ValueLaws.{stations-of}
 use Rattle.station.specs.declared.Station.{Station}
 use Rattle.station.specs.Holding.{Holding}
-use Rattle.station.specs.Done.{stopped, doneBy}
+use Rattle.station.specs.Done.{doneBy}
+use Rattle.station.proofs.Doing.{stopped}
 use Rattle.station.specs.Values.{laid, blank}
 use Rattle.world.specs.World.{World, noLetter, fresh}
 use Rattle.state.specs.declared.State.{State}
@@ -52,7 +53,7 @@ module _ (net : Net) (r : Bool) (e : r ≡ netHolds net) where
     stations-down : (down : Station) (n : ℕ) → n ≤ 32 → n ≡ networkOf net .stations
         → down ≡ laid net blank (stopped (networkOf net) 0 .holding)
         → filled (λ (t : ℕ). down) (replicate 32 nobody) n ≡ roomed 32 blank (map (laid net blank) (fresh (networkOf net) .holdings))
-    unfolding roomed fresh stopped doneBy
+    unfolding roomed fresh doneBy
     stations-down down n l m d =
         ap₂ (λ (xs ys : List Station). xs ++ ys)
         (ap (λ (k : ℕ). map (λ (t : ℕ). down) (below k)) m ∙ ap (λ (x : Station). map (λ (t : ℕ). x) (below (networkOf net .stations))) d

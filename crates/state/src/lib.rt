@@ -8,7 +8,9 @@ ghost use Rattle.sheet_rules.specs.Values.{netHolds};
 ghost use Rattle.station.specs.Holding.{isDown};
 ghost use Rattle.state.specs.State.{isRequest, isBlank, isNoLetter, noWord, stationPlace, stateHolds, Fits, Sized};
 ghost use Rattle.net.specs.Values.{networkOf};
-ghost use Rattle.station.specs.Done.{stopped};
+ghost use Rattle.station.specs.Acts.{stopAct};
+ghost use Rattle.station.specs.Done.{doneBy};
+ghost use Rattle.station.specs.Holding.{nobody};
 ghost use Rattle.station.specs.Values.{laid, blank};
 ghost use Rattle.world.specs.World.{noLetter};
 ghost use Rattle.state.specs.Beginning.{begunOf};
@@ -159,7 +161,7 @@ fn no_station() -> Station
 
 // Down, counters 1, no mark.
 fn down_station(net: Net) -> Station
-    ensures { λ r. ⌜ r ≡ laid net blank (stopped (networkOf net) 0 .holding) ⌝ }
+    ensures { λ r. ⌜ r ≡ laid net blank (doneBy (networkOf net) 0 nobody stopAct .holding) ⌝ }
 {
     Station {
         condition: Condition::Down,

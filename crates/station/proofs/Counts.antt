@@ -18,16 +18,16 @@ use Rattle.lists.proofs.Kept.{keep-one-fewer}
 use Rattle.net.specs.declared.Body.{Body}
 use Rattle.net.specs.declared.Body.the-variants.{Request, Reply, Notice}
 use Rattle.net.specs.declared.Letter.{Letter}
-use Rattle.net.specs.Network.{Network, isEnd, own, linkNumbers}
+use Rattle.net.specs.Network.{Network, isEnd, linkNumbers}
 use Rattle.counters.specs.Counters.{even, odd, healed}
 use Rattle.station.specs.declared.Effect.the-variants.{Defers, Answers, Heals, Levels, Equal, Takes}
 use Rattle.station.specs.declared.Heard.{Heard}
 use Rattle.station.specs.Holding.{Holding, counter, mark}
 use Rattle.station.specs.Acts.{intervalTests}
-use Rattle.station.specs.Done.{Done, letter, onEach, tell, less, known, stopped, doneBy, ownLinks}
+use Rattle.station.specs.Done.{Done, letter, onEach, tell, less, known, doneBy, ownLinks}
 use Rattle.station.specs.Acts.{Sends, Act}
 use Rattle.station.specs.Done.{sentOf}
-use Rattle.station.proofs.Doing.{openLinks, started, recovered, interval, timeout, spoken, replied, effectOn, heardOn, received}
+use Rattle.station.proofs.Doing.{own, openLinks, stopped, started, recovered, interval, timeout, spoken, replied, effectOn, heardOn, received}
 use Rattle.station.proofs.Answers.{request-cases, reply-cases, notice-cases}
 use Rattle.station.proofs.HoldingLaws.{ownLink, own-kept}
 
@@ -80,7 +80,7 @@ module _ (net : Network) (s : ℕ) where
   started-sends h = refl
 
   pub stopped-sends : stopped net s .sent ≡ []
-  unfolding stopped doneBy
+  unfolding doneBy
   stopped-sends = refl
 
   pub spoken-sends : (k : ℕ) (h : Holding) → spoken net s k h .sent ≡ []

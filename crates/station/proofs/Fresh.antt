@@ -18,8 +18,9 @@ use Rattle.marks.specs.Marks.{marksAt}
 use Rattle.station.specs.declared.Condition.the-variants.{Down}
 use Rattle.station.specs.declared.Station.{Station}
 use Rattle.station.specs.Holding.{noMarks}
-use Rattle.station.specs.Done.{stopped, doneBy}
+use Rattle.station.specs.Done.{doneBy}
 use Rattle.station.specs.Values.{laid, laidWords, blank, noWords, freshTable}
+use Rattle.station.proofs.Doing.{stopped}
 use Rattle.station.proofs.Laid.{words-laid, laid-is}
 
 no-marks : (net : Net) → noWords ≡ laidWords (linkCount net) noWords (map (λ k. noMarks) (linkNumbers (networkOf net)))
@@ -42,7 +43,7 @@ abbrev pub downIn : Net → Station
 downIn net = record { condition = Down; counters = freshTable (linkCount net); marks = noWords }
 
 pub stop-is : (net : Net) (s : ℕ) → downIn net ≡ laid net blank (stopped (networkOf net) s .holding)
-unfolding stopped doneBy blank freshTable
+unfolding doneBy blank freshTable
 stop-is net s =
     laid-is net blank (downIn net) (stopped (networkOf net) s .holding) refl
     (ap (λ (n : ℕ). map (λ k. 1) (below n) ++ drop (linkCount net) (replicate 64 0)) (sym (links-of net))) (no-marks net)

@@ -20,10 +20,10 @@ use Rattle.net.specs.Letters.{isCounter, bodyHolds, letterHolds}
 use Rattle.reach.specs.Reach.{counterIn}
 use Rattle.marks.specs.declared.Marks.{Marks}
 use Rattle.station.specs.declared.Condition.{Condition}
-use Rattle.station.specs.Holding.{Holding, noMarks, counter, mark, isLive, marked, counted, slotHolds, holdingHolds}
+use Rattle.station.specs.Holding.{Holding, noMarks, counter, mark, isLive, slotHolds, holdingHolds}
 use Rattle.station.specs.Done.{letter, onEach, tell, less, known, ownLinks}
 use Rattle.station.specs.Acts.{isOpen}
-use Rattle.station.proofs.Doing.{openLinks, purged}
+use Rattle.station.proofs.Doing.{marked, counted, openLinks, purged}
 use Rattle.station.proofs.Slots.{slot-counter, slot-recount, slot-one}
 use Rattle.station.proofs.Purges.{purged-length, purged-lowers}
 

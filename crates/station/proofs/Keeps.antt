@@ -22,13 +22,13 @@ use Rattle.station.specs.declared.Effect.{Effect}
 use Rattle.station.specs.declared.Effect.the-variants.{Defers, Answers, Heals, Levels, Equal, Takes}
 use Rattle.station.specs.declared.Heard.{Heard}
 use Rattle.station.specs.declared.Heard.the-variants.{Gone, Nothing, Overflows, Does}
-use Rattle.station.specs.Holding.{Holding, noMarks, counter, mark, isLive, isWaiting, isDown, setToken, setAsked, setQuiet, marked}
-use Rattle.station.specs.Holding.{counted, implies, together, slotHolds, holdingHolds}
+use Rattle.station.specs.Holding.{Holding, noMarks, counter, mark, isLive, isWaiting, isDown, setToken, setAsked, setQuiet}
+use Rattle.station.specs.Holding.{implies, together, slotHolds, holdingHolds}
 use Rattle.station.specs.Acts.{intervalTests, intervalMarks, testEnded, requestedMarks, repliedMarks}
-use Rattle.station.specs.Done.{Done, letter, onEach, tell, less, known, stopped, doneBy}
+use Rattle.station.specs.Done.{Done, letter, onEach, tell, less, known, doneBy}
 use Rattle.station.specs.Acts.{mayEnd, isOpen, theLink, Sends, nothing, requests, Act}
 use Rattle.station.specs.Done.{ownLinks, sentOf}
-use Rattle.station.proofs.Doing.{unchanged, openLinks, purged, started, recovered, interval, timeout, spoken, answer, replied}
+use Rattle.station.proofs.Doing.{unchanged, marked, counted, stopped, openLinks, purged, started, recovered, interval, timeout, spoken, answer, replied}
 use Rattle.station.proofs.Doing.{effectOn, heardOn, received}
 use Rattle.station.proofs.Slots.{allMarks, rule, slot-counter, slot-together, own-slot, busy, busy-live, stopped-slot, started-slot}
 use Rattle.station.proofs.Slots.{recovered-slot, counter-next}
@@ -48,7 +48,7 @@ module _ (net : Network) (s : ℕ) where
 
   -- ---- 2. Stop: whatever it held
   pub stopped-keeps : Kept (stopped net s)
-  unfolding stopped doneBy
+  unfolding doneBy
   stopped-keeps =
       kept (record { condition = Down; table = map (λ k. 1) (linkNumbers net); marks = map (λ k. noMarks) (linkNumbers net) }) []
       (anew-formed net s Down (map (λ k. 1) (linkNumbers net)) (λ k. noMarks) (length-map-below (λ k. 1) (length (net .links)))

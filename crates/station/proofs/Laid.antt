@@ -21,7 +21,8 @@ use Rattle.marks.specs.declared.Marks.{Marks}
 use Rattle.marks.specs.declared.Words.{Words}
 use Rattle.marks.specs.Marks.{marksAt, wordsBy, wordsWith}
 use Rattle.station.specs.declared.Station.{Station}
-use Rattle.station.specs.Holding.{Holding, noMarks, mark, counter, marked}
+use Rattle.station.proofs.Doing.{marked}
+use Rattle.station.specs.Holding.{Holding, noMarks, mark, counter}
 use Rattle.station.specs.Values.{holdingOf, bitsOf, laidWord, laidWords, laid}
 
 -- ---- words

@@ -20,8 +20,8 @@ use Rattle.station.specs.declared.Effect.the-variants.{Defers, Answers, 
 use Rattle.station.specs.declared.Heard.{Heard}
 use Rattle.station.specs.declared.Heard.the-variants.{Gone, Nothing, Overflows, Does}
 use Rattle.station.specs.Holding.{Holding, counter, mark, holdingHolds}
-use Rattle.station.specs.Done.{Done, stopped, doneBy}
-use Rattle.station.proofs.Doing.{unchanged, purged, started, recovered, interval, timeout, spoken, answer, effectOn, heardOn}
+use Rattle.station.specs.Done.{Done, doneBy}
+use Rattle.station.proofs.Doing.{unchanged, stopped, purged, started, recovered, interval, timeout, spoken, answer, effectOn, heardOn}
 use Rattle.station.proofs.Doing.{received}
 use Rattle.station.proofs.Slots.{slot-counter, counter-range, healed-above, healed-works, healed-equal}
 use Rattle.station.proofs.Purges.{Lowered, lowered-le, purged-lowers, purged-own}
@@ -66,7 +66,7 @@ module _ (net : Network) (s : ℕ) where
 
   -- a stop sets every counter to 1
   pub stopped-table : (j : ℕ) → counter (stopped net s .holding) j ≡ 1
-  unfolding stopped doneBy
+  unfolding doneBy
   stopped-table j = ones (linkNumbers net) j
     where
       ones : (xs : List ℕ) (j : ℕ) → _≡_ {A = ℕ} (getD (map (λ k. 1) xs) j 1) 1

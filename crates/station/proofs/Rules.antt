@@ -28,13 +28,11 @@ use Rattle.station.specs.declared.Heard.the-variants.{Gone, Nothing, Ove
 use Rattle.station.specs.declared.Kind.{Kind}
 use Rattle.station.specs.declared.Kind.the-variants.{NoSuch, Start, Stop, Recovery, IntervalEnd, TimeoutEnd, QuietEnd, Delivery, Loss}
 use Rattle.station.specs.Holding.{Holding, counter, mark, holdingHolds}
-use Rattle.station.specs.Done.{Done, stopped}
-use Rattle.station.proofs.Doing.{unchanged, started, recovered, interval, timeout, spoken, answer, effectOn, heardOn, received}
-use Rattle.station.specs.Events.{raisedEffect, raisedBy, counting, Rule, ruleAt}
-use Rattle.station.specs.Events.{Due, refusing, dueOf, Comes, comesOf, comesTo}
+use Rattle.station.specs.Done.{Done}
+use Rattle.station.proofs.Doing.{unchanged, delivery-act, stopped, started, recovered, interval, timeout, spoken, answer, effectOn, heardOn, received}
+use Rattle.station.specs.Events.{raisedEffect, isNotice, heardRule, Rule, ruleAt, Due, refusing, dueOf}
 use Rattle.station.specs.Acts.{Act, idle}
 use Rattle.station.specs.Done.{doneBy}
-use Rattle.station.proofs.Doing.{refusedWith}
 use Rattle.station.proofs.Slots.{slot-counter}
 use Rattle.station.proofs.Purges.{lowered-le}
 use Rattle.station.proofs.Answers.{EffectFits, HeardFits, letter-link, answer-fits}
@@ -61,7 +59,7 @@ Names net s Loss b x = T true
 pub rule-keeps : (net : Network) (s : ℕ) (h : Holding) → T (holdingHolds net s h) → (k : Kind) (b : ℕ) (x : Letter) → Names net s k b x
     → T (ruleAt s k b x h .allowed)
     → Kept net s (doneBy net s h (ruleAt s k b x h .act))
-unfolding doneBy stopped answer
+unfolding doneBy answer
 rule-keeps net s h ok NoSuch b x n a = unchanged-keeps net s h ok
 rule-keeps net s h ok Start b x n a = started-keeps net s h ok a
 rule-keeps net s h ok Stop b x n a = stopped-keeps net s
@@ -69,7 +67,9 @@ rule-keeps net s h ok Recovery b x n a = recovered-keeps net s h ok a
 rule-keeps net s h ok IntervalEnd b x n a = interval-keeps net s h ok b (n .0) (n .1) a
 rule-keeps net s h ok TimeoutEnd b x n a = timeout-keeps net s h ok b (n .0) (n .1) a
 rule-keeps net s h ok QuietEnd b x n a = spoken-keeps net s h ok b (n .0) (n .1) a
-rule-keeps net s h ok Delivery b x n a = received-keeps net s h ok x (n .0) (n .1)
+rule-keeps net s h ok Delivery b x n a =
+    subst⁻¹ (λ (y : Act). Kept net s (doneBy net s h y)) (delivery-act s b x h)
+    (received-keeps net s h ok x (n .0) (n .1))
 rule-keeps net s h ok Loss b x n a = unchanged-keeps net s h ok
 
 -- ---- how many counters are higher in h than in g
@@ -126,25 +126,27 @@ module _ (net : Network) (s : ℕ) (real : s < net .stations) (h : Holding) (ok 
         risen-one net h (d .holding) j (p .there) (λ i n. le-of-eq (t .others i n))
         ∙ ap bit (lt-ltb (counter h j) (counter (d .holding) j) (subst⁻¹ (λ (n : ℕ). counter h j < n) (t .takes) (t .newer)))
 
-    heard-raises : (a : Heard) → HeardFits net k h a → Raises (raisedBy (counter h k) a) (heardOn net s k h a)
+    heard-raises : (settled : ℕ) (a : Heard) → HeardFits net k h a
+        → let r = heardRule settled (h .condition) k (counter h k) a in Raises (r .counts .raised) (doneBy net s h (r .act))
     unfolding doneBy
-    heard-raises Gone p = same
-    heard-raises Nothing p = same
-    heard-raises Overflows p = same
-    heard-raises (Does e) p = effect-raises e (p .1)
+    heard-raises settled Gone p = same
+    heard-raises settled Nothing p = same
+    heard-raises settled Overflows p = same
+    heard-raises settled (Does e) p = effect-raises e (p .1)
 
-  received-raises : (x : Letter) → T (letterHolds net x) → T (isEnd net (x .link) s)
-      → Raises (raisedBy (counter h (x .link)) (answer s x h)) (received net s x h)
-  received-raises x t o =
+  received-raises : (settled : ℕ) (x : Letter) → T (letterHolds net x) → T (isEnd net (x .link) s)
+      → let r = heardRule settled (h .condition) (x .link) (counter h (x .link)) (answer s x h) in
+      Raises (r .counts .raised) (doneBy net s h (r .act))
+  received-raises settled x t o =
       let k = x .link in
       let l = letter-link net x t in
-      heard-raises k l o (answer s x h) (answer-fits net s x h
+      heard-raises k l o settled (answer s x h) (answer-fits net s x h
       (slot-counter (h .condition) (isEnd net k s) (counter h k) (mark h k) (formed net s h ok .slots k l)) t)
 
   -- what the rule counts as raised is what is higher
   pub rule-raises : (k : Kind) (b : ℕ) (x : Letter) → Names net s k b x
       → risen net h (doneBy net s h (ruleAt s k b x h .act) .holding) ≡ ruleAt s k b x h .counts .raised
-  unfolding doneBy stopped answer
+  unfolding doneBy answer
   rule-raises NoSuch b x n = same
   rule-raises Start b x n = risen-same net h (started net s h .holding) (started-table net s h)
   rule-raises Stop b x n = risen-none net h (stopped net s .holding) (stopped-lowers net s h ok)
@@ -152,7 +154,7 @@ module _ (net : Network) (s : ℕ) (real : s < net .stations) (h : Holding) (ok 
   rule-raises IntervalEnd b x n = risen-same net h (interval net s b h .holding) (interval-table net s h b)
   rule-raises TimeoutEnd b x n = timeout-raises b (n .0) (n .1)
   rule-raises QuietEnd b x n = risen-same net h (spoken net s b h .holding) (spoken-table net s h b)
-  rule-raises Delivery b x n = received-raises x (n .0) (n .1)
+  rule-raises Delivery b x n = received-raises (bit (isNotice (x .body))) x (n .0) (n .1)
   rule-raises Loss b x n = same
 
 -- one at the most
@@ -168,11 +170,11 @@ effect-one own (Levels c) = bit-le (ltb own c)
 effect-one own Equal = zero-le
 effect-one own (Takes j c) = le-refl 1
 
-heard-one : (own : ℕ) (a : Heard) → raisedBy own a ≤ 1
-heard-one own Gone = zero-le
-heard-one own Nothing = zero-le
-heard-one own Overflows = zero-le
-heard-one own (Does e) = effect-one own e
+heard-one : (settled : ℕ) (x : Condition) (k own : ℕ) (a : Heard) → heardRule settled x k own a .counts .raised ≤ 1
+heard-one settled x k own Gone = zero-le
+heard-one settled x k own Nothing = zero-le
+heard-one settled x k own Overflows = zero-le
+heard-one settled x k own (Does e) = effect-one own e
 
 pub rule-one : (s : ℕ) (k : Kind) (b : ℕ) (x : Letter) (h : Holding) → ruleAt s k b x h .counts .raised ≤ 1
 unfolding answer
@@ -183,7 +185,7 @@ rule-one s Recovery b x h = zero-le
 rule-one s IntervalEnd b x h = zero-le
 rule-one s TimeoutEnd b x h = bit-le (even (counter h b))
 rule-one s QuietEnd b x h = zero-le
-rule-one s Delivery b x h = heard-one (counter h (x .link)) (answer s x h)
+rule-one s Delivery b x h = heard-one (bit (isNotice (x .body))) (h .condition) (x .link) (counter h (x .link)) (answer s x h)
 rule-one s Loss b x h = zero-le
 
 -- ---- what an event comes to: each number for its reason, and where the reason holds
@@ -208,68 +210,58 @@ module _ (there : Bool) (r : Rule) where
       (λ p. if-elim P (not (r .allowed)) (λ q. refused 7 (λ z. omega arith))
       (λ q. if-elim P (r .over) (λ o. refused 8 (λ z. omega arith)) (taken (not-not there p) (not-not (r .allowed) q))))
 
-  module _ (net : Network) (s : ℕ) (h : Holding) where
-    -- by what it is due
-    abbrev carried : Due → Comes
-    carried d = comesOf net s h d
+  pub due-why : (x : Condition) → Why (dueOf there r x .number)
+  unfolding dueOf
+  due-why x =
+      let For : Due → Type 0 = λ d. Why (d .number) in
+      if-elim For (not there) six
+      (λ p. let t = not-not there p in if-elim For (not (r .allowed)) (seven t)
+      (λ q. let a = not-not (r .allowed) q in if-elim For (r .over) (eight t a) (none t a)))
 
-    pub comes-why : Why (comesTo net s there r h .number)
-    unfolding comesTo dueOf
-    comes-why =
-        let For : Due → Type 0 = λ d. Why (d .number) in
-        if-elim For (not there) six
-        (λ p. let t = not-not there p in if-elim For (not (r .allowed)) (seven t)
-        (λ q. let a = not-not (r .allowed) q in if-elim For (r .over) (eight t a) (none t a)))
+  -- nothing refuses it: the rule's
+  pub due-done : (x : Condition) → T there → T (r .allowed) → T (not (r .over))
+      → dueOf there r x ≡ record { number = 0; act = r .act; counts = r .counts }
+  unfolding dueOf
+  due-done x t a o = simp (T-is there t, T-is (r .allowed) a, T-not-is (r .over) o)
 
-    -- nothing refuses it: the rule's
-    pub comes-done : T there → T (r .allowed) → T (not (r .over))
-        → comesTo net s there r h ≡ record { number = 0; done = doneBy net s h (r .act); counts = r .counts }
-    unfolding comesTo dueOf
-    comes-done t a o = simp (T-is there t, T-is (r .allowed) a, T-not-is (r .over) o)
+  -- refused: the number, and nothing is done
+  pub due-six : (x : Condition) → T (not there) → dueOf there r x ≡ refusing 6 x
+  unfolding dueOf
+  due-six x t = simp (T-not-is there t)
 
-    -- refused: the number, and nothing is done
-    pub idle-done : doneBy net s h (idle (h .condition)) ≡ unchanged h
-    unfolding doneBy
-    idle-done = refl
+  due-seven : (x : Condition) → T there → T (not (r .allowed)) → dueOf there r x ≡ refusing 7 x
+  unfolding dueOf
+  due-seven x t a = simp (T-is there t, T-not-is (r .allowed) a)
 
-    refused-is : (n : ℕ) → carried (refusing n (h .condition)) ≡ refusedWith n h
-    refused-is n = ap (λ (d : Done). record { number = n; done = d; counts = counting 0 0 0 }) idle-done
+  due-eight : (x : Condition) → T there → T (r .allowed) → T (r .over) → dueOf there r x ≡ refusing 8 x
+  unfolding dueOf
+  due-eight x t a o = simp (T-is there t, T-is (r .allowed) a, T-is (r .over) o)
 
-    pub comes-six : T (not there) → comesTo net s there r h ≡ refusedWith 6 h
-    unfolding comesTo dueOf
-    comes-six t = rw (T-not-is there t) (refused-is 6)
+  pub why-due : (x : Condition) {n : ℕ} → Why n → dueOf there r x .number ≡ n
+  why-due x (none t a o) = ap (λ (d : Due). d .number) (due-done x t a o)
+  why-due x (six t) = ap (λ (d : Due). d .number) (due-six x t)
+  why-due x (seven t a) = ap (λ (d : Due). d .number) (due-seven x t a)
+  why-due x (eight t a o) = ap (λ (d : Due). d .number) (due-eight x t a o)
 
-    pub comes-seven : T there → T (not (r .allowed)) → comesTo net s there r h ≡ refusedWith 7 h
-    unfolding comesTo dueOf
-    comes-seven t a = rw (T-is there t, T-not-is (r .allowed) a) (refused-is 7)
-
-    pub comes-eight : T there → T (r .allowed) → T (r .over) → comesTo net s there r h ≡ refusedWith 8 h
-    unfolding comesTo dueOf
-    comes-eight t a o = rw (T-is there t, T-is (r .allowed) a, T-is (r .over) o) (refused-is 8)
-
-    pub why-comes : {n : ℕ} → Why n → comesTo net s there r h .number ≡ n
-    why-comes (none t a o) = ap (λ (c : Comes). c .number) (comes-done t a o)
-    why-comes (six t) = ap (λ (c : Comes). c .number) (comes-six t)
-    why-comes (seven t a) = ap (λ (c : Comes). c .number) (comes-seven t a)
-    why-comes (eight t a o) = ap (λ (c : Comes). c .number) (comes-eight t a o)
-
-    pub comes-elim : (P : Comes → Type 0) → ((n : ℕ) → P (refusedWith n h))
-        → (T there → T (r .allowed) → T (not (r .over)) → P (record { number = 0; done = doneBy net s h (r .act); counts = r .counts }))
-        → P (comesTo net s there r h)
-    unfolding comesTo
-    comes-elim P refused taken = due-elim (h .condition) (λ d. P (carried d)) (λ n z. subst⁻¹ P (refused-is n) (refused n)) taken
+-- what a refusal does
+pub idle-done : (net : Network) (s : ℕ) (h : Holding) → doneBy net s h (idle (h .condition)) ≡ unchanged h
+unfolding doneBy
+idle-done net s h = refl
 
 -- refused or not, by the rule of an event: well formed after it, and what it counts as raised is what is higher
 module _ (net : Network) (s : ℕ) (h : Holding) (ok : T (holdingHolds net s h)) (there : Bool) (k : Kind) (b : ℕ) (x : Letter)
     (n : T there → Names net s k b x) where
-  pub comes-keeps : Kept net s (comesTo net s there (ruleAt s k b x h) h .done)
-  comes-keeps =
-      comes-elim there (ruleAt s k b x h) net s h (λ (c : Comes). Kept net s (c .done)) (λ i. unchanged-keeps net s h ok)
+  abbrev due : Due
+  due = dueOf there (ruleAt s k b x h) (h .condition)
+
+  pub due-keeps : Kept net s (doneBy net s h (due .act))
+  due-keeps =
+      due-elim there (ruleAt s k b x h) (h .condition) (λ (d : Due). Kept net s (doneBy net s h (d .act)))
+      (λ i z. subst⁻¹ (Kept net s) (idle-done net s h) (unchanged-keeps net s h ok))
       (λ t a o. rule-keeps net s h ok k b x (n t) a)
 
-  pub comes-raises : s < net .stations
-      → let c = comesTo net s there (ruleAt s k b x h) h in risen net h (c .done .holding) ≡ c .counts .raised
-  comes-raises real =
-      comes-elim there (ruleAt s k b x h) net s h (λ (c : Comes). risen net h (c .done .holding) ≡ c .counts .raised)
-      (λ i. risen-same net h h refl)
+  pub due-raises : s < net .stations → risen net h (doneBy net s h (due .act) .holding) ≡ due .counts .raised
+  due-raises real =
+      due-elim there (ruleAt s k b x h) (h .condition) (λ (d : Due). risen net h (doneBy net s h (d .act) .holding) ≡ d .counts .raised)
+      (λ i z. ap (λ (d : Done). risen net h (d .holding)) (idle-done net s h) ∙ risen-same net h h refl)
       (λ t a o. rule-raises net s real h ok k b x (n t))

@@ -1,5 +1,6 @@
 -- Every letter that an act of the station s sends names s as its sender.
 use Prim.Native.Nat.{ℕ}
+use mathlib.Core.Path.{subst⁻¹}
 use mathlib.Core.Bool.{Bool, _&&_}
 use mathlib.Core.List.{List, [], _∷_}
 use lib.Dec.{T, eqb, eqb-refl}
@@ -19,8 +20,8 @@ use Rattle.station.specs.declared.Kind.{Kind}
 use Rattle.station.specs.declared.Kind.the-variants.{NoSuch, Start, Stop, Recovery, IntervalEnd, TimeoutEnd, QuietEnd, Delivery, Loss}
 use Rattle.station.specs.Holding.{Holding, counter, mark}
 use Rattle.station.specs.Acts.{intervalTests}
-use Rattle.station.specs.Done.{Done, letter, onEach, tell, less, known, stopped, doneBy}
-use Rattle.station.proofs.Doing.{openLinks, started, recovered, interval, timeout, spoken, answer, replied, effectOn, heardOn}
+use Rattle.station.specs.Done.{Done, letter, onEach, tell, less, known, doneBy}
+use Rattle.station.proofs.Doing.{delivery-act, openLinks, stopped, started, recovered, interval, timeout, spoken, answer, replied, effectOn, heardOn}
 use Rattle.station.proofs.Doing.{received}
 use Rattle.station.specs.Events.{ruleAt}
 use Rattle.station.specs.Acts.{Sends, Act}
@@ -50,7 +51,7 @@ module _ (net : Network) (s : ℕ) (h : Holding) where
   started-by = tt
 
   pub stopped-by : By (stopped net s)
-  unfolding stopped doneBy
+  unfolding doneBy
   stopped-by = tt
 
   pub spoken-by : (k : ℕ) → By (spoken net s k h)
@@ -99,7 +100,7 @@ module _ (net : Network) (s : ℕ) (h : Holding) where
 
   -- whatever the event
   pub rule-by : (k : Kind) (b : ℕ) (x : Letter) → By (doneBy net s h (ruleAt s k b x h .act))
-  unfolding doneBy stopped answer
+  unfolding doneBy answer
   rule-by NoSuch b x = tt
   rule-by Start b x = started-by
   rule-by Stop b x = stopped-by
@@ -107,5 +108,5 @@ module _ (net : Network) (s : ℕ) (h : Holding) where
   rule-by IntervalEnd b x = interval-by b
   rule-by TimeoutEnd b x = timeout-by b
   rule-by QuietEnd b x = spoken-by b
-  rule-by Delivery b x = received-by x
+  rule-by Delivery b x = subst⁻¹ (λ (y : Act). By (doneBy net s h y)) (delivery-act s b x h) (received-by x)
   rule-by Loss b x = tt

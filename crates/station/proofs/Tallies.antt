@@ -17,15 +17,17 @@ use Rattle.station.specs.declared.Heard.the-variants.{Gone, Nothing, Ove
 use Rattle.station.specs.declared.Kind.{Kind}
 use Rattle.station.specs.declared.Kind.the-variants.{NoSuch, Start, Stop, Recovery, IntervalEnd, TimeoutEnd, QuietEnd, Delivery, Loss}
 use Rattle.station.specs.Holding.{Holding, counter}
-use Rattle.station.proofs.Doing.{answer, heardOn, received}
-use Rattle.station.specs.Events.{delivers, loses, takesLetter, raisedBy, isOver, isGone, isNotice, counting, ruleAt}
-use Rattle.station.specs.Acts.{heardAct}
+use Rattle.station.proofs.Doing.{answer}
+use Rattle.station.specs.Events.{delivers, loses, takesLetter, isNotice, heardRule, ruleAt}
 use Rattle.station.proofs.Answers.{heard, answer-gone, request-cases, reply-cases, notice-cases}
 
 -- a letter is dropped exactly if it is not heard
 module _ (s : ℕ) (x : Letter) (h : Holding) where
+  abbrev drops : Heard → ℕ
+  drops a = heardRule (bit (isNotice (x .body))) (h .condition) (x .link) (counter h (x .link)) a .counts .dropped
+
   abbrev Says : Heard → Type 0
-  Says a = bit (isGone a) ≡ bit (not (heard x h))
+  Says a = drops a ≡ bit (not (heard x h))
 
   deaf : T (not (heard x h)) → 1 ≡ bit (not (heard x h))
   deaf t = sym (ap bit (T-is (not (heard x h)) t))
@@ -41,10 +43,17 @@ module _ (s : ℕ) (x : Letter) (h : Holding) where
       (λ y. if-elim Says (eqb (counter h (x .link)) c) (λ z. hearing t) (λ z. hearing t)))
   gone-body (Notice j c) e = notice-cases s x h Says j c e deaf (λ t u. hearing t) (λ t u. hearing t)
 
-  pub dropped-unheard : bit (isGone (answer s x h)) ≡ bit (not (heard x h))
+  pub dropped-unheard : drops (answer s x h) ≡ bit (not (heard x h))
   dropped-unheard = gone-body (x .body) refl
 
 module _ (s b : ℕ) (x : Letter) (h : Holding) where
+  heard-settles : (a : Heard) → heardRule (bit (isNotice (x .body))) (h .condition) (x .link) (counter h (x .link)) a .counts .settled
+      ≡ bit (isNotice (x .body))
+  heard-settles Gone = refl
+  heard-settles Nothing = refl
+  heard-settles Overflows = refl
+  heard-settles (Does e) = refl
+
   pub rule-settles : (k : Kind) → ruleAt s k b x h .counts .settled ≡ (if takesLetter k then bit (isNotice (x .body)) else 0)
   unfolding answer
   rule-settles NoSuch = refl
@@ -54,7 +63,7 @@ module _ (s b : ℕ) (x : Letter) (h : Holding) where
   rule-settles IntervalEnd = refl
   rule-settles TimeoutEnd = refl
   rule-settles QuietEnd = refl
-  rule-settles Delivery = refl
+  rule-settles Delivery = heard-settles (answer s x h)
   rule-settles Loss = refl
 
   pub rule-drops : (k : Kind) → ruleAt s k b x h .counts .dropped ≡ bit (loses k || (delivers k && not (heard x h)))
@@ -73,9 +82,4 @@ module _ (s b : ℕ) (x : Letter) (h : Holding) where
   pub unheard-is-lost : T (not (heard x h)) → ruleAt s Delivery b x h ≡ ruleAt s Loss b x h
   unfolding answer
   unheard-is-lost t =
-      ap (λ (said : Heard). record {
-        allowed = true;
-        over = isOver said;
-        act = heardAct (h .condition) (x .link) (counter h (x .link)) said;
-        counts = counting (bit (isNotice (x .body))) (raisedBy (counter h (x .link)) said) (bit (isGone said));
-      }) (answer-gone s x h t)
+      ap (heardRule (bit (isNotice (x .body))) (h .condition) (x .link) (counter h (x .link))) (answer-gone s x h t)

@@ -138,13 +138,6 @@ module _ (x : Condition) (k : ℕ) where
     effectAct Equal = act x (onLink k repliedMarks) kept nothing
     effectAct (Takes j new) = act x asBefore (sets j new false) (notices j new (otherOwn k isOpen))
 
-    -- what is gone, has no effect or would overflow changes nothing
-    abbrev pub heardAct : Heard → Act
-    heardAct Gone = idle x
-    heardAct Nothing = idle x
-    heardAct Overflows = idle x
-    heardAct (Does e) = effectAct e
-
 -- ---- the receiver's answer to a letter
 -- a reply with c to a test at this own counter, by the new counter: if either of the two was odd it heals
 abbrev pub repliedBy : ℕ → ℕ → Healed → Heard

@@ -11,9 +11,9 @@ use Rattle.net.specs.declared.Letter.{Letter}
 use Rattle.net.specs.Network.{Network, isEnd, linkNumbers}
 use Rattle.reach.specs.Reach.{counterIn, worksIn, purge}
 use Rattle.marks.specs.declared.Marks.{Marks}
-use Rattle.station.specs.Holding.{Holding, mark, nobody}
+use Rattle.station.specs.Holding.{Holding, mark}
 use Rattle.station.specs.Acts.{Links, theLink, allOwn, otherOwn, Marking, asBefore, onLink, onEvery, Tabling, kept, ones, sets}
-use Rattle.station.specs.Acts.{Sends, nothing, requests, notices, allKnown, reply, Act, stopAct}
+use Rattle.station.specs.Acts.{Sends, nothing, requests, notices, allKnown, reply, Act}
 
 pub record Done : Type 0 where
   pub holding : Holding
@@ -83,7 +83,3 @@ module _ (net : Network) where
           holding = record { condition = a .condition; table = purgedTable s told (a .table); marks = marksAfter h (a .marks) };
           sent = sentOf h told (a .sends);
         }
-
-    -- what a stop leaves, whatever was held
-    unfoldable pub stopped : Done
-    stopped = doneBy nobody stopAct

@@ -1,15 +1,16 @@
 -- What an event comes to at the one station that it concerns: the number that says no, or the station after it, the letters that it
 -- sends, and what it adds to the tally. Document 01, "The eight events" and the numbers 6, 7 and 8. Which station that is, and 9: world.
 use Prim.Native.Nat.{ℕ}
-use mathlib.Core.Bool.{Bool, true, false, not, _&&_, _||_}
+use mathlib.Core.Bool.{Bool, true, false, not, _||_}
+use mathlib.Core.List.{[], _∷_}
 use lib.Dec.{eqb, ltb}
+use lib.ListN.{getD}
 use Rattle.lists.specs.Lists.{if_then_else_}
 use Rattle.lists.specs.Words.{bit}
 use Rattle.tally.specs.declared.Tally.{Tally}
 use Rattle.net.specs.declared.Body.{Body}
 use Rattle.net.specs.declared.Body.the-variants.{Request, Reply, Notice}
 use Rattle.net.specs.declared.Letter.{Letter}
-use Rattle.net.specs.Network.{Network}
 use Rattle.counters.specs.Counters.{even}
 use Rattle.marks.specs.declared.Marks.{Marks}
 use Rattle.station.specs.declared.Condition.{Condition}
@@ -20,22 +21,12 @@ use Rattle.station.specs.declared.Heard.the-variants.{Gone, Nothing, Ove
 use Rattle.station.specs.declared.Kind.{Kind}
 use Rattle.station.specs.declared.Kind.the-variants.{NoSuch, Start, Stop, Recovery, IntervalEnd, TimeoutEnd, QuietEnd, Delivery, Loss}
 use Rattle.station.specs.Holding.{Holding, counter, mark, isWaiting, isDown}
-use Rattle.station.specs.Acts.{Act, idle, mayEnd, startAct, stopAct, recoveryAct, intervalAct, timeoutAct, quietAct, heardAct}
+use Rattle.station.specs.Acts.{Act, idle, mayEnd, startAct, stopAct, recoveryAct, intervalAct, timeoutAct, quietAct, effectAct}
 use Rattle.station.specs.Acts.{answerBy, subjectOf}
-use Rattle.station.specs.Done.{Done, doneBy}
 
 -- ---- the kinds of event, by their numbers
 abbrev pub kindOf : ℕ → Kind
-kindOf n =
-    if eqb n 1 then Start
-    else (if eqb n 2 then Stop
-    else (if eqb n 3 then Recovery
-    else (if eqb n 4 then IntervalEnd
-    else (if eqb n 5 then TimeoutEnd
-    else (if eqb n 6 then QuietEnd
-    else (if eqb n 7 then Delivery
-    else (if eqb n 8 then Loss
-    else NoSuch)))))))
+kindOf n = getD (NoSuch ∷ Start ∷ Stop ∷ Recovery ∷ IntervalEnd ∷ TimeoutEnd ∷ QuietEnd ∷ Delivery ∷ Loss ∷ []) n NoSuch
 
 -- and back
 abbrev pub kindNumber : Kind → ℕ
@@ -70,26 +61,6 @@ raisedEffect own (Levels c) = bit (ltb own c)
 raisedEffect own Equal = 0
 raisedEffect own (Takes j c) = 1
 
-abbrev pub raisedBy : ℕ → Heard → ℕ
-raisedBy own Gone = 0
-raisedBy own Nothing = 0
-raisedBy own Overflows = 0
-raisedBy own (Does e) = raisedEffect own e
-
--- a reply that would make a counter 65,536
-abbrev pub isOver : Heard → Bool
-isOver Gone = false
-isOver Nothing = false
-isOver Overflows = true
-isOver (Does e) = false
-
--- a letter that is dropped: the receiver isn't live or is quiet there
-abbrev pub isGone : Heard → Bool
-isGone Gone = true
-isGone Nothing = false
-isGone Overflows = false
-isGone (Does e) = false
-
 -- a letter taken off that is a notice is settled
 abbrev pub isNotice : Body → Bool
 isNotice Request = false
@@ -111,8 +82,16 @@ pub record Rule : Type 0 where
 abbrev pub acts : Bool → Act → ℕ → Rule
 acts allowed a raised = record { allowed = allowed; over = false; act = a; counts = counting 0 raised 0 }
 
+-- a letter that is taken off the list in the condition x on link k with the counter c, by the receiver's answer; it settles so many notices
+module _ (settled : ℕ) (x : Condition) (k c : ℕ) where
+  abbrev pub heardRule : Heard → Rule
+  heardRule Gone = record { allowed = true; over = false; act = idle x; counts = counting settled 0 1 }
+  heardRule Nothing = record { allowed = true; over = false; act = idle x; counts = counting settled 0 0 }
+  heardRule Overflows = record { allowed = true; over = true; act = idle x; counts = counting settled 0 0 }
+  heardRule (Does e) = record { allowed = true; over = false; act = effectAct x k c e; counts = counting settled (raisedEffect c e) 0 }
+
 -- at the station s in the condition x, on link k, which has the marks m and the counter c; l is the letter, and told the counter of the
--- link that it tells of
+-- link that it tells of. A letter that is lost is as one that nobody hears
 module _ (s k : ℕ) (l : Letter) (x : Condition) (m : Marks) (c told : ℕ) where
   abbrev pub ruleOf : Kind → Rule
   ruleOf NoSuch = acts true (idle x) 0
@@ -122,10 +101,8 @@ module _ (s k : ℕ) (l : Letter) (x : Condition) (m : Marks) (c told : ℕ) whe
   ruleOf IntervalEnd = acts (mayEnd x m) (intervalAct x k m) 0
   ruleOf TimeoutEnd = acts (m .testing) (timeoutAct x k c) (bit (even c))
   ruleOf QuietEnd = acts (m .quiet) (quietAct x k) 0
-  ruleOf Delivery =
-      let said = answerBy s x m c told l in
-      record { allowed = true; over = isOver said; act = heardAct x k c said; counts = counting (bit (isNotice (l .body))) (raisedBy c said) (bit (isGone said)) }
-  ruleOf Loss = record { allowed = true; over = false; act = idle x; counts = counting (bit (isNotice (l .body))) 0 1 }
+  ruleOf Delivery = heardRule (bit (isNotice (l .body))) x k c (answerBy s x m c told l)
+  ruleOf Loss = heardRule (bit (isNotice (l .body))) x k c Gone
 
 -- ---- what an event comes to: the number that says no, or 0 and what is done and counted
 pub record Due : Type 0 where
@@ -153,15 +130,3 @@ abbrev pub ruleAt : ℕ → Kind → ℕ → Letter → Holding → Rule
 ruleAt s e b l h =
     let k = linkOf e b l in
     ruleOf s k l (h .condition) (mark h k) (counter h k) (counter h (subjectOf (l .body))) e
-
--- carried out
-pub record Comes : Type 0 where
-  pub number : ℕ
-  pub done : Done
-  pub counts : Tally
-
-abbrev pub comesOf : Network → ℕ → Holding → Due → Comes
-comesOf net s h d = record { number = d .number; done = doneBy net s h (d .act); counts = d .counts }
-
-unfoldable pub comesTo : Network → ℕ → Bool → Rule → Holding → Comes
-comesTo net s there r h = comesOf net s h (dueOf there r (h .condition))

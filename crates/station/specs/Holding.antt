@@ -3,7 +3,7 @@ use Prim.Native.Nat.{ℕ}
 use mathlib.Core.Bool.{Bool, true, false, not, _&&_, _||_}
 use mathlib.Core.List.{List, []}
 use lib.Dec.{eqb}
-use lib.ListN.{length, getD, set}
+use lib.ListN.{length, getD}
 use Rattle.lists.specs.Lists.{every}
 use Rattle.net.specs.Network.{Network, isEnd, linkNumbers}
 use Rattle.net.specs.Letters.{isCounter}
@@ -45,7 +45,7 @@ isDown Down = true
 isDown Waiting = false
 isDown Live = false
 
--- ---- a mark, a link's marks, a counter set anew
+-- ---- a mark set anew
 abbrev pub setToken : Bool → Marks → Marks
 setToken b m = record { token = b; turn = m .turn; testing = m .testing; asked = m .asked; quiet = m .quiet }
 
@@ -60,15 +60,6 @@ setAsked b m = record { token = m .token; turn = m .turn; testing = m .testing; 
 
 abbrev pub setQuiet : Bool → Marks → Marks
 setQuiet b m = record { token = m .token; turn = m .turn; testing = m .testing; asked = m .asked; quiet = b }
-
-abbrev pub marked : ℕ → Marks → Holding → Holding
-marked k m h = record { condition = h .condition; table = h .table; marks = set (h .marks) k m }
-
-abbrev pub tabled : List ℕ → Holding → Holding
-tabled t h = record { condition = h .condition; table = t; marks = h .marks }
-
-abbrev pub counted : ℕ → ℕ → Holding → Holding
-counted k c h = tabled (set (h .table) k c) h
 
 -- ---- well formed
 abbrev pub implies : Bool → Bool → Bool

@@ -19,8 +19,8 @@ use Rattle.station.specs.declared.Effect.the-variants.{Answers, Heals, Levels, 
 use Rattle.station.specs.declared.Heard.{Heard}
 use Rattle.station.specs.declared.Heard.the-variants.{Gone, Nothing, Overflows, Does}
 use Rattle.station.specs.declared.Kind.the-variants.{Delivery}
-use Rattle.station.specs.Acts.{allOwn, onLink, kept, nothing, act, isOpen, requestedMarks, repliedMarks, effectAct, heardAct, answerBy}
-use Rattle.station.specs.Events.{counting, isNotice, isOver, isGone, raisedEffect, raisedBy, dueOf}
+use Rattle.station.specs.Acts.{allOwn, onLink, kept, nothing, act, isOpen, requestedMarks, repliedMarks, effectAct, answerBy}
+use Rattle.station.specs.Events.{counting, isNotice, raisedEffect, heardRule, dueOf}
 use Rattle.station.proofs.Heard as T
 use Rattle.station_plan.specs.declared.Plan.{Plan}
 use Rattle.station_plan.specs.Plans.{everyLink, putting, linksWord, planOf, donePlan, dropPlan, stays, tells}
@@ -94,14 +94,7 @@ module _ (own k c settled : ℕ) (x : Condition) (w : Words) where
 
   -- the plan by the answer
   abbrev heardPlan : ℕ → Heard → Plan
-  heardPlan n said =
-      planOf own w (dueOf true (record {
-        allowed = true;
-        over = isOver said;
-        act = heardAct x k c said;
-        counts = counting n
-            (raisedBy c said) (bit (isGone said));
-      }) x)
+  heardPlan n said = planOf own w (dueOf true (heardRule n x k c said) x)
 
   drops-is : (said : Heard) → Drops said → dropPlan said settled x w ≡ heardPlan settled said
   unfolding dropPlan dueOf

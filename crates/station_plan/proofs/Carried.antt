@@ -28,7 +28,7 @@ use Rattle.station.specs.declared.Station.{Station}
 use Rattle.station.specs.Holding.{Holding, noMarks, mark}
 use Rattle.station.specs.Acts.{Links, Marking, asBefore, onLink, onEvery, Tabling, kept, ones, sets, Sends, nothing, requests, notices, allKnown, reply, Act}
 use Rattle.station.specs.Done.{letter, onEach, tell, less, known, linksOf, toldTable, purgedTable, marksAfter, sentOf, doneBy}
-use Rattle.station.specs.Events.{Due, comesOf}
+use Rattle.station.specs.Events.{Due}
 use Rattle.station.specs.Values.{holdingOf, laid, laidWords, membersOf, lettersOf, freshTable}
 use Rattle.station.proofs.Laid.{Fit, words-laid, laid-is, marks-laid, same-laid, marks-of, mark-of, table-of, condition-of, counters-same, counters-set, table-set, room-set}
 use Rattle.station.proofs.Sent.{members-none, members-one, tell-one, sent-nothing, sent-requests, sent-notices, sent-reply}

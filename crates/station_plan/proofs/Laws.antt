@@ -8,6 +8,7 @@ use lib.Dec.{T, eqb, ltb}
 use lib.ListN.{length, getD, set}
 use lib.Seq.{getD-set-same}
 use Rattle.lists.specs.Lists.{if_then_else_}
+use Rattle.lists.specs.Words.{bit}
 use Rattle.lists.proofs.Tests.{T-is, if-elim}
 use Rattle.lists.proofs.Words.{zero-is-out, none-in}
 use Rattle.net.specs.declared.Body.{Body}
@@ -32,9 +33,9 @@ use Rattle.station.specs.declared.Kind.{Kind}
 use Rattle.station.specs.declared.Kind.the-variants.{NoSuch, Start, Stop, Recovery, IntervalEnd, TimeoutEnd, QuietEnd, Delivery, Loss}
 use Rattle.station.specs.declared.Station.{Station}
 use Rattle.station.specs.Holding.{Holding, noMarks, mark, counter, isLive}
-use Rattle.station.specs.Acts.{kept, nothing, requests, theLink, Act, idle, intervalTests, timeoutAct, effectAct, heardAct}
+use Rattle.station.specs.Acts.{kept, nothing, requests, theLink, Act, idle, intervalTests, timeoutAct, effectAct}
 use Rattle.station.specs.Acts.{repliedBy, bodyAnswer, answerBy, subjectOf}
-use Rattle.station.specs.Events.{Rule, ruleOf, ruleAt, Due, refusing, dueOf, comesOf, comesTo}
+use Rattle.station.specs.Events.{isNotice, Rule, heardRule, ruleOf, ruleAt, Due, refusing, dueOf}
 use Rattle.station.specs.Values.{holdingOf, noWords, blank}
 use Rattle.station.proofs.Laid.{Fit, mark-of, condition-of}
 use Rattle.station.proofs.Rules.{due-elim}
@@ -148,11 +149,12 @@ module _ (net : Net) (s : ℕ) (st : Station) (own : ℕ) (eo : Own own net s) (
     effect-fits h Equal t = record { marks = h; table = tt; sends = tt }
     effect-fits h (Takes j n) t = let i = t j n refl in record { marks = tt; table = i; sends = (i, told-set j n i, tt) }
 
-    heard-fits : k < linkCount net → (a : Heard) → ((j d : ℕ) → a ≡ Does (Takes j d) → j < linkCount net) → Fit-act (heardAct X k c a)
-    heard-fits h Gone t = idle-fits
-    heard-fits h Nothing t = idle-fits
-    heard-fits h Overflows t = idle-fits
-    heard-fits h (Does e) t = effect-fits h e (λ j d q. t j d (ap Does q))
+    heard-fits : (n : ℕ) → k < linkCount net → (a : Heard) → ((j d : ℕ) → a ≡ Does (Takes j d) → j < linkCount net)
+        → Fit-act (heardRule n X k c a .act)
+    heard-fits n h Gone t = idle-fits
+    heard-fits n h Nothing t = idle-fits
+    heard-fits n h Overflows t = idle-fits
+    heard-fits n h (Does e) t = effect-fits h e (λ j d q. t j d (ap Does q))
 
     asks-fit : k < linkCount net → (b : Bool) → SendsFit net s st own eo fit size kept (if b then requests (theLink k) else nothing)
     asks-fit h true = h
@@ -170,7 +172,7 @@ module _ (net : Net) (s : ℕ) (st : Station) (own : ℕ) (eo : Own own net s) (
         (λ t. record { marks = h; table = tt; sends = tt })
     act-fits QuietEnd m = record { marks = m .link tt; table = tt; sends = tt }
     act-fits Delivery m =
-        heard-fits (m .link tt) (answerBy s X (marksAt W k) c told l)
+        heard-fits (bit (isNotice (l .body))) (m .link tt) (answerBy s X (marksAt W k) c told l)
         (λ j d q. subst (λ (n : ℕ). n < linkCount net) (takes-subject s X (marksAt W k) c told l j d q) (m .subject tt))
     act-fits Loss m = idle-fits
 
@@ -187,11 +189,11 @@ module _ (net : Net) (s : ℕ) (st : Station) (own : ℕ) (eo : Own own net s) (
     effect-room Equal = (refl, refl)
     effect-room (Takes j n) = (refl, refl)
 
-    heard-room : (a : Heard) → Roomy st (heardAct X k c a)
-    heard-room Gone = (refl, refl)
-    heard-room Nothing = (refl, refl)
-    heard-room Overflows = (refl, refl)
-    heard-room (Does e) = effect-room e
+    heard-room : (n : ℕ) (a : Heard) → Roomy st (heardRule n X k c a .act)
+    heard-room n Gone = (refl, refl)
+    heard-room n Nothing = (refl, refl)
+    heard-room n Overflows = (refl, refl)
+    heard-room n (Does e) = effect-room e
 
     act-room : (e : Kind) → Roomy (roomOf e st) (ruled e .act)
     unfolding blank
@@ -202,14 +204,14 @@ module _ (net : Net) (s : ℕ) (st : Station) (own : ℕ) (eo : Own own net s) (
     act-room IntervalEnd = (refl, refl)
     act-room TimeoutEnd = if-elim (Roomy st) (even c) (λ t. (refl, refl)) (λ t. (refl, refl))
     act-room QuietEnd = (refl, refl)
-    act-room Delivery = heard-room (answerBy s X (marksAt W k) c told l)
+    act-room Delivery = heard-room (bit (isNotice (l .body))) (answerBy s X (marksAt W k) c told l)
     act-room Loss = (refl, refl)
 
     -- ---- refused, or done
     due-plans : (there : Bool) (e : Kind) → (T there → Meant net st e k l told)
-        → Planned net s st (roomOf e st) (comesOf (networkOf net) s H (dueOf there (ruled e) X)) (planOf own W (dueOf there (ruled e) X))
+        → Planned net s st (roomOf e st) (dueOf there (ruled e) X) (planOf own W (dueOf there (ruled e) X))
     due-plans there e m =
-        due-elim there (ruled e) X (λ d. Planned net s st (roomOf e st) (comesOf (networkOf net) s H d) (planOf own W d))
+        due-elim there (ruled e) X (λ d. Planned net s st (roomOf e st) d (planOf own W d))
         (λ n z. record { answer = refl; counts = refl; done = λ q. absurd (z q); refused = λ q. refl })
         (λ t a o.
         let done = carried-out net s st own eo fit size (record { number = 0; act = ruled e .act; counts = ruled e .counts }) (roomOf e st)
@@ -218,10 +220,9 @@ module _ (net : Net) (s : ℕ) (st : Station) (own : ℕ) (eo : Own own net s) (
 
     here-plans : (there : Bool) (e : Kind) → (T there → Meant net st e k l told)
         → Plans e net s k l st there (eventPlan there e own s k l c told X W)
-    unfolding eventPlan comesTo holdingOf dueOf
+    unfolding eventPlan holdingOf dueOf
     here-plans true e m =
-        subst (λ (r : Rule). Planned net s st (roomOf e st) (comesOf (networkOf net) s H (dueOf true r X))
-        (planOf own W (dueOf true (ruled e) X))) (same-rule e (m tt)) (due-plans true e m)
+        subst (λ (r : Rule). Planned net s st (roomOf e st) (dueOf true r X) (planOf own W (dueOf true (ruled e) X))) (same-rule e (m tt)) (due-plans true e m)
     here-plans false e m = due-plans false e m
 
 pub event-plans : (own s k : ℕ) (l : Letter) (c told : ℕ) (x : Condition) (w : Words) → Fit w → (there : Bool) (e : Kind)

@@ -8,7 +8,7 @@ use lib.ListN.{getD}
 use Rattle.net.specs.declared.Body.the-variants.{Request}
 use Rattle.net.specs.declared.Letter.{Letter}
 use Rattle.net.specs.declared.Net.{Net}
-use Rattle.net.specs.Values.{networkOf, linkCount}
+use Rattle.net.specs.Values.{linkCount}
 use Rattle.sets.specs.Sets.{wordBy}
 use Rattle.marks.specs.declared.Words.{Words}
 use Rattle.marks.specs.Marks.{marksAt, ownAt}
@@ -17,7 +17,7 @@ use Rattle.station.specs.declared.Kind.{Kind}
 use Rattle.station.specs.declared.Kind.the-variants.{NoSuch, Start, Stop, Recovery, IntervalEnd, TimeoutEnd, QuietEnd, Delivery, Loss}
 use Rattle.station.specs.declared.Station.{Station}
 use Rattle.station.specs.Acts.{subjectOf}
-use Rattle.station.specs.Events.{ruleOf, ruleAt, dueOf, comesTo, takesLetter}
+use Rattle.station.specs.Events.{ruleOf, ruleAt, dueOf, takesLetter}
 use Rattle.station.specs.Values.{holdingOf, unmarked, blank}
 use Rattle.station_plan.specs.declared.Plan.{Plan}
 use Rattle.station_plan.specs.Plans.{planOf}
@@ -48,7 +48,7 @@ roomOf Loss st = st
 -- an event of this kind at the station s, on link k or with the letter x
 abbrev pub Plans : Kind → Net → ℕ → ℕ → Letter → Station → Bool → Plan → Type 0
 Plans e net s k x st there r =
-    Planned net s st (roomOf e st) (comesTo (networkOf net) s there (ruleAt s e k x (holdingOf net st)) (holdingOf net st)) r
+    Planned net s st (roomOf e st) (dueOf there (ruleAt s e k x (holdingOf net st)) (st .condition)) r
 
 -- ---- what a plan is made from, beside the condition and the marks (Like): the own links, and the counter of link k
 abbrev pub Own : ℕ → Net → ℕ → Type 0

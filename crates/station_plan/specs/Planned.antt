@@ -5,12 +5,13 @@ use mathlib.Core.Path.{_≡_}
 use lib.ListN.{length}
 use Rattle.tally.specs.declared.Tally.{Tally}
 use Rattle.net.specs.declared.Net.{Net}
+use Rattle.net.specs.Values.{networkOf}
 use Rattle.marks.specs.declared.Words.{Words}
 use Rattle.station.specs.declared.Condition.{Condition}
 use Rattle.station.specs.declared.Station.{Station}
-use Rattle.station.specs.Done.{Done}
-use Rattle.station.specs.Events.{Comes}
-use Rattle.station.specs.Values.{laid}
+use Rattle.station.specs.Done.{Done, doneBy}
+use Rattle.station.specs.Events.{Due}
+use Rattle.station.specs.Values.{holdingOf, laid}
 use Rattle.station_plan.specs.declared.Plan.{Plan}
 use Rattle.station_plan.specs.Plans.{stationBy, lettersBy, stays}
 
@@ -22,11 +23,11 @@ pub record Acts (net : Net) (s : ℕ) (st room : Station) (d : Done) (t : Tally)
   pub counts : r .counts ≡ t
 
 -- ---- by what the event comes to: refused, and the plan says nothing more, or done
-pub record Planned (net : Net) (s : ℕ) (st room : Station) (c : Comes) (r : Plan) : Type 0 where
-  pub answer : r .answer ≡ c .number
-  pub counts : r .counts ≡ c .counts
-  pub done : c .number ≡ 0 → Acts net s st room (c .done) (c .counts) r
-  pub refused : (c .number ≡ 0 → ⊥) → r ≡ stays (c .number) 0 0 (st .condition) (st .marks)
+pub record Planned (net : Net) (s : ℕ) (st room : Station) (d : Due) (r : Plan) : Type 0 where
+  pub answer : r .answer ≡ d .number
+  pub counts : r .counts ≡ d .counts
+  pub done : d .number ≡ 0 → Acts net s st room (doneBy (networkOf net) s (holdingOf net st) (d .act)) (d .counts) r
+  pub refused : (d .number ≡ 0 → ⊥) → r ≡ stays (d .number) 0 0 (st .condition) (st .marks)
 
 -- the station has the condition and the marks that a plan was made from
 pub record Like (x : Condition) (w : Words) (st : Station) : Type 0 where

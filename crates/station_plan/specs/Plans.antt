@@ -5,7 +5,7 @@ use mathlib.Core.Bool.{Bool, true, false, _&&_}
 use mathlib.Core.List.{List}
 use lib.Dec.{eqb}
 use Rattle.lists.specs.Lists.{if_then_else_}
-use Rattle.lists.specs.Words.{inWord, bit}
+use Rattle.lists.specs.Words.{inWord}
 use Rattle.tally.specs.declared.Tally.{Tally}
 use Rattle.net.specs.declared.Letter.{Letter}
 use Rattle.net.specs.declared.Net.{Net}
@@ -16,10 +16,11 @@ use Rattle.marks.specs.Marks.{marksAt, wordsBy, wordsWith}
 use Rattle.station.specs.declared.Sending.{Sending}
 use Rattle.station.specs.declared.Condition.{Condition}
 use Rattle.station.specs.declared.Heard.{Heard}
+use Rattle.station.specs.declared.Heard.the-variants.{Gone, Nothing, Overflows, Does}
 use Rattle.station.specs.declared.Station.{Station}
 use Rattle.station.specs.Acts.{Links, theLink, allOwn, otherOwn, Marking, asBefore, onLink, onEvery, Tabling, kept, ones, sets}
 use Rattle.station.specs.Acts.{Sends, nothing, requests, notices, allKnown, reply, Act, idle}
-use Rattle.station.specs.Events.{Due, dueOf, counting, isOver, isGone}
+use Rattle.station.specs.Events.{Due, counting}
 use Rattle.station.specs.Values.{lettersOf}
 use Rattle.station_plan.specs.declared.Plan.{Plan}
 pub use Rattle.station_plan.specs.Carrying.{toldBy, purgedIn, keptBy, knownIn, narrowed}
@@ -97,11 +98,6 @@ module _ (own : ℕ) (w : Words) where
 abbrev pub donePlan : ℕ → Words → Act → Tally → Plan
 donePlan own w a t = planOf own w (record { number = 0; act = a; counts = t })
 
--- a letter that does nothing, by the receiver's answer: dropped, without effect, or refused
-unfoldable pub dropPlan : Heard → ℕ → Condition → Words → Plan
-dropPlan said settled x w =
-    planOf 0 w (dueOf true (record { allowed = true; over = isOver said; act = idle x; counts = counting settled 0 (bit (isGone said)) }) x)
-
 -- ---- a plan carried out at the station s
 abbrev pub toldIn : Plan → Station → List ℕ
 toldIn r st = toldBy (r .sets) (r .at) (r .counter) (st .counters)
@@ -116,6 +112,13 @@ lettersBy net s r st = lettersOf s (toldIn r st) (narrowed (r .knows) (linkCount
 -- nothing is sent, and no counter and no condition changes
 abbrev pub stays : ℕ → ℕ → ℕ → Condition → Words → Plan
 stays number settled dropped x w = planOf 0 w (record { number = number; act = idle x; counts = counting settled 0 dropped })
+
+-- a letter that does nothing, by the receiver's answer: dropped, without effect, or refused
+unfoldable pub dropPlan : Heard → ℕ → Condition → Words → Plan
+dropPlan Gone settled x w = stays 0 settled 1 x w
+dropPlan Nothing settled x w = stays 0 settled 0 x w
+dropPlan Overflows settled x w = stays 8 0 0 x w
+dropPlan (Does e) settled x w = stays 0 settled 0 x w
 
 -- the condition and the marks change, and requests are sent
 abbrev pub turns : Condition → Words → ℕ → Bool → Plan

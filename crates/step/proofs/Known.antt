@@ -26,14 +26,15 @@ use Rattle.station.specs.declared.Kind.the-variants.{NoSuch, Start, Stop, Recov
 use Rattle.station.specs.declared.Station.{Station}
 use Rattle.station.specs.Holding.{Holding}
 use Rattle.station.specs.Acts.{subjectOf}
-use Rattle.station.specs.Events.{kindOf, takesLetter, Rule, ruleAt, dueOf, Comes, comesTo, linkOf}
+use Rattle.station.specs.Events.{kindOf, takesLetter, Rule, ruleAt, Due, dueOf, linkOf}
+use Rattle.station.specs.Done.{Done, doneBy}
 use Rattle.station.specs.Values.{holdingOf}
 use Rattle.station.proofs.Answers.{letter-link}
 use Rattle.station.proofs.Rules.{Names}
 use Rattle.station_plan.specs.declared.Plan.{Plan}
 use Rattle.station_plan.specs.Planned.{Acts, Planned, Like}
 use Rattle.station_plan.specs.Comes.{Meant, EventPlans, roomOf, onLink}
-use Rattle.world.specs.World.{World, Event, noLetter, holdingAt, letterAt, existsAs, exists, concernedBy, concerned, rule, comes}
+use Rattle.world.specs.World.{World, Event, noLetter, holdingAt, letterAt, existsAs, exists, concernedBy, concerned, rule, comes, done}
 use Rattle.world.proofs.There.{letter-there, station-there}
 use Rattle.world.proofs.Steps.{passes, absent-six}
 use Rattle.world.proofs.Keeps.{Formed, Posted, meant-posted, concerned-real, names}
@@ -195,36 +196,40 @@ module _ {s : State} {kind a b place me : ℕ} {named : Bool} {k about own : ℕ
           ∙ ap (λ (i : ℕ). ruleAt i K b x H) me-is
           ∙ ap₂ (λ (l : Letter) (h : Holding). ruleAt (concerned w E) K b l h) letter-is held-is
 
-      comes-is : comesTo (networkOf (s .net)) me named (ruleAt me K k x H) H ≡ comes w E
-      unfolding comes
+      comes-is : dueOf named (ruleAt me K k x H) (st .condition) ≡ comes w E
+      unfolding comes holdingOf
       comes-is =
-          ap (λ (c : Bool). comesTo (networkOf (s .net)) me c (ruleAt me K k x H) H) named-is
-          ∙ ap₂ (λ (n : Network) (i : ℕ). comesTo n i (exists w E) (ruleAt me K k x H) H) (sym net-is) me-is
-          ∙ ap₂ (λ (r : Rule) (h : Holding). comesTo (w .net) (concerned w E) (exists w E) r h) rule-is held-is
+          ap (λ (c : Bool). dueOf c (ruleAt me K k x H) (st .condition)) named-is
+          ∙ ap₂ (λ (r : Rule) (h : Holding). dueOf (exists w E) r (h .condition)) rule-is held-is
+
+      done-is : doneBy (networkOf (s .net)) me H (comes w E .act) ≡ done w E
+      unfolding done
+      done-is =
+          ap₂ (λ (n : Network) (i : ℕ). doneBy n i H (comes w E .act)) (sym net-is) me-is
+          ∙ ap (λ (h : Holding). doneBy (w .net) (concerned w E) h (comes w E .act)) held-is
 
     -- ---- the plan is the world's
-    planned : (i : me < 32) → Planned (s .net) me st (roomOf K st) (comesTo (networkOf (s .net)) me named (ruleAt me K k x H) H) p
+    planned : (i : me < 32) → Planned (s .net) me st (roomOf K st) (dueOf named (ruleAt me K k x H) (st .condition)) p
     planned i =
         f .plans (s .net) st (record { condition = refl; words = refl; size = f .sized .each me i .counters }) (f .mine) refl
         (λ t. meant (subst T named-is t))
 
-    abbrev six : Comes → ℕ
-    six c = c .number
-
     pub number-is : me < 32 → p .answer ≡ comes w E .number
-    unfolding comesTo dueOf
+    unfolding dueOf
     number-is i = go (exists w E) refl
       where
         go : (c : Bool) → exists w E ≡ c → p .answer ≡ comes w E .number
-        go true e = planned i .answer ∙ ap (λ (y : Comes). y .number) (comes-is (is-T _ e))
+        go true e = planned i .answer ∙ ap (λ (y : Due). y .number) (comes-is (is-T _ e))
         go false e =
-            planned i .answer ∙ ap (λ (c : Bool). comesTo (networkOf (s .net)) me c (ruleAt me K k x H) H .number) (named-is ∙ e)
-            ∙ sym (ap (λ (y : Comes). y .number) (absent-six w E (subst⁻¹ (λ (t : Bool). T (not t)) e tt)))
+            planned i .answer ∙ ap (λ (c : Bool). dueOf c (ruleAt me K k x H) (st .condition) .number) (named-is ∙ e)
+            ∙ sym (ap (λ (y : Due). y .number) (absent-six w E (subst⁻¹ (λ (t : Bool). T (not t)) e tt)))
 
     -- where the plan refuses nothing
     module _ (i : me < 32) (z : comes w E .number ≡ 0) where
       pub there : T (exists w E)
       there = passes w E z .exists
 
-      pub acts : Acts (s .net) me st (roomOf K st) (comes w E .done) (comes w E .counts) p
-      acts = subst (λ (y : Comes). Planned (s .net) me st (roomOf K st) y p) (comes-is there) (planned i) .done z
+      pub acts : Acts (s .net) me st (roomOf K st) (done w E) (comes w E .counts) p
+      acts =
+          subst (λ (d : Done). Acts (s .net) me st (roomOf K st) d (comes w E .counts) p) (done-is there)
+          (subst (λ (y : Due). Planned (s .net) me st (roomOf K st) y p) (comes-is there) (planned i) .done z)

@@ -29,7 +29,7 @@ use Rattle.station_plan.specs.declared.Plan.{Plan}
 use Rattle.station_plan.specs.Carrying.{keptBy, narrowed}
 use Rattle.station_plan.specs.Plans.{toldIn, stationBy, lettersBy}
 use Rattle.station_plan.specs.Comes.{roomOf}
-use Rattle.world.specs.World.{World, Event, noLetter, exists, concerned, comes, leftBy, left, after, fits, refusal}
+use Rattle.world.specs.World.{World, Event, noLetter, exists, concerned, comes, done, left, after, fits, refusal}
 use Rattle.world.proofs.There.{letter-there}
 use Rattle.world.proofs.Steps.{refused-there, passes-there, fits-is}
 use Rattle.state.specs.declared.State.{State}
@@ -161,14 +161,14 @@ module _ {s : State} {kind a b place me : ℕ} {named : Bool} {k about own : ℕ
         left-count (takesLetter (kindOf kind)) a (w .letters) taken-there
         ∙ ap₂ (λ (c : Bool) (n : ℕ). fewerBy c n) (sym (f .goes)) flying-is ∙ sym (f .stays)
 
-    sent-is : lettersOf me told send ≡ comes w E .done .sent
+    sent-is : lettersOf me told send ≡ done w E .sent
     unfolding lettersBy
     sent-is =
         ap₂ (λ (t : List ℕ) (x : Sending). lettersOf me t x) (f .tells)
         (f .sends ∙ ap (λ (t : List ℕ). narrowed (p .knows) (min (s .net .links) 64) t (p .sends)) (f .tells))
         ∙ K.acts (f .seen) (f .within) z .sent
 
-    count-is : count ≡ length (comes w E .done .sent)
+    count-is : count ≡ length (done w E .sent)
     count-is = f .counts ∙ ap length sent-is
 
     fitting : _≡_ {A = ℕ} (if ltb 4096 (left₀ + count) then 9 else 0) (if fits w E then 0 else 9)
@@ -222,7 +222,7 @@ module _ {s : State} {kind a b place me : ℕ} {named : Bool} {k about own : ℕ
     leftLetters = left w E
 
     abbrev pub newLetters : List Letter
-    newLetters = comes w E .done .sent
+    newLetters = done w E .sent
 
     pub left-length : length leftLetters ≡ left₀
     left-length = left-length₀ z₀
@@ -258,12 +258,12 @@ module _ {s : State} {kind a b place me : ℕ} {named : Bool} {k about own : ℕ
     stored kept = record { condition = p .condition; counters = kept; marks = p .marks }
 
     station-is : (kept : List ℕ) → kept ≡ keptBy (s .net) me (p .resets) (p .purges) told
-        → stored kept ≡ laid (s .net) blank (comes w E .done .holding)
+        → stored kept ≡ laid (s .net) blank (done w E .holding)
     unfolding stationBy
     station-is kept e =
         ap stored (e ∙ ap (keptBy (s .net) me (p .resets) (p .purges)) (f .tells))
         ∙ K.acts (f .seen) (f .within) z₀ .station
-        ∙ room-spare (s .net) (kindOf kind) st (comes w E .done .holding)
+        ∙ room-spare (s .net) (kindOf kind) st (done w E .holding)
         (M.station-spare s (f .seen .sized) (f .seen .holds) me (K.me-real (f .seen) named₀))
 
     pub stations-set : (kept : List ℕ) → kept ≡ keptBy (s .net) me (p .resets) (p .purges) told
@@ -271,9 +271,9 @@ module _ {s : State} {kind a b place me : ℕ} {named : Bool} {k about own : ℕ
     unfolding after
     stations-set kept e =
         ap₂ (λ (l : List Station) (x : Station). set l me x) old-stations (station-is kept e)
-        ∙ roomed-set 32 blank (map (laid (s .net) blank) (w .holdings)) me (laid (s .net) blank (comes w E .done .holding)) there-laid
-        ∙ ap (roomed 32 blank) (map-set (laid (s .net) blank) (w .holdings) me (comes w E .done .holding))
-        ∙ ap (λ (i : ℕ). roomed 32 blank (map (laid (s .net) blank) (set (w .holdings) i (comes w E .done .holding))))
+        ∙ roomed-set 32 blank (map (laid (s .net) blank) (w .holdings)) me (laid (s .net) blank (done w E .holding)) there-laid
+        ∙ ap (roomed 32 blank) (map-set (laid (s .net) blank) (w .holdings) me (done w E .holding))
+        ∙ ap (λ (i : ℕ). roomed 32 blank (map (laid (s .net) blank) (set (w .holdings) i (done w E .holding))))
         (K.me-is (f .seen) named₀)
       where
         there-laid : me < length (map (laid (s .net) blank) (w .holdings))

@@ -1,25 +1,21 @@
 -- A run of calls that are lent a tally: the tally after it is the one lent, with the history's counts of notices settled, counters
 -- raised and letters dropped added, each staying at its largest value.
 use Prim.Native.Nat.{ℕ}
-use mathlib.Core.Bool.{Bool}
+use mathlib.Core.Bool.{Bool, true, false}
 use mathlib.Core.Path.{_≡_, refl, ap, _∙_, subst⁻¹}
 use mathlib.Core.List.{List}
-use native.Mathlib.Decide.{ℕ-discrete}
-use borrow.Author.Tests.{ne-eqb}
 use lib.Dec.{eqb}
 use Rattle.lists.specs.Lists.{if_then_else_}
 use Rattle.tally.specs.declared.Tally.{Tally}
 use Rattle.tally.specs.Sums.{tallied}
-use Rattle.tally.specs.Plain.{noCounts}
-use Rattle.world.specs.World as World
-use Rattle.world.specs.World.{World, Event, Outcome, refused, accepted, step, after, refusal}
+use Rattle.tally.proofs.Plain.{noCounts}
+use Rattle.world.specs.World.{World, Event, accepted, refusal}
 use Rattle.world.specs.History.{run}
-use Rattle.world.proofs.Steps.{step-accepts, step-refuses}
 use Rattle.state.specs.declared.State.{State}
 use Rattle.state.specs.State.{worldOf}
 use Rattle.step_rules.specs.declared.Stepped.{Stepped}
 use Rattle.step_rules.specs.Step.{steppedOf}
-use Rattle.step_rules.proofs.Bridge.{Good, is-step, countsBy}
+use Rattle.step_rules.proofs.Bridge.{Good, is-step}
 use Rattle.laws.specs.Tallied.{acceptedCounts, countsOf, everCounted, tallyBy}
 use Rattle.laws.proofs.Tallies.{Fits}
 use Rattle.laws.proofs.Calls as C
@@ -40,19 +36,12 @@ LentCalls = C.LentCalls worldOf Lent
 abbrev by-number : ℕ → Tally → Tally → Tally
 by-number n c x = if eqb n 0 then tallied x c else x
 
-step-tallies : (w : World) (e : Event) (x : Tally)
-    → by-number (World.numberOf (step w e)) (countsOf w e) x ≡ tallyBy (step w e) x (acceptedCounts w e)
-step-tallies w e x = go (ℕ-discrete (refusal w e) 0)
+step-tallies : (w : World) (e : Event) (x : Tally) → by-number (refusal w e) (countsOf w e) x ≡ tallyBy (accepted w e) x (acceptedCounts w e)
+step-tallies w e x = go (accepted w e) (acceptedCounts w e)
   where
-    Goal : Outcome → Type 0
-    Goal o = by-number (World.numberOf o) (countsBy o w e) x ≡ tallyBy o x (acceptedCounts w e)
-
-    kept : (n : ℕ) → (n ≡ 0 → ⊥) → Goal (refused n)
-    kept n z = ap (λ (b : Bool). if b then tallied x noCounts else x) (ne-eqb n 0 z)
-
-    go : Dec (refusal w e ≡ 0) → Goal (step w e)
-    go (yes q) = subst⁻¹ Goal (step-accepts w e q) refl
-    go (no z) = subst⁻¹ Goal (step-refuses w e (refusal w e) refl z) (kept (refusal w e) z)
+    go : (b : Bool) (n : Tally) → (if b then tallied x (if b then n else noCounts) else x) ≡ tallyBy b x n
+    go true n = refl
+    go false n = refl
 
 pub one-lent : (s : State) (x : Tally) (e : Event) (t : State) (y : Tally) → Good s → Lent s x e t y
     → C.IsLentStep worldOf Lent Good s x e t y

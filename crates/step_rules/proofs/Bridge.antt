@@ -10,10 +10,8 @@ use Rattle.lists.proofs.Tests.{T-is}
 use Rattle.tally.specs.declared.Tally.{Tally}
 use Rattle.net.specs.Values.{networkOf}
 use Rattle.station.specs.Events.{counting}
-use Rattle.world.specs.World as W
-use Rattle.world.specs.World.{World, Event, Outcome, step, after, refusal, settled, raised, dropped}
-use Rattle.world.specs.History.{ifTaken, orElse, next}
-use Rattle.world.proofs.Steps.{step-accepts, step-refuses, step-number, taken, after-net}
+use Rattle.world.specs.World.{World, Event, accepted, next, after, refusal, settled, raised, dropped}
+use Rattle.world.proofs.Steps.{is-accepted, is-refused, step-accepts, step-refuses, taken, after-net}
 use Rattle.world.proofs.Keeps.{Formed, step-formed}
 use Rattle.world.proofs.OneRaised.{counts-are}
 use Rattle.state.specs.declared.State.{State}
@@ -29,17 +27,17 @@ pub record Good (s : State) : Type 0 where
   pub holds : T (stateHolds s)
 
 -- ---- what a step answers, by the world's step
--- what is counted of an event, by its outcome
-abbrev pub countsBy : Outcome → World → Event → Tally
-countsBy o w e = counting (ifTaken o (settled w e)) (ifTaken o (raised w e)) (ifTaken o (dropped w e))
+-- what is counted of an event, by whether it is accepted
+abbrev pub countsBy : Bool → World → Event → Tally
+countsBy taken w e = if taken then counting (settled w e) (raised w e) (dropped w e) else counting 0 0 0
 
 pub record IsStep (s : State) (e : Event) (r : Stepped) : Type 0 where
-  pub number : r .answer ≡ W.numberOf (step (worldOf s) e)
+  pub number : r .answer ≡ refusal (worldOf s) e
   pub world : worldOf (r .state) ≡ next (worldOf s) e
   pub good : Good (r .state)
   pub refused-same : (r .answer ≡ 0 → ⊥) → r .state ≡ s
   -- the notices that it settles, the counters that it leaves higher, over all stations and links, and the letters that it drops
-  pub counts : r .counts ≡ countsBy (step (worldOf s) e) (worldOf s) e
+  pub counts : r .counts ≡ countsBy (accepted (worldOf s) e) (worldOf s) e
 
 module _ (s : State) (kind a b : ℕ) where
   abbrev e : Event
@@ -71,27 +69,25 @@ module _ (s : State) (kind a b : ℕ) where
     -- ---- refused: the same state, nothing counted
     refusing-step : (refusal (worldOf s) e ≡ 0 → ⊥) → IsStep s e (refusing (refusal (worldOf s) e) s)
     refusing-step n =
-        let o : step (worldOf s) e ≡ W.refused (refusal (worldOf s) e) = step-refuses (worldOf s) e (refusal (worldOf s) e) refl n in
         record {
-          number = sym (step-number (worldOf s) e);
-          world = sym (ap (orElse (worldOf s)) o);
+          number = refl;
+          world = sym (step-refuses (worldOf s) e n);
           good = g;
           refused-same = λ m. refl;
-          counts = sym (ap (λ (x : Outcome). countsBy x (worldOf s) e) o);
+          counts = sym (ap (λ (x : Bool). countsBy x (worldOf s) e) (is-refused (worldOf s) e n));
         }
 
     -- ---- accepted: the world after the event, laid out
     accepting-step : refusal (worldOf s) e ≡ 0 → IsStep s e (accepting s e)
     accepting-step q =
-        let o : step (worldOf s) e ≡ W.accepted (after (worldOf s) e) = step-accepts (worldOf s) e q in
         let n = holds-net s (g .sized) (g .holds) in
         let u = world-formed s (g .sized) (g .holds) in
-        let there = taken (worldOf s) e (after (worldOf s) e) o .exists in
-        let f : Formed (after (worldOf s) e) = step-formed (worldOf s) e (after (worldOf s) e) u o in
+        let there = taken (worldOf s) e q .exists in
+        let f : Formed (after (worldOf s) e) = step-formed (worldOf s) e u q in
         let m : networkOf (s .net) ≡ after (worldOf s) e .net = sym (after-net (worldOf s) e ∙ net-is s (g .sized) (g .holds)) in
         record {
-          number = sym (ap W.numberOf o);
-          world = laid-means (s .net) (after (worldOf s) e) n m f ∙ sym (ap (orElse (worldOf s)) o);
+          number = sym q;
+          world = laid-means (s .net) (after (worldOf s) e) n m f ∙ sym (step-accepts (worldOf s) e q);
           good =
               record {
                 sized = laid-sized (s .net) (after (worldOf s) e) n m f (g .sized .ends);
@@ -99,7 +95,7 @@ module _ (s : State) (kind a b : ℕ) where
                     (after (worldOf s) e) n m f;
               };
           refused-same = λ z. absurd (z refl);
-          counts = counts-are (worldOf s) u e there ∙ sym (ap (λ (x : Outcome). countsBy x (worldOf s) e) o);
+          counts = counts-are (worldOf s) u e there ∙ sym (ap (λ (x : Bool). countsBy x (worldOf s) e) (is-accepted (worldOf s) e q));
         }
 
     pub is-step : IsStep s e (steppedOf s kind a b)

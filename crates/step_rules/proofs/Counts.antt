@@ -7,7 +7,7 @@ use lib.Dec.{eqb}
 use Rattle.lists.specs.Lists.{if_then_else_}
 use Rattle.tally.specs.declared.Tally.{Tally}
 use Rattle.tally.specs.Sums.{counted, tallied}
-use Rattle.tally.specs.Plain.{noCounts}
+use Rattle.tally.proofs.Plain.{noCounts}
 use Rattle.state.specs.declared.State.{State}
 use Rattle.step_rules.specs.declared.Stepped.{Stepped}
 use Rattle.step_rules.specs.Step.{event, refusing, accepting, numberOf, steppedOf}

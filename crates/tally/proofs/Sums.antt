@@ -4,7 +4,7 @@ use mathlib.Core.Path.{_≡_}
 use native.Mathlib.Omega.{arith}
 use Rattle.tally.specs.declared.Tally.{Tally}
 use Rattle.tally.specs.Sums.{largest, counted, tallied}
-use Rattle.tally.specs.Plain.{plus}
+use Rattle.tally.proofs.Plain.{plus}
 
 -- no count passes the largest value
 pub counted-fits : (count n : ℕ) → counted count n ≤ largest

@@ -1,13 +1,13 @@
 -- Each accepted step keeps the world well formed, and the world of a freshly read sheet is well formed.
 use Prim.Native.Nat.{ℕ, _≤_, _<_, zero-le}
-use mathlib.Core.Bool.{Bool, _&&_}
+use mathlib.Core.Bool.{Bool, true, false, _&&_}
 use mathlib.Core.Path.{_≡_, refl, _∙_, subst⁻¹}
 use mathlib.Core.List.{List, [], _∷_}
 use native.Mathlib.Decide.{ℕ-discrete}
 use lib.Dec.{T, eqb, leb, ltb, leb→le, le→leb, ltb→lt, eqb→eq}
 use lib.ListN.{length, getD, set, length-set}
 use lib.Seq.{getD-set-same, getD-set-other}
-use Rattle.lists.specs.Lists.{every, below}
+use Rattle.lists.specs.Lists.{if_then_else_, every, below}
 use Rattle.lists.proofs.Tests.{and-l, and-r, and-i, eq→eqb, every-at, if-elim}
 use Rattle.lists.proofs.Numbers.{below-at, at-below, getD-map-below, length-map-below}
 use Rattle.lists.proofs.Kept.{every-joined}
@@ -19,18 +19,18 @@ use Rattle.net.specs.Letters.{letterHolds, bodyHolds}
 use Rattle.station.specs.declared.Kind.{Kind}
 use Rattle.station.specs.declared.Kind.the-variants.{NoSuch, Start, Stop, Recovery, IntervalEnd, TimeoutEnd, QuietEnd, Delivery, Loss}
 use Rattle.station.specs.Holding.{Holding, holdingHolds}
-use Rattle.station.specs.Done.{stopped}
+use Rattle.station.proofs.Doing.{stopped}
 use Rattle.station.specs.Events.{kindOf, takesLetter}
 use Rattle.station.proofs.Keeps.{Kept, stopped-keeps}
 use Rattle.station.proofs.Rules as R
 use Rattle.station.proofs.Rules.{Names}
 use Rattle.world.specs.World.{World, Event, nobody, noLetter, holdingAt, letterAt, existsAs, exists, receiverIn}
-use Rattle.world.specs.World.{concernedBy, concerned, rule, comes, left, after, Outcome, refused, accepted, step}
+use Rattle.world.specs.World.{concernedBy, concerned, rule, comes, done, left, after, refusal, accepted, next}
 use Rattle.world.specs.World.{wellFormed, fresh}
-use Rattle.world.specs.History.{orElse, next, run}
+use Rattle.world.specs.History.{run}
 use Rattle.sheet_rules.proofs.Ends.{other-real, other-end}
 use Rattle.world.proofs.There.{letter-there, station-there, link-real, link-own}
-use Rattle.world.proofs.Steps.{taken}
+use Rattle.world.proofs.Steps.{accepted-zero, taken}
 
 -- ---- a well-formed world as facts
 pub record Formed (w : World) : Type 0 where
@@ -141,11 +141,11 @@ module _ (w : World) (f : Formed w) where
   names e x = names-as (w .net) (length (w .letters)) (e .a) (e .b) (letterAt w (e .a)) (at-holds w f (e .a)) (kindOf (e .kind)) x
 
   -- what the event comes to keeps the station, and sends letters that may travel
-  pub comes-keeps : (e : Event) → T (exists w e) → Kept (w .net) (concerned w e) (comes w e .done)
-  unfolding comes rule
+  pub comes-keeps : (e : Event) → T (exists w e) → Kept (w .net) (concerned w e) (done w e)
+  unfolding comes done rule
   comes-keeps e x =
       let s = concerned w e in
-      R.comes-keeps (w .net) s (holdingAt w s) (concerned-holds w f e x) (exists w e) (kindOf (e .kind)) (e .b) (letterAt w (e .a))
+      R.due-keeps (w .net) s (holdingAt w s) (concerned-holds w f e x) (exists w e) (kindOf (e .kind)) (e .b) (letterAt w (e .a))
       (names e)
 
   left-holds : (e : Event) → T (every (letterHolds (w .net)) (left w e))
@@ -164,22 +164,21 @@ module _ (w : World) (f : Formed w) where
       go (no e) = rw (getD-set-other (w .holdings) s r h nobody e) (f .each r m)
 
 -- EACH ACCEPTED STEP KEEPS THE WORLD WELL FORMED.
-pub step-formed : (w : World) (e : Event) (v : World) → Formed w → step w e ≡ accepted v → Formed v
+pub step-formed : (w : World) (e : Event) → Formed w → refusal w e ≡ 0 → Formed (after w e)
 unfolding after
-step-formed w e v f q =
-    let t = taken w e v q in
+step-formed w e f q =
+    let t = taken w e q in
     let k = comes-keeps w f e (t .exists) in
-    subst⁻¹ Formed (t .is)
-    (record {
+    record {
       sheet = f .sheet;
-      count = length-set (w .holdings) (concerned w e) (comes w e .done .holding) ∙ f .count;
-      each = stored-holds w f (concerned w e) (comes w e .done .holding) (concerned-real w f e (t .exists)) (k .holding);
+      count = length-set (w .holdings) (concerned w e) (done w e .holding) ∙ f .count;
+      each = stored-holds w f (concerned w e) (done w e .holding) (concerned-real w f e (t .exists)) (k .holding);
       room = t .room;
-      posted = every-joined (letterHolds (w .net)) (left w e) (comes w e .done .sent) (left-holds w f e) (k .sent);
-    })
+      posted = every-joined (letterHolds (w .net)) (left w e) (done w e .sent) (left-holds w f e) (k .sent);
+    }
 
-pub step-keeps : (w : World) (e : Event) (v : World) → T (wellFormed w) → step w e ≡ accepted v → T (wellFormed v)
-step-keeps w e v t q = well v (step-formed w e v (formed w t) q)
+pub step-keeps : (w : World) (e : Event) → T (wellFormed w) → refusal w e ≡ 0 → T (wellFormed (after w e))
+step-keeps w e t q = well (after w e) (step-formed w e (formed w t) q)
 
 -- THE WORLD RIGHT AFTER READING A SHEET IS WELL FORMED.
 pub fresh-formed : (net : Network) → T (sheetHolds net) → Formed (fresh net)
@@ -200,11 +199,11 @@ fresh-well net t = well (fresh net) (fresh-formed net t)
 
 -- AND SO EVERY WORLD OF A HISTORY: a refused event changes nothing.
 pub next-keeps : (w : World) (e : Event) → T (wellFormed w) → T (wellFormed (next w e))
-next-keeps w e t = go (step w e) refl
+next-keeps w e t = go (accepted w e) refl
   where
-    go : (o : Outcome) → step w e ≡ o → T (wellFormed (orElse w o))
-    go (refused n) q = t
-    go (accepted v) q = step-keeps w e v t q
+    go : (b : Bool) → accepted w e ≡ b → T (wellFormed (if b then after w e else w))
+    go true q = step-keeps w e t (accepted-zero w e q)
+    go false q = t
 
 pub run-keeps : (w : World) (es : List Event) → T (wellFormed w) → T (wellFormed (run w es))
 unfolding run

@@ -10,9 +10,9 @@ use Rattle.lists.proofs.OneSum.{sum-only}
 use Rattle.tally.specs.declared.Tally.{Tally}
 use Rattle.station.specs.Holding.{Holding}
 use Rattle.station.specs.Events.{kindOf, counting}
-use Rattle.station.proofs.Rules.{risen-same, rule-one, comes-raises}
-use Rattle.world.specs.World.{World, Event, nobody, holdingAt, letterAt, exists, concerned, rule, comes, after, accepted}
-use Rattle.world.specs.World.{step, higher, settled, raised, dropped}
+use Rattle.station.proofs.Rules.{risen-same, rule-one, due-raises}
+use Rattle.world.specs.World.{World, Event, nobody, holdingAt, letterAt, exists, concerned, rule, comes, done, after, refusal}
+use Rattle.world.specs.World.{higher, settled, raised, dropped}
 use Rattle.world.proofs.Steps.{taken}
 use Rattle.world.proofs.Keeps.{Formed, concerned-real, concerned-holds, names}
 
@@ -31,24 +31,24 @@ module _ (w : World) (f : Formed w) where
   module _ (e : Event) (x : T (exists w e)) where
     -- THE COUNTERS THAT AN EVENT LEAVES HIGHER, OVER ALL STATIONS AND LINKS, ARE AS MANY AS ITS RULE COUNTS,
     pub raised-counted : raised w e ≡ comes w e .counts .raised
-    unfolding raised after comes rule
+    unfolding raised after comes done rule
     raised-counted =
         let s = concerned w e in
         let h = holdingAt w s in
         let real = concerned-real w f e x in
-        stored-raises s (comes w e .done .holding) real
-        ∙ comes-raises (w .net) s h (concerned-holds w f e x) (exists w e) (kindOf (e .kind)) (e .b) (letterAt w (e .a)) (names w f e) real
+        stored-raises s (done w e .holding) real
+        ∙ due-raises (w .net) s h (concerned-holds w f e x) (exists w e) (kindOf (e .kind)) (e .b) (letterAt w (e .a)) (names w f e) real
 
     -- and so the three numbers of the tally are the rule's
     pub counts-are : comes w e .counts ≡ counting (settled w e) (raised w e) (dropped w e)
     counts-are = ap (λ (n : ℕ). counting (settled w e) n (dropped w e)) (sym raised-counted)
 
-pub raised-is : (w : World) (e : Event) (v : World) → Formed w → step w e ≡ accepted v → raised w e ≡ rule w e .counts .raised
-raised-is w e v f q = let t = taken w e v q in raised-counted w f e (t .exists) ∙ ap (λ (c : Tally). c .raised) (t .counts)
+pub raised-is : (w : World) (e : Event) → Formed w → refusal w e ≡ 0 → raised w e ≡ rule w e .counts .raised
+raised-is w e f q = let t = taken w e q in raised-counted w f e (t .exists) ∙ ap (λ (c : Tally). c .raised) (t .counts)
 
 -- AN ACCEPTED EVENT RAISES ONE COUNTER AT THE MOST.
-pub one-raised : (w : World) (e : Event) (v : World) → Formed w → step w e ≡ accepted v → raised w e ≤ 1
+pub one-raised : (w : World) (e : Event) → Formed w → refusal w e ≡ 0 → raised w e ≤ 1
 unfolding rule
-one-raised w e v f q =
-    subst⁻¹ (λ (n : ℕ). n ≤ 1) (raised-is w e v f q)
+one-raised w e f q =
+    subst⁻¹ (λ (n : ℕ). n ≤ 1) (raised-is w e f q)
     (rule-one (concerned w e) (kindOf (e .kind)) (e .b) (letterAt w (e .a)) (holdingAt w (concerned w e)))

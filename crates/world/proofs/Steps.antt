@@ -9,31 +9,30 @@ use lib.Dec.{T, eqb, ltb, leb, leb→le, eqb→eq}
 use lib.ListN.{length, length-append}
 use Rattle.lists.specs.Lists.{if_then_else_}
 use Rattle.lists.proofs.Tests.{T-is, T-not-is, if-elim}
-use Rattle.station.specs.Holding.{Holding, isLive}
+use Rattle.station.specs.declared.Condition.{Condition}
+use Rattle.station.specs.Holding.{isLive}
 use Rattle.station.specs.declared.Kind.the-variants.{Delivery}
-use Rattle.station.specs.Events.{Rule, Comes, comesTo}
+use Rattle.station.specs.Events.{Rule, Due, refusing, dueOf}
 use Rattle.station.specs.Done.{doneBy}
-use Rattle.station.proofs.Doing.{refusedWith}
 use Rattle.station.proofs.Answers.{heard}
 use Rattle.station.proofs.Tallies as Tallies
 use Rattle.station.proofs.Rules as R
-use Rattle.station.proofs.Rules.{comes-why, why-comes, comes-done}
-use Rattle.world.specs.World.{World, Event, holdingAt, letterAt, receiverIn, existsAs, exists, concerned, rule, allowed}
-use Rattle.world.specs.World.{over, comes, left, after, fits, refusal, refused, accepted, numberOf, step, askRefusal}
-use Rattle.world.specs.History.{orElse, next}
+use Rattle.station.proofs.Rules.{due-why, why-due, due-done}
+use Rattle.world.specs.World.{World, Event, holdingAt, letterAt, receiverIn, existsAs, exists, concerned, rule}
+use Rattle.world.specs.World.{comes, done, left, after, fits, refusal, accepted, next, askRefusal}
 
 module _ (w : World) (e : Event) where
   -- ---- what each answer says of the event
   pub data Why : ℕ → Type 0 where
-    none : T (exists w e) → T (allowed w e) → T (not (over w e)) → T (fits w e) → Why 0
+    none : T (exists w e) → T (rule w e .allowed) → T (not (rule w e .over)) → T (fits w e) → Why 0
     six : T (not (exists w e)) → Why 6
-    seven : T (exists w e) → T (not (allowed w e)) → Why 7
-    eight : T (exists w e) → T (allowed w e) → T (over w e) → Why 8
-    nine : T (exists w e) → T (allowed w e) → T (not (over w e)) → T (not (fits w e)) → Why 9
+    seven : T (exists w e) → T (not (rule w e .allowed)) → Why 7
+    eight : T (exists w e) → T (rule w e .allowed) → T (rule w e .over) → Why 8
+    nine : T (exists w e) → T (rule w e .allowed) → T (not (rule w e .over)) → T (not (fits w e)) → Why 9
 
   -- by what it comes to at its station (station's Rules), and the room for letters
-  abbrev there : Holding
-  there = holdingAt w (concerned w e)
+  abbrev there : Condition
+  there = holdingAt w (concerned w e) .condition
 
   abbrev numbered : ℕ → ℕ
   numbered n = if eqb n 0 then (if fits w e then 0 else 9) else n
@@ -46,12 +45,12 @@ module _ (w : World) (e : Event) where
 
   refusal-by : {n : ℕ} → R.Why (exists w e) (rule w e) n → refusal w e ≡ numbered n
   unfolding refusal comes
-  refusal-by y = ap numbered (why-comes (exists w e) (rule w e) (w .net) (concerned w e) there y)
+  refusal-by y = ap numbered (why-due (exists w e) (rule w e) there y)
 
   -- only then: the number is given for its reason
   pub refusal-why : Why (refusal w e)
   unfolding refusal comes
-  refusal-why = why-by (comes-why (exists w e) (rule w e) (w .net) (concerned w e) there)
+  refusal-why = why-by (due-why (exists w e) (rule w e) there)
 
   -- when: where the reason holds, the number is given
   pub why-refusal : {n : ℕ} → Why n → refusal w e ≡ n
@@ -71,31 +70,37 @@ module _ (w : World) (e : Event) where
   passes-there z = ap (λ (b : Bool). if b then (if fits w e then 0 else 9) else comes w e .number) (eq-eqb (comes w e .number) 0 z)
 
   -- the room: the letters that stay and those that are sent
-  pub fits-is : fits w e ≡ leb (length (left w e) + length (comes w e .done .sent)) 4096
+  pub fits-is : fits w e ≡ leb (length (left w e) + length (done w e .sent)) 4096
   unfolding fits after
-  fits-is = ap (λ (n : ℕ). leb n 4096) (length-append (left w e) (comes w e .done .sent))
+  fits-is = ap (λ (n : ℕ). leb n 4096) (length-append (left w e) (done w e .sent))
 
   -- ---- an event that its station does not refuse: there is what it names, it is allowed, no counter would be 65,536, and it comes to
   -- what the rule of its kind does and counts
   pub record Passes : Type 0 where
     pub exists : T (exists w e)
-    pub allowed : T (allowed w e)
-    pub holds : T (not (over w e))
-    pub done : comes w e .done ≡ doneBy (w .net) (concerned w e) (holdingAt w (concerned w e)) (rule w e .act)
+    pub allowed : T (rule w e .allowed)
+    pub holds : T (not (rule w e .over))
+    pub done : done w e ≡ doneBy (w .net) (concerned w e) (holdingAt w (concerned w e)) (rule w e .act)
     pub counts : comes w e .counts ≡ rule w e .counts
 
   passes-by : {n : ℕ} → R.Why (exists w e) (rule w e) n → n ≡ 0 → Passes
-  unfolding comes
+  unfolding comes done
   passes-by (R.none p q o) z =
-      let c = comes-done (exists w e) (rule w e) (w .net) (concerned w e) there p q o in
-      record { exists = p; allowed = q; holds = o; done = ap (λ (x : Comes). x .done) c; counts = ap (λ (x : Comes). x .counts) c }
+      let c = due-done (exists w e) (rule w e) there p q o in
+      record {
+        exists = p;
+        allowed = q;
+        holds = o;
+        done = ap (λ (x : Due). doneBy (w .net) (concerned w e) (holdingAt w (concerned w e)) (x .act)) c;
+        counts = ap (λ (x : Due). x .counts) c;
+      }
   passes-by (R.six p) z = absurd (omega arith)
   passes-by (R.seven p q) z = absurd (omega arith)
   passes-by (R.eight p q o) z = absurd (omega arith)
 
   pub passes : comes w e .number ≡ 0 → Passes
   unfolding comes
-  passes z = passes-by (comes-why (exists w e) (rule w e) (w .net) (concerned w e) there) z
+  passes z = passes-by (due-why (exists w e) (rule w e) there) z
 
   number-by : {n : ℕ} → R.Why (exists w e) (rule w e) n → numbered n ≡ 0 → n ≡ 0
   number-by (R.none p q o) z = refl
@@ -106,41 +111,36 @@ module _ (w : World) (e : Event) where
   -- every accepted event is such a one
   pub accepted-passes : refusal w e ≡ 0 → comes w e .number ≡ 0
   unfolding refusal comes
-  accepted-passes z = number-by (comes-why (exists w e) (rule w e) (w .net) (concerned w e) there) z
+  accepted-passes z = number-by (due-why (exists w e) (rule w e) there) z
 
   -- there is no such thing: 6, whatever station was looked at, and nothing is done
-  pub absent-six : T (not (exists w e)) → comes w e ≡ refusedWith 6 (holdingAt w (concerned w e))
+  pub absent-six : T (not (exists w e)) → comes w e ≡ refusing 6 there
   unfolding comes
-  absent-six n = R.comes-six (exists w e) (rule w e) (w .net) (concerned w e) there n
+  absent-six n = R.due-six (exists w e) (rule w e) there n
 
   -- ---- the step by its number
-  pub step-accepts : refusal w e ≡ 0 → step w e ≡ accepted (after w e)
-  unfolding step
-  step-accepts p = ap (λ (n : ℕ). if eqb n 0 then accepted (after w e) else refused n) p
+  pub is-accepted : refusal w e ≡ 0 → accepted w e ≡ true
+  is-accepted p = eq-eqb (refusal w e) 0 p
 
-  pub step-refuses : (n : ℕ) → refusal w e ≡ n → (n ≡ 0 → ⊥) → step w e ≡ refused n
-  unfolding step
-  step-refuses n p h = ap (λ (n : ℕ). if eqb n 0 then accepted (after w e) else refused n) p ∙ simp (ne-eqb n 0 h)
+  pub accepted-zero : accepted w e ≡ true → refusal w e ≡ 0
+  accepted-zero p = eqb→eq (refusal w e) 0 (subst⁻¹ T p tt)
 
-  pub step-number : numberOf (step w e) ≡ refusal w e
-  unfolding step
-  step-number = go (eqb (refusal w e) 0) refl
-    where
-      go : (b : Bool) → eqb (refusal w e) 0 ≡ b → numberOf (if b then accepted (after w e) else refused (refusal w e)) ≡ refusal w e
-      go true i = sym (eqb→eq (refusal w e) 0 (subst⁻¹ T i tt))
-      go false i = refl
+  pub step-accepts : refusal w e ≡ 0 → next w e ≡ after w e
+  step-accepts p = ap (λ (b : Bool). if b then after w e else w) (is-accepted p)
 
   -- a refusal hands back the world it was given
-  pub refused-stays : (n : ℕ) → step w e ≡ refused n → next w e ≡ w
-  refused-stays n q = ap (orElse w) q
+  pub is-refused : (refusal w e ≡ 0 → ⊥) → accepted w e ≡ false
+  is-refused n = ne-eqb (refusal w e) 0 n
 
-  -- ---- an accepted event: nothing refuses it, what it comes to is what the rule of its kind does and counts, and the world after it
-  pub record Taken (v : World) : Type 0 where
-    pub is : v ≡ after w e
+  pub step-refuses : (refusal w e ≡ 0 → ⊥) → next w e ≡ w
+  step-refuses n = ap (λ (b : Bool). if b then after w e else w) (is-refused n)
+
+  -- ---- an accepted event: nothing refuses it, what it comes to is what the rule of its kind does and counts, and there is room
+  pub record Taken : Type 0 where
     pub exists : T (exists w e)
-    pub allowed : T (allowed w e)
-    pub holds : T (not (over w e))
-    pub done : comes w e .done ≡ doneBy (w .net) (concerned w e) (holdingAt w (concerned w e)) (rule w e .act)
+    pub allowed : T (rule w e .allowed)
+    pub holds : T (not (rule w e .over))
+    pub done : done w e ≡ doneBy (w .net) (concerned w e) (holdingAt w (concerned w e)) (rule w e .act)
     pub counts : comes w e .counts ≡ rule w e .counts
     pub room : length (after w e .letters) ≤ 4096
 
@@ -151,12 +151,11 @@ module _ (w : World) (e : Event) where
   why-fits (eight p q r) z = absurd (omega arith)
   why-fits (nine p q r t) z = absurd (omega arith)
 
-  pub taken-as : (v : World) → v ≡ after w e → refusal w e ≡ 0 → Taken v
+  pub taken : refusal w e ≡ 0 → Taken
   unfolding fits
-  taken-as v i z =
+  taken z =
       let p = passes (accepted-passes z) in
       record {
-        is = i;
         exists = p .exists;
         allowed = p .allowed;
         holds = p .holds;
@@ -164,17 +163,6 @@ module _ (w : World) (e : Event) where
         counts = p .counts;
         room = leb→le (length (after w e .letters)) 4096 (why-fits refusal-why z);
       }
-
-  pub taken : (v : World) → step w e ≡ accepted v → Taken v
-  unfolding step
-  taken v q = go (eqb (refusal w e) 0) refl q
-    where
-      go : (b : Bool) → eqb (refusal w e) 0 ≡ b → (if b then accepted (after w e) else refused (refusal w e)) ≡ accepted v → Taken v
-      go true i r = taken-as v (cc) (eqb→eq (refusal w e) 0 (subst⁻¹ T i tt))
-      go false i r = absurd (never r)
-        where
-          never : refused (refusal w e) ≡ accepted v → ⊥
-          never p = let z : _≡_ {A = ℕ} 0 1 = cc in omega arith
 
   -- the network stays
   pub after-net : after w e .net ≡ w .net
@@ -191,11 +179,11 @@ module _ (w : World) (a b : ℕ) where
 
   pub unheard-is-lost : T deaf → comes w (record { kind = 7; a = a; b = b }) ≡ comes w (record { kind = 8; a = a; b = b })
   unfolding comes exists rule concerned
-  unheard-is-lost t = ap (λ (r : Rule). comesTo (w .net) to (existsAs Delivery (w .net) (length (w .letters)) a b) r (holdingAt w to))
+  unheard-is-lost t = ap (λ (r : Rule). dueOf (existsAs Delivery (w .net) (length (w .letters)) a b) r (holdingAt w to .condition))
       (Tallies.unheard-is-lost to b (letterAt w a) (holdingAt w to) t)
 
   pub unheard-leaves : T deaf → after w (record { kind = 7; a = a; b = b }) ≡ after w (record { kind = 8; a = a; b = b })
-  unfolding after left concerned
+  unfolding after done left concerned
   unheard-leaves t = rw (unheard-is-lost t)
 
 -- ---- the report and the reach: 6 for no such station, 7 for one that isn't live, else 0

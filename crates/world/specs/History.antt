@@ -3,23 +3,12 @@
 use Prim.Native.Nat.{ℕ, _+_}
 use mathlib.Core.List.{List, [], _∷_}
 use lib.ListN.{length}
+use Rattle.lists.specs.Lists.{if_then_else_}
 use Rattle.lists.specs.Words.{bit}
 use Rattle.station.specs.Events.{kindOf, delivers, loses}
-use Rattle.world.specs.World.{World, Event, comes, Outcome, refused, accepted, step, settled, raised, dropped}
+use Rattle.world.specs.World.{World, Event, done, accepted, next, settled, raised, dropped}
 
--- the world after an outcome, and what counts of an event by its outcome
-abbrev pub orElse : World → Outcome → World
-orElse w (refused n) = w
-orElse w (accepted v) = v
-
-abbrev pub ifTaken : Outcome → ℕ → ℕ
-ifTaken (refused n) c = 0
-ifTaken (accepted v) c = c
-
--- the world after one event, and after all of them
-abbrev pub next : World → Event → World
-next w e = orElse w (step w e)
-
+-- the world after all of them
 unfoldable pub run : World → List Event → World
 run w [] = w
 run w (e ∷ es) = run (next w e) es
@@ -27,11 +16,11 @@ run w (e ∷ es) = run (next w e) es
 -- what f counts of each accepted event, added up over the history
 unfoldable pub total : (World → Event → ℕ) → World → List Event → ℕ
 total f w [] = 0
-total f w (e ∷ es) = ifTaken (step w e) (f w e) + total f (next w e) es
+total f w (e ∷ es) = (if accepted w e then f w e else 0) + total f (next w e) es
 
 -- ---- one event's letters
 unfoldable pub sent : World → Event → ℕ
-sent w e = length (comes w e .done .sent)
+sent w e = length (done w e .sent)
 
 -- ---- the counts of a history: letters ever sent, delivered and lost; notices settled, counters raised, letters dropped
 abbrev pub everSent : World → List Event → ℕ

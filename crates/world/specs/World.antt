@@ -2,7 +2,7 @@
 -- it leaves. Document 01, "The eight events" and "The numbers that say no". Here lists have exactly the used length: that unused room is
 -- zero (11) is said where values are read as worlds. A run of events: History.antt.
 use Prim.Native.Nat.{ℕ}
-use mathlib.Core.Bool.{Bool, false, not, _&&_}
+use mathlib.Core.Bool.{Bool, not, _&&_}
 use mathlib.Core.List.{List, [], _++_, map}
 use lib.Dec.{eqb, ltb, leb}
 use lib.ListN.{length, getD, set}
@@ -17,11 +17,11 @@ use Rattle.net.specs.Letters.{letterHolds}
 use Rattle.reach.specs.Reach.{worksIn, reach, countOf, lowestOf, report}
 use Rattle.reach.specs.declared.Reached.{Reached}
 use Rattle.station.specs.declared.Kind.{Kind}
-use Rattle.station.specs.declared.Kind.the-variants.{NoSuch, Start, Stop, Recovery, IntervalEnd, TimeoutEnd, QuietEnd, Delivery, Loss}
 use Rattle.station.specs.Holding.{Holding, counter, isLive, holdingHolds}
 pub use Rattle.station.specs.Holding.{nobody}
-use Rattle.station.specs.Done.{stopped}
-use Rattle.station.specs.Events.{kindOf, takesLetter, isNotice, Rule, ruleAt, Comes, comesTo}
+use Rattle.station.specs.Acts.{stopAct}
+use Rattle.station.specs.Done.{Done, doneBy}
+use Rattle.station.specs.Events.{kindOf, kindNumber, takesLetter, isNotice, Rule, ruleAt, Due, dueOf}
 
 -- what there is at one moment: what each station holds, and the letters in flight in their order
 pub record World : Type 0 where
@@ -48,17 +48,11 @@ letterAt w a = getD (w .letters) a noLetter
 abbrev pub isLinkAt : Network → ℕ → ℕ → Bool
 isLinkAt net a b = ltb b (length (net .links)) && isEnd net b a
 
--- in a network with so many letters in flight
+-- in a network with so many letters in flight: events 7 and 8 name one of them, 4 to 6 a station and a link there, 1 to 3 a station
 abbrev pub existsAs : Kind → Network → ℕ → ℕ → ℕ → Bool
-existsAs NoSuch net flying a b = false
-existsAs Start net flying a b = ltb a (net .stations) && eqb b 0
-existsAs Stop net flying a b = ltb a (net .stations) && eqb b 0
-existsAs Recovery net flying a b = ltb a (net .stations) && eqb b 0
-existsAs IntervalEnd net flying a b = ltb a (net .stations) && isLinkAt net a b
-existsAs TimeoutEnd net flying a b = ltb a (net .stations) && isLinkAt net a b
-existsAs QuietEnd net flying a b = ltb a (net .stations) && isLinkAt net a b
-existsAs Delivery net flying a b = ltb a flying && eqb b 0
-existsAs Loss net flying a b = ltb a flying && eqb b 0
+existsAs k net flying a b =
+    if takesLetter k then ltb a flying && eqb b 0
+    else (ltb 0 (kindNumber k) && ltb a (net .stations) && (if ltb 3 (kindNumber k) then isLinkAt net a b else eqb b 0))
 
 unfoldable pub exists : World → Event → Bool
 exists w e = existsAs (kindOf (e .kind)) (w .net) (length (w .letters)) (e .a) (e .b)
@@ -73,51 +67,38 @@ concernedBy k net a x = if takesLetter k then receiverIn net x else a
 unfoldable pub concerned : World → Event → ℕ
 concerned w e = concernedBy (kindOf (e .kind)) (w .net) (e .a) (letterAt w (e .a))
 
--- ---- what it comes to there: 7, 8, or what is done
+-- ---- what it comes to there: 6, 7, 8, or what is done
 unfoldable pub rule : World → Event → Rule
 rule w e = ruleAt (concerned w e) (kindOf (e .kind)) (e .b) (letterAt w (e .a)) (holdingAt w (concerned w e))
 
-abbrev pub allowed : World → Event → Bool
-allowed w e = rule w e .allowed
+unfoldable pub comes : World → Event → Due
+comes w e = dueOf (exists w e) (rule w e) (holdingAt w (concerned w e) .condition)
 
-abbrev pub over : World → Event → Bool
-over w e = rule w e .over
-
-unfoldable pub comes : World → Event → Comes
-comes w e = comesTo (w .net) (concerned w e) (exists w e) (rule w e) (holdingAt w (concerned w e))
+unfoldable pub done : World → Event → Done
+done w e = doneBy (w .net) (concerned w e) (holdingAt w (concerned w e)) (comes w e .act)
 
 -- ---- the world after it: the station stored; a letter that is delivered or lost leaves the list, the later ones close up, and new
 -- letters go to the end
-abbrev pub leftBy : Kind → ℕ → List Letter → List Letter
-leftBy k a xs = if takesLetter k then without a xs else xs
-
 unfoldable pub left : World → Event → List Letter
-left w e = leftBy (kindOf (e .kind)) (e .a) (w .letters)
+left w e = if takesLetter (kindOf (e .kind)) then without (e .a) (w .letters) else w .letters
 
 unfoldable pub after : World → Event → World
-after w e =
-    let d = comes w e .done in
-    record { net = w .net; holdings = set (w .holdings) (concerned w e) (d .holding); letters = left w e ++ d .sent }
+after w e = record { net = w .net; holdings = set (w .holdings) (concerned w e) (done w e .holding); letters = left w e ++ done w e .sent }
 
 -- ---- 9: more than 4,096 letters would be in flight after the event
 unfoldable pub fits : World → Event → Bool
 fits w e = leb (length (after w e .letters)) 4096
 
--- ---- the step: refusals in their order, or the world after the event
+-- ---- the step. It answers the number that refuses the event, the first in their order, or 0 for one that is accepted
 unfoldable pub refusal : World → Event → ℕ
 refusal w e = if eqb (comes w e .number) 0 then (if fits w e then 0 else 9) else comes w e .number
 
-pub data Outcome : Type 0 where
-  refused : ℕ → Outcome
-  accepted : World → Outcome
+abbrev pub accepted : World → Event → Bool
+accepted w e = eqb (refusal w e) 0
 
--- the paper's number of an outcome: acceptance is 0
-abbrev pub numberOf : Outcome → ℕ
-numberOf (refused n) = n
-numberOf (accepted v) = 0
-
-unfoldable pub step : World → Event → Outcome
-step w e = if eqb (refusal w e) 0 then accepted (after w e) else refused (refusal w e)
+-- it leaves the world after the event, or the very world where the event is refused
+abbrev pub next : World → Event → World
+next w e = if accepted w e then after w e else w
 
 -- ---- well formed, and the world right after reading a sheet
 unfoldable pub wellFormed : World → Bool
@@ -128,7 +109,7 @@ wellFormed w =
 
 -- every station is down and no letter is in flight
 unfoldable pub fresh : Network → World
-fresh net = record { net = net; holdings = map (λ s. stopped net s .holding) (below (net .stations)); letters = [] }
+fresh net = record { net = net; holdings = map (λ s. doneBy net s nobody stopAct .holding) (below (net .stations)); letters = [] }
 
 -- ---- the tally's three numbers of an accepted event
 -- how many of some letters are notices

@@ -1,6 +1,5 @@
 use mathlib.Core.Path.{sym, ap, _∙_}
 use Rattle.station.specs.declared.Heard.{Heard}
-use Rattle.station.specs.Events.{dueOf}
 use Rattle.station_plan.specs.Plans.{dropPlan}
 use borrow.Author.Needs.{needs}
 use Rattle.station_event.proofs.plan_drop.Statement.{statement}
@@ -31,25 +30,25 @@ staying-requires-4 : tie.Need-staying-requires-4
 staying-requires-4 c κs = search needs
 
 returns : tie.Need-returns
-unfolding dropPlan dueOf
+unfolding dropPlan
 returns c =
     let a = c .before .before .before .args in
     c .staying .ensures ∙ sym (ap (λ (y : Heard). dropPlan y (a .settled) (a .condition) (a .w)) (c .before .enum-told .given .1))
 
 returns-2 : tie.Need-returns-2
-unfolding dropPlan dueOf
+unfolding dropPlan
 returns-2 c =
     let a = c .before .before .before .args in
     c .staying2 .ensures ∙ sym (ap (λ (y : Heard). dropPlan y (a .settled) (a .condition) (a .w)) (c .before .enum-told2 .given .1))
 
 returns-3 : tie.Need-returns-3
-unfolding dropPlan dueOf
+unfolding dropPlan
 returns-3 c =
     let a = c .before .before .before .args in
     c .staying3 .ensures ∙ sym (ap (λ (y : Heard). dropPlan y (a .settled) (a .condition) (a .w)) (c .before .enum-told3 .given .1))
 
 returns-4 : tie.Need-returns-4
-unfolding dropPlan dueOf
+unfolding dropPlan
 returns-4 c =
     let a = c .before .before .before .args in
     c .staying4 .ensures ∙ sym (ap (λ (y : Heard). dropPlan y (a .settled) (a .condition) (a .w)) (c .before .enum-told4 .given .1))

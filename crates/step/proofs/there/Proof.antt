@@ -62,7 +62,9 @@ letter-named-requires-2 : tie.Need-letter-named-requires-2
 letter-named-requires-2 c κs = search needs
 
 returns : tie.Need-returns
-returns c = search needs
+returns c =
+    let a = c .before .before .args in
+    ap (λ (e : Kind). existsAs e (networkOf (a .net)) (a .flying) (a .a) (a .b)) (sym (c .enum-told .given .1))
 
 returns-2 : tie.Need-returns-2
 returns-2 c =
