@@ -23,11 +23,11 @@ use Rattle.sheet.proofs.Laws.{read-holds}
 use Rattle.sheet.proofs.ValueLaws.{low-long, high-long}
 use Rattle.station.specs.declared.Kind.{Kind}
 use Rattle.station.specs.declared.Kind.the-variants.{NoSuch, Start, Stop, Recovery, IntervalEnd, TimeoutEnd, QuietEnd, Delivery, Loss}
-use Rattle.station.specs.Holding.{counter, isLive}
+use Rattle.station.specs.Holding.{counter, higher, isLive}
 use Rattle.station.specs.Events.{kindOf, delivers, loses, takesLetter, isNotice}
 use Rattle.station.proofs.Tallies.{rule-settles, rule-drops}
 use Rattle.world.specs.World.{World, Event, holdingAt, receiverIn, concernedBy, concerned, rule, comes, refusal}
-use Rattle.world.specs.World.{fresh, noticesOf, higher, raised}
+use Rattle.world.specs.World.{fresh, noticesOf, raised}
 use Rattle.world.specs.History.{everSent, everDelivered, everLost}
 use Rattle.world.proofs.Steps.{is-accepted, step-accepts, taken}
 use Rattle.state.specs.declared.State.{State}

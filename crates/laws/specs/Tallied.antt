@@ -7,7 +7,7 @@ use Rattle.tally.specs.declared.Tally.{Tally}
 use Rattle.tally.specs.Sums.{tallied}
 use Rattle.station.specs.Events.{counting}
 use Rattle.world.specs.World.{World, Event, accepted, next, settled, raised, dropped}
-use Rattle.world.specs.History.{everSettled, everRaised, everDropped}
+use Rattle.world.specs.History.{total}
 
 -- ---- notices settled, counters raised, letters dropped
 -- of an event that is accepted
@@ -20,7 +20,7 @@ countsOf w e = if accepted w e then acceptedCounts w e else counting 0 0 0
 
 -- of a history: three sums that nothing bounds
 abbrev pub everCounted : World → List Event → Tally
-everCounted w es = counting (everSettled w es) (everRaised w es) (everDropped w es)
+everCounted w es = counting (total settled w es) (total raised w es) (total dropped w es)
 
 -- ---- the tally, whose counts stay at their largest value
 abbrev pub tallyBy : Bool → Tally → Tally → Tally

@@ -23,21 +23,22 @@ use Rattle.station.specs.Values.{laid, laidWords, blank, noWords, freshT
 use Rattle.station.proofs.Doing.{stopped}
 use Rattle.station.proofs.Laid.{words-laid, laid-is}
 
-no-marks : (net : Net) → noWords ≡ laidWords (linkCount net) noWords (map (λ k. noMarks) (linkNumbers (networkOf net)))
-no-marks net =
+-- no mark in the empty words
+pub no-marks : (t : ℕ) → marksAt noWords t ≡ noMarks
+no-marks t =
+    let z = zero-is-out 0 t (none-in t) in
+    λ i. record { token = z i; turn = z i; testing = z i; asked = z i; quiet = z i }
+
+none-laid : (net : Net) → noWords ≡ laidWords (linkCount net) noWords (map (λ k. noMarks) (linkNumbers (networkOf net)))
+none-laid net =
     (λ i. record { token = none i; turn = none i; testing = none i; asked = none i; quiet = none i })
     ∙ words-laid (linkCount net) (omega arith) (λ t. noMarks) noWords (map (λ k. noMarks) (below (linkCount net)))
     (length-map-below (λ k. noMarks) (linkCount net))
-    (λ t h. getD-map-below (λ k. noMarks) (linkCount net) t noMarks h) (λ t h l. empty t)
+    (λ t h. getD-map-below (λ k. noMarks) (linkCount net) t noMarks h) (λ t h l. no-marks t)
     ∙ ap (λ (n : ℕ). laidWords (linkCount net) noWords (map (λ k. noMarks) (below n))) (sym (links-of net))
   where
     none : 0 ≡ wordBy (λ t. false)
     none = by-none (λ t. false) (λ t h. refl)
-
-    empty : (t : ℕ) → marksAt noWords t ≡ noMarks
-    empty t =
-        let z = zero-is-out 0 t (none-in t) in
-        λ i. record { token = z i; turn = z i; testing = z i; asked = z i; quiet = z i }
 
 abbrev pub downIn : Net → Station
 downIn net = record { condition = Down; counters = freshTable (linkCount net); marks = noWords }
@@ -46,4 +47,4 @@ pub stop-is : (net : Net) (s : ℕ) → downIn net ≡ laid net blank (stopped (
 unfolding doneBy blank freshTable
 stop-is net s =
     laid-is net blank (downIn net) (stopped (networkOf net) s .holding) refl
-    (ap (λ (n : ℕ). map (λ k. 1) (below n) ++ drop (linkCount net) (replicate 64 0)) (sym (links-of net))) (no-marks net)
+    (ap (λ (n : ℕ). map (λ k. 1) (below n) ++ drop (linkCount net) (replicate 64 0)) (sym (links-of net))) (none-laid net)

@@ -27,7 +27,7 @@ use Rattle.station.specs.declared.Heard.{Heard}
 use Rattle.station.specs.declared.Heard.the-variants.{Gone, Nothing, Overflows, Does}
 use Rattle.station.specs.declared.Kind.{Kind}
 use Rattle.station.specs.declared.Kind.the-variants.{NoSuch, Start, Stop, Recovery, IntervalEnd, TimeoutEnd, QuietEnd, Delivery, Loss}
-use Rattle.station.specs.Holding.{Holding, counter, mark, holdingHolds}
+use Rattle.station.specs.Holding.{Holding, counter, mark, higher, holdingHolds}
 use Rattle.station.specs.Done.{Done}
 use Rattle.station.proofs.Doing.{unchanged, delivery-act, stopped, started, recovered, interval, timeout, spoken, answer, effectOn, heardOn, received}
 use Rattle.station.specs.Events.{raisedEffect, isNotice, heardRule, Rule, ruleAt, Due, refusing, dueOf}
@@ -72,28 +72,25 @@ rule-keeps net s h ok Delivery b x n a =
     (received-keeps net s h ok x (n .0) (n .1))
 rule-keeps net s h ok Loss b x n a = unchanged-keeps net s h ok
 
--- ---- how many counters are higher in h than in g
-abbrev pub risen : Network → Holding → Holding → ℕ
-risen net g h = sumOf (λ k. bit (ltb (counter g k) (counter h k))) (linkNumbers net)
-
+-- ---- how many counters are higher
 module _ (net : Network) (g h : Holding) where
-  risen-none : ((k : ℕ) → counter h k ≤ counter g k) → risen net g h ≡ 0
+  risen-none : ((k : ℕ) → counter h k ≤ counter g k) → higher net g h ≡ 0
   risen-none f =
       sum-none (λ k. bit (ltb (counter g k) (counter h k))) (length (net .links)) (λ k l. ap bit (le-ltb (counter g k) (counter h k) (f k)))
 
   -- no counter but k's is higher
   risen-one : (k : ℕ) → k < length (net .links) → ((j : ℕ) → j ≢ k → counter h j ≤ counter g j)
-      → risen net g h ≡ bit (ltb (counter g k) (counter h k))
+      → higher net g h ≡ bit (ltb (counter g k) (counter h k))
   risen-one k l f =
       sum-only (λ k. bit (ltb (counter g k) (counter h k))) (length (net .links)) k l
       (λ j m n. ap bit (le-ltb (counter g j) (counter h j) (f j n)))
 
-  pub risen-same : h .table ≡ g .table → risen net g h ≡ 0
+  pub risen-same : h .table ≡ g .table → higher net g h ≡ 0
   risen-same e = risen-none (λ k. le-of-eq (ap (λ (t : List ℕ). counterIn t k) e))
 
 module _ (net : Network) (s : ℕ) (real : s < net .stations) (h : Holding) (ok : T (holdingHolds net s h)) where
   abbrev Raises : ℕ → Done → Type 0
-  Raises n d = risen net h (d .holding) ≡ n
+  Raises n d = higher net h (d .holding) ≡ n
 
   same : Raises 0 (unchanged h)
   same = risen-same net h h refl
@@ -145,7 +142,7 @@ module _ (net : Network) (s : ℕ) (real : s < net .stations) (h : Holding) (ok 
 
   -- what the rule counts as raised is what is higher
   pub rule-raises : (k : Kind) (b : ℕ) (x : Letter) → Names net s k b x
-      → risen net h (doneBy net s h (ruleAt s k b x h .act) .holding) ≡ ruleAt s k b x h .counts .raised
+      → higher net h (doneBy net s h (ruleAt s k b x h .act) .holding) ≡ ruleAt s k b x h .counts .raised
   unfolding doneBy answer
   rule-raises NoSuch b x n = same
   rule-raises Start b x n = risen-same net h (started net s h .holding) (started-table net s h)
@@ -260,8 +257,8 @@ module _ (net : Network) (s : ℕ) (h : Holding) (ok : T (holdingHolds net s h))
       (λ i z. subst⁻¹ (Kept net s) (idle-done net s h) (unchanged-keeps net s h ok))
       (λ t a o. rule-keeps net s h ok k b x (n t) a)
 
-  pub due-raises : s < net .stations → risen net h (doneBy net s h (due .act) .holding) ≡ due .counts .raised
+  pub due-raises : s < net .stations → higher net h (doneBy net s h (due .act) .holding) ≡ due .counts .raised
   due-raises real =
-      due-elim there (ruleAt s k b x h) (h .condition) (λ (d : Due). risen net h (doneBy net s h (d .act) .holding) ≡ d .counts .raised)
-      (λ i z. ap (λ (d : Done). risen net h (d .holding)) (idle-done net s h) ∙ risen-same net h h refl)
+      due-elim there (ruleAt s k b x h) (h .condition) (λ (d : Due). higher net h (doneBy net s h (d .act) .holding) ≡ d .counts .raised)
+      (λ i z. ap (λ (d : Done). higher net h (d .holding)) (idle-done net s h) ∙ risen-same net h h refl)
       (λ t a o. rule-raises net s real h ok k b x (n t))

@@ -80,10 +80,6 @@ intervalMarks m =
 abbrev pub testEnded : Marks → Marks
 testEnded m = if m .asked then setToken true (setAsked false (setTesting false m)) else setTesting false m
 
--- and the link is kept quiet
-abbrev pub failed : Marks → Marks
-failed m = setQuiet true (testEnded m)
-
 -- a request that is answered: testing and asked off, token on, turn off
 abbrev pub requestedMarks : Marks → Marks
 requestedMarks m = setTurn false (setToken true (setAsked false (setTesting false m)))
@@ -124,7 +120,7 @@ module _ (x : Condition) (k : ℕ) where
     -- purged
     abbrev pub timeoutAct : Act
     timeoutAct =
-        if even c then act x (onLink k failed) (sets k (timedOut c) true) (notices k (timedOut c) (otherOwn k isOpen))
+        if even c then act x (onLink k (λ m. setQuiet true (testEnded m))) (sets k (timedOut c) true) (notices k (timedOut c) (otherOwn k isOpen))
         else act x (onLink k testEnded) kept nothing
 
     -- ---- 7. A letter that is heard, by what it does. A request: the higher-numbered of two testers only marks it; else all that is known
@@ -144,13 +140,10 @@ abbrev pub repliedBy : ℕ → ℕ → Healed → Heard
 repliedBy own c TooHigh = Overflows
 repliedBy own c (To new) = if odd own || odd c then Does (Heals new) else (if eqb own c then Does Equal else Does (Levels new))
 
--- a request from the station p: the higher-numbered of two testers puts it off
-abbrev pub requestBy : Bool → ℕ → ℕ → Heard
-requestBy testing p s = if testing && ltb p s then Does Defers else Does Answers
-
--- at the station s, from the station p, by the marks and the counter of the link and the counter of the link that is told of
+-- at the station s, from the station p, by the marks and the counter of the link and the counter of the link that is told of: the
+-- higher-numbered of two testers puts a request off
 abbrev pub bodyAnswer : ℕ → ℕ → Marks → ℕ → ℕ → Body → Heard
-bodyAnswer s p m own told Request = requestBy (m .testing) p s
+bodyAnswer s p m own told Request = if m .testing && ltb p s then Does Defers else Does Answers
 bodyAnswer s p m own told (Reply c) = if m .testing then repliedBy own c (healing own c) else Nothing
 bodyAnswer s p m own told (Notice j c) = if newer told c then Does (Takes j c) else Nothing
 

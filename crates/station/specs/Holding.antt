@@ -2,9 +2,10 @@
 use Prim.Native.Nat.{ℕ}
 use mathlib.Core.Bool.{Bool, true, false, not, _&&_, _||_}
 use mathlib.Core.List.{List, []}
-use lib.Dec.{eqb}
+use lib.Dec.{eqb, ltb}
 use lib.ListN.{length, getD}
-use Rattle.lists.specs.Lists.{every}
+use Rattle.lists.specs.Lists.{every, sumOf}
+use Rattle.lists.specs.Words.{bit}
 use Rattle.net.specs.Network.{Network, isEnd, linkNumbers}
 use Rattle.net.specs.Letters.{isCounter}
 use Rattle.reach.specs.Reach.{counterIn}
@@ -60,6 +61,10 @@ setAsked b m = record { token = m .token; turn = m .turn; testing = m .testing; 
 
 abbrev pub setQuiet : Bool → Marks → Marks
 setQuiet b m = record { token = m .token; turn = m .turn; testing = m .testing; asked = m .asked; quiet = b }
+
+-- how many counters are higher in h than in g
+abbrev pub higher : Network → Holding → Holding → ℕ
+higher net g h = sumOf (λ k. bit (ltb (counter g k) (counter h k))) (linkNumbers net)
 
 -- ---- well formed
 abbrev pub implies : Bool → Bool → Bool

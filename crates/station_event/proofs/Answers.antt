@@ -2,6 +2,7 @@
 use Prim.Native.Nat.{ℕ, _≤_, _<_}
 use mathlib.Core.Bool.{Bool, true, false, not, _&&_}
 use mathlib.Core.Path.{_≡_, sym, ap, ap₂, _∙_}
+use lib.Dec.{eqb, ltb}
 use borrow.Author.Tests.{lt-ltb, le-ltb, eq-eqb, ne-eqb}
 use Rattle.lists.specs.Lists.{if_then_else_}
 use Rattle.net.specs.declared.Body.{Body}
@@ -14,9 +15,13 @@ use Rattle.station.specs.declared.Effect.the-variants.{Defers, Answers, Heals, 
 use Rattle.station.specs.declared.Heard.{Heard}
 use Rattle.station.specs.declared.Heard.the-variants.{Gone, Nothing, Overflows, Does}
 use Rattle.station.specs.Holding.{isLive}
-use Rattle.station.specs.Acts.{requestBy, repliedBy, hears, bodyAnswer}
+use Rattle.station.specs.Acts.{repliedBy, hears, bodyAnswer}
 
 -- ---- a request
+-- ---- a request from the station p: the higher-numbered of two testers puts it off
+abbrev requestBy : Bool → ℕ → ℕ → Heard
+requestBy testing p s = if testing && ltb p s then Does Defers else Does Answers
+
 module _ (testing : Bool) (p s : ℕ) where
   pub put-off : testing ≡ true → p < s → Does Defers ≡ requestBy testing p s
   put-off e h = simp (e, lt-ltb p s h)

@@ -20,12 +20,16 @@ use Rattle.station.specs.declared.Kind.{Kind}
 use Rattle.station.specs.declared.Kind.the-variants.{Start, Stop, Recovery, IntervalEnd, TimeoutEnd, QuietEnd}
 use Rattle.station.specs.Holding.{noMarks, setToken, setQuiet, isDown, isWaiting, isLive}
 use Rattle.station.specs.Acts.{allOwn, otherOwn, onLink, kept, sets, nothing, notices, Act, act, isOpen}
-use Rattle.station.specs.Acts.{mayEnd, intervalMarks, intervalTests, testEnded, failed, startAct, stopAct, recoveryAct, intervalAct, timeoutAct}
+use Rattle.station.specs.Acts.{mayEnd, intervalMarks, intervalTests, testEnded, startAct, stopAct, recoveryAct, intervalAct, timeoutAct}
 use Rattle.station.specs.Events.{counting, Rule, ruleOf, dueOf}
 use Rattle.station.specs.Values.{noWords}
 use Rattle.station_plan.specs.declared.Plan.{Plan}
 use Rattle.station_plan.specs.Plans.{putting, linksWord, marksBy, donePlan, stays, turns, tells}
 use Rattle.station_plan.specs.Comes.{eventPlan, ownPlan}
+
+-- a link whose test failed is kept quiet
+abbrev pub failed : Marks → Marks
+failed m = setQuiet true (testEnded m)
 
 -- ---- whether an interval may end
 module _ (x : Condition) (m : Marks) (live : Bool) (el : live ≡ isLive x) where

@@ -1,11 +1,11 @@
 // What an event comes to at the one station that it concerns, by its kind: the plan that station_plan defines. Events 1 to 6 are here, a
 // letter's arrival is in lib.rt. An inner door: the call is the network's step.
 ghost use mathlib.Core.Path.{_≡_};
-ghost use mathlib.Core.Bool.{false};
+ghost use mathlib.Core.Bool.{true, false};
 ghost use Rattle.marks.specs.Marks.{marksAt, wordsWith};
 ghost use Rattle.station.specs.declared.Kind.the-variants.{Start, Stop, Recovery, IntervalEnd, TimeoutEnd, QuietEnd};
 ghost use Rattle.station.specs.Holding.{isDown, isWaiting, setQuiet};
-ghost use Rattle.station.specs.Acts.{allOwn, mayEnd, intervalMarks, intervalTests, testEnded, failed, recoveryAct};
+ghost use Rattle.station.specs.Acts.{allOwn, mayEnd, intervalMarks, intervalTests, testEnded, recoveryAct};
 ghost use Rattle.station_plan.specs.Plans.{linksWord, marksBy};
 ghost use Rattle.station_plan.specs.Comes.{ownPlan, eventPlan, EventPlans};
 use marks::Marks;
@@ -88,7 +88,7 @@ fn ended_words(w: Words, k: u8) -> Words
 
 // The same, and the link is kept quiet: nothing is sent or heard there until quiet ends.
 fn failed_words(w: Words, k: u8) -> Words
-    ensures { λ r. ⌜ r ≡ wordsWith w k (failed (marksAt w k)) ⌝ }
+    ensures { λ r. ⌜ r ≡ wordsWith w k (setQuiet true (testEnded (marksAt w k))) ⌝ }
 {
     let m = test_ended(marks::marks_at(w, k));
     let silenced = Marks {

@@ -4,19 +4,20 @@
 pub mod events;
 
 ghost use mathlib.Core.Path.{_≡_};
-ghost use mathlib.Core.Bool.{true};
+ghost use mathlib.Core.Bool.{true, _&&_};
+ghost use lib.Dec.{ltb};
 ghost use Rattle.lists.specs.Lists.{if_then_else_};
 ghost use Rattle.lists.specs.Words.{bit};
 ghost use Rattle.marks.specs.Marks.{marksAt, wordsWith};
-ghost use Rattle.station.specs.declared.Effect.the-variants.{Answers, Heals, Levels, Takes};
+ghost use Rattle.station.specs.declared.Effect.the-variants.{Defers, Answers, Heals, Levels, Takes};
 ghost use Rattle.station.specs.declared.Kind.the-variants.{Delivery};
 ghost use Rattle.station.specs.Holding.{setAsked};
-ghost use Rattle.station.specs.Acts.{requestedMarks, repliedMarks, effectAct, repliedBy, requestBy, hears, bodyAnswer};
+ghost use Rattle.station.specs.Acts.{requestedMarks, repliedMarks, effectAct, repliedBy, hears, bodyAnswer};
 ghost use Rattle.station.specs.Events.{counting, isNotice, raisedEffect};
 ghost use Rattle.station_plan.specs.Plans.{donePlan, dropPlan, stays, turns, tells};
 ghost use Rattle.station_plan.specs.Comes.{eventPlan};
 ghost use Rattle.counters.specs.Counters.{healing};
-ghost use Rattle.station.specs.declared.Heard.the-variants.{Gone};
+ghost use Rattle.station.specs.declared.Heard.the-variants.{Gone, Does};
 use counters::Healed;
 use marks::Marks;
 use marks::Words;
@@ -150,7 +151,7 @@ fn reply_heard(own: u16, c: u16) -> Heard
 
 // Whether a request is put off: the higher-numbered of two testers only marks it.
 fn request_heard(testing: bool, sender: u16, me: u8) -> Heard
-    ensures { λ r. ⌜ r ≡ requestBy testing sender me ⌝ }
+    ensures { λ r. ⌜ r ≡ (if testing && ltb sender me then Does Defers else Does Answers) ⌝ }
 {
     if testing {
         if sender < me as u16 {

@@ -10,7 +10,6 @@ use lib.Seq.{getD-set-same}
 use Rattle.lists.specs.Lists.{if_then_else_}
 use Rattle.lists.specs.Words.{bit}
 use Rattle.lists.proofs.Tests.{T-is, if-elim}
-use Rattle.lists.proofs.Words.{zero-is-out, none-in}
 use Rattle.net.specs.declared.Body.{Body}
 use Rattle.net.specs.declared.Body.the-variants.{Request, Reply, Notice}
 use Rattle.net.specs.declared.Letter.{Letter}
@@ -37,6 +36,7 @@ use Rattle.station.specs.Acts.{kept, nothing, requests, theLink, Act, idle, int
 use Rattle.station.specs.Acts.{repliedBy, bodyAnswer, answerBy, subjectOf}
 use Rattle.station.specs.Events.{isNotice, Rule, heardRule, ruleOf, ruleAt, Due, refusing, dueOf}
 use Rattle.station.specs.Values.{holdingOf, noWords, blank}
+use Rattle.station.proofs.Fresh.{no-marks}
 use Rattle.station.proofs.Laid.{Fit, mark-of, condition-of}
 use Rattle.station.proofs.Rules.{due-elim}
 use Rattle.station_plan.specs.declared.Plan.{Plan}
@@ -83,12 +83,6 @@ module _ (s : ℕ) (x : Condition) (m : Marks) (own told : ℕ) (l : Letter) whe
       go : (b : Bool) → (if b then bodyAnswer s (l .sender) m own told (l .body) else Gone) ≡ Does (Takes j d) → subjectOf (l .body) ≡ j
       go true p = body (l .body) p
       go false p = clash (cc)
-
--- no mark in the empty words
-no-marks : (t : ℕ) → marksAt noWords t ≡ noMarks
-no-marks t =
-    let z = zero-is-out 0 t (none-in t) in
-    λ i. record { token = z i; turn = z i; testing = z i; asked = z i; quiet = z i }
 
 -- ---- at a station value
 module _ (net : Net) (s : ℕ) (st : Station) (own : ℕ) (eo : Own own net s) (fit : Fit (st .marks)) (size : length (st .counters) ≡ 64) where

@@ -1,8 +1,7 @@
 // A plan: what an event comes to at the one station that it concerns, in words. It holds no table and no station, and is made from the
 // station's condition, its five words of marks, its own links and the counters concerned. Here is what a plan is, that it is station's
 // act in words (specs/Plans), and the law that carrying it out is what the event comes to at every station that has these words
-// (proofs/Laws); no function. The code that makes it: hearing, receiving and planning; that carries it out: carrying, and the network's
-// step.
+// (proofs/Laws); no function. The code that makes it: station_event; that carries it out: station_table, and the network's step.
 use marks::Words;
 use station::Condition;
 use station::Sending;

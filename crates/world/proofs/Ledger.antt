@@ -13,14 +13,14 @@ use Rattle.tally.specs.declared.Tally.{Tally}
 use Rattle.net.specs.Network.{Network}
 use Rattle.station.specs.Events.{kindOf, delivers, loses, isNotice}
 use Rattle.world.specs.World.{World, Event, done, left, after, refusal, accepted, next, noticesOf, settled, fresh}
-use Rattle.world.specs.History.{run, total, sent, everSent, everDelivered, everLost, everSettled}
+use Rattle.world.specs.History.{run, total, everSent, everDelivered, everLost, everSettled}
 use Rattle.world.proofs.Steps.{accepted-zero, taken}
 use Rattle.world.proofs.There.{left-one, left-notices}
 
 -- ---- one accepted event: what was in flight and what it sends is what it delivers or loses and what is in flight then
 pub one-conserved : (w : World) (e : Event) → refusal w e ≡ 0
-    → length (w .letters) + sent w e ≡ bit (delivers (kindOf (e .kind))) + bit (loses (kindOf (e .kind))) + length (after w e .letters)
-unfolding after sent
+    → length (w .letters) + length (done w e .sent) ≡ bit (delivers (kindOf (e .kind))) + bit (loses (kindOf (e .kind))) + length (after w e .letters)
+unfolding after
 one-conserved w e q = omega (arith, left-one w e (taken w e q .exists), length-append (left w e) (done w e .sent))
 
 -- ---- a history

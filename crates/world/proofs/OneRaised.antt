@@ -8,11 +8,11 @@ use lib.Seq.{getD-set-same, getD-set-other}
 use Rattle.lists.specs.Lists.{sumOf, below}
 use Rattle.lists.proofs.OneSum.{sum-only}
 use Rattle.tally.specs.declared.Tally.{Tally}
-use Rattle.station.specs.Holding.{Holding}
+use Rattle.station.specs.Holding.{Holding, higher}
 use Rattle.station.specs.Events.{kindOf, counting}
 use Rattle.station.proofs.Rules.{risen-same, rule-one, due-raises}
 use Rattle.world.specs.World.{World, Event, nobody, holdingAt, letterAt, exists, concerned, rule, comes, done, after, refusal}
-use Rattle.world.specs.World.{higher, settled, raised, dropped}
+use Rattle.world.specs.World.{settled, raised, dropped}
 use Rattle.world.proofs.Steps.{taken}
 use Rattle.world.proofs.Keeps.{Formed, concerned-real, concerned-holds, names}
 

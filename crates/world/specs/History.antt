@@ -6,7 +6,7 @@ use lib.ListN.{length}
 use Rattle.lists.specs.Lists.{if_then_else_}
 use Rattle.lists.specs.Words.{bit}
 use Rattle.station.specs.Events.{kindOf, delivers, loses}
-use Rattle.world.specs.World.{World, Event, done, accepted, next, settled, raised, dropped}
+use Rattle.world.specs.World.{World, Event, done, accepted, next, settled}
 
 -- the world after all of them
 unfoldable pub run : World → List Event → World
@@ -18,13 +18,9 @@ unfoldable pub total : (World → Event → ℕ) → World → List Event → �
 total f w [] = 0
 total f w (e ∷ es) = (if accepted w e then f w e else 0) + total f (next w e) es
 
--- ---- one event's letters
-unfoldable pub sent : World → Event → ℕ
-sent w e = length (done w e .sent)
-
--- ---- the counts of a history: letters ever sent, delivered and lost; notices settled, counters raised, letters dropped
+-- ---- letters ever sent, delivered and lost, and notices ever settled
 abbrev pub everSent : World → List Event → ℕ
-everSent = total sent
+everSent = total (λ w e. length (done w e .sent))
 
 abbrev pub everDelivered : World → List Event → ℕ
 everDelivered = total (λ w e. bit (delivers (kindOf (e .kind))))
@@ -34,9 +30,3 @@ everLost = total (λ w e. bit (loses (kindOf (e .kind))))
 
 abbrev pub everSettled : World → List Event → ℕ
 everSettled = total settled
-
-abbrev pub everRaised : World → List Event → ℕ
-everRaised = total raised
-
-abbrev pub everDropped : World → List Event → ℕ
-everDropped = total dropped

@@ -11,13 +11,13 @@ use Rattle.lists.specs.Words.{bit, wordOf}
 use Rattle.lists.specs.Places.{without}
 use Rattle.net.specs.declared.Body.the-variants.{Request}
 use Rattle.net.specs.declared.Letter.{Letter}
-use Rattle.net.specs.Network.{Network, isEnd, other, linkNumbers}
+use Rattle.net.specs.Network.{Network, isEnd, other}
 use Rattle.sheet_rules.specs.Rules.{sheetHolds}
 use Rattle.net.specs.Letters.{letterHolds}
 use Rattle.reach.specs.Reach.{worksIn, reach, countOf, lowestOf, report}
 use Rattle.reach.specs.declared.Reached.{Reached}
 use Rattle.station.specs.declared.Kind.{Kind}
-use Rattle.station.specs.Holding.{Holding, counter, isLive, holdingHolds}
+use Rattle.station.specs.Holding.{Holding, higher, isLive, holdingHolds}
 pub use Rattle.station.specs.Holding.{nobody}
 use Rattle.station.specs.Acts.{stopAct}
 use Rattle.station.specs.Done.{Done, doneBy}
@@ -120,10 +120,7 @@ noticesOf xs = sumOf (λ x. bit (isNotice (x .body))) xs
 abbrev pub settled : World → Event → ℕ
 settled w e = comes w e .counts .settled
 
--- counters that the event leaves higher than before: at one station, and at all
-abbrev pub higher : Network → Holding → Holding → ℕ
-higher net g h = sumOf (λ k. bit (ltb (counter g k) (counter h k))) (linkNumbers net)
-
+-- counters that the event leaves higher than before, over all stations
 unfoldable pub raised : World → Event → ℕ
 raised w e = sumOf (λ s. higher (w .net) (holdingAt w s) (holdingAt (after w e) s)) (below (w .net .stations))
 
