@@ -7,15 +7,16 @@ use borrow.Author.Needs.{needs}
 use borrow.Author.Tests.{not-true, not-false}
 use Rattle.lists.specs.Lists.{every, below}
 use Rattle.lists.proofs.Numbers.{all-more, all-fails}
+use Rattle.net.specs.Sizes.{linkRoom}
 use Rattle.sheet_rules.proofs.Tested.{Before, before-more, placeHolds, place-seen, holds-places, few-stations, many-stations, many-links}
 use Rattle.sheet_rules.proofs.keeps_sheet_rules.Statement.{statement}
 use Rattle.sheet_rules.proofs.keeps_sheet_rules.Tie as tie
 
 abbrev Inv-loop : tie.InvT-loop
-Inv-loop net n m a₀ b₀ k₀ a b k = (k ≤ 64) × (every (placeHolds net) (below k) ≡ true) × Before net a b k
+Inv-loop net n m a₀ b₀ k₀ a b k = (k ≤ linkRoom) × (every (placeHolds net) (below k) ≡ true) × Before net a b k
 
 abbrev μ-loop : tie.MeasureT-loop
-μ-loop net n m a₀ b₀ k₀ a b k = 64 - k
+μ-loop net n m a₀ b₀ k₀ a b k = linkRoom - k
 
 returns : tie.Need-returns Inv-loop μ-loop
 returns c = few-stations _ (c .if1 .taken)
@@ -45,7 +46,7 @@ returns-4 : tie.Need-returns-4 Inv-loop μ-loop
 returns-4 c =
     let net = c .before .before .before .before .before .before .before .before .before .args .t1 in
     let l = c .before .before .before .before .before .loop in
-    sym (all-fails (placeHolds net) 64 (l .k) (omega arith)
+    sym (all-fails (placeHolds net) linkRoom (l .k) (omega arith)
     (place-seen net (l .k) (l .a) (l .b) _ false (c .before .before .before .before .before .before .before .if2 .left)
     (c .before .before .before .before .before .before .if3 .left) (l .inv .2) (c .before .place-holds .ensures)
     (not-true _ (c .if4 .taken))))
@@ -74,7 +75,7 @@ loop-again c =
 returns-5 : tie.Need-returns-5 Inv-loop μ-loop
 returns-5 c =
     let net = c .before .before .before .before .before .args .t1 in
-    let e : c .before .loop .k ≡ 64 = omega arith in
+    let e : c .before .loop .k ≡ linkRoom = omega arith in
     sym (c .before .loop .inv .1) ∙ ap (λ (n : ℕ). every (placeHolds net) (below n)) e
     ∙ holds-places net (c .before .before .before .before .if1 .left) (c .before .before .before .if2 .left) (c .before .before .if3 .left)
     (search needs) (search needs)
