@@ -11,6 +11,7 @@ use Rattle.lists.proofs.Tests.{and-l, and-r, and-i, T-is}
 use Rattle.fields.specs.Fields.{firstField, writeField, areBytes}
 use Rattle.fields.proofs.Law.{cut-written, written-cut, parts-bytes, bytes-append, field-bytes}
 use Rattle.net.specs.Network.{Ends, Network}
+use Rattle.net.specs.Sizes.{stationRoom, linkRoom}
 use Rattle.sheet_rules.specs.Rules.{precedes, endsHold, sheetHolds}
 use Rattle.sheet_rules.proofs.Rules.{lower-first, higher-there, rules-of}
 use Rattle.sheet.specs.Sheet.{sheet, Opening, faulty, stations, stationsHold, opened, Verdict, wrong, link, last, noLink, judged, readLinks, readOpened, readSheet, linkBytes, writeLinks, writeSheet}
@@ -64,25 +65,25 @@ links-pass (e ∷ es) left n prev so rest t =
 -- a sheet that begins with a good first field and good links
 pub reads-on : (net : Network) (rest : List ℕ) → Risen net
     → readSheet (writeField 1 (net .stations ∷ []) ++ writeLinks (net .links) ++ rest)
-    ≡ readLinks (64 - length (net .links)) (net .stations) (net .links)
+    ≡ readLinks (linkRoom - length (net .links)) (net .stations) (net .links)
     (judged (net .stations) (lastOf noLink (net .links)) (firstField rest))
 unfolding readSheet
 reads-on net rest r =
     let n = net .stations in
     let es = net .links in
-    let m : 64 ≡ more es (64 - length es) = omega (arith, more-is es (64 - length es), r .few) in
+    let m : linkRoom ≡ more es (linkRoom - length es) = omega (arith, more-is es (linkRoom - length es), r .few) in
     ap readSheet (append-assoc (writeField 1 (n ∷ [])) (writeLinks es) rest)
     ∙ ap readOpened (open-written n (writeLinks es ++ rest) (r .count))
     ∙ ap (λ (k : ℕ). readLinks k n [] (judged n noLink (firstField (writeLinks es ++ rest)))) m
-    ∙ links-pass es (64 - length es) n noLink [] rest (r .order)
+    ∙ links-pass es (linkRoom - length es) n noLink [] rest (r .order)
 
 -- ---- what was written reads back
 pub reads-back : (net : Network) → T (sheetHolds net) → readSheet (writeSheet net) ≡ sheet net
 unfolding writeSheet
 reads-back net t =
     reads-on net (writeField 15 []) (risen-of net t)
-    ∙ ap (readLinks (64 - length (net .links)) (net .stations) (net .links)) (judge-last (net .stations) (lastOf noLink (net .links)))
-    ∙ last-read (64 - length (net .links)) (net .stations) (net .links)
+    ∙ ap (readLinks (linkRoom - length (net .links)) (net .stations) (net .links)) (judge-last (net .stations) (lastOf noLink (net .links)))
+    ∙ last-read (linkRoom - length (net .links)) (net .stations) (net .links)
 
 -- ---- what is read was written, and is good
 one-byte : (v : List ℕ) → length v ≡ 1 → v ≡ getD v 0 0 ∷ []
@@ -183,7 +184,7 @@ whole bytes net e = go (opened (firstField bytes)) refl e
     go : (o : Opening) → opened (firstField bytes) ≡ o → readOpened o ≡ sheet net → Whole bytes net
     go (faulty k) p q = let z : _≡_ {A = ℕ} 0 1 = cc in absurd (omega arith)
     go (stations n rest) p q =
-        let r = ended 64 n noLink [] rest net q in
+        let r = ended linkRoom n noLink [] rest net q in
         let w = is-stations (firstField bytes) n rest p in
         subst⁻¹ (Whole bytes) (r .whole) (record {
           rules = record { count = w .good; few = r .few; order = r .order };
@@ -224,7 +225,7 @@ unfolding writeSheet
 writes-bytes net t =
     let r = risen-of net t in
     let n = net .stations in
-    let few : n ≤ 32 = rules-of net t .few-stations in
+    let few : n ≤ stationRoom = rules-of net t .few-stations in
     bytes-append (writeField 1 (n ∷ []) ++ writeLinks (net .links)) (writeField 15 [])
     (bytes-append (writeField 1 (n ∷ [])) (writeLinks (net .links))
     (field-bytes 1 (n ∷ []) (omega arith) (omega arith) (and-i (ltb n 256) _ (lt→ltb n 256 (omega arith)) tt))

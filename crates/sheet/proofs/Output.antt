@@ -16,6 +16,7 @@ use Rattle.fields.proofs.Seen.{length-field, length-onto, lent-more}
 use Rattle.net.specs.declared.Net.{Net}
 use Rattle.net.specs.Network.{Ends}
 use Rattle.net.specs.Values.{networkOf}
+use Rattle.net.specs.Sizes.{stationRoom, linkRoom}
 use Rattle.sheet_rules.specs.Values.{netHolds}
 use Rattle.sheet_rules.proofs.Good.{holds-of}
 use Rattle.sheet.specs.declared.Wrote.the-variants.{Bytes, OutputShort, BadNetwork}
@@ -75,10 +76,10 @@ module _ (net : Net) (r : Bool) (e : r ≡ netHolds net) where
     good : netHolds net ≡ true
     good = sym e ∙ not-false r h
 
-    pub few-stations : net .stations ≤ 32
+    pub few-stations : net .stations ≤ stationRoom
     few-stations = holds-of net (is-T (netHolds net) good) .few-stations
 
-    pub few-links : net .links ≤ 64
+    pub few-links : net .links ≤ linkRoom
     few-links = holds-of net (is-T (netHolds net) good) .few-links
 
     abbrev front : List ℕ
@@ -93,8 +94,8 @@ module _ (net : Net) (r : Bool) (e : r ≡ netHolds net) where
     sheet-bytes : writeSheet (networkOf net) ≡ front ++ middle ++ writeField 15 []
     unfolding writeSheet networkOf
     sheet-bytes =
-        let s : min (net .stations) 32 ≡ net .stations = omega (arith, few-stations) in
-        let m : min (net .links) 64 ≡ net .links = omega (arith, few-links) in
+        let s : min (net .stations) stationRoom ≡ net .stations = omega (arith, few-stations) in
+        let m : min (net .links) linkRoom ≡ net .links = omega (arith, few-links) in
         ap₂ (λ (x y : ℕ). writeField 1 (x ∷ []) ++ writeLinks (firstEnds (net .low) (net .high) y) ++ writeField 15 []) s m
 
     sheet-length : length (writeSheet (networkOf net)) ≡ 4 + 5 * net .links + 3

@@ -17,6 +17,7 @@ use Rattle.net.specs.declared.Net.{Net}
 use Rattle.net.specs.Values.{networkOf}
 use Rattle.sheet_rules.specs.Values.{netHolds}
 use Rattle.net.specs.Network.{Ends, Network}
+use Rattle.net.specs.Sizes.{linkRoom}
 use Rattle.sheet_rules.specs.Rules.{precedes, endsHold, sheetHolds}
 use Rattle.sheet.specs.Sheet.{refused, Opening, faulty, stations, stationsHold, opened, Verdict, wrong, link, last, linkOf, noLink, judged, readLinks, readOpened, readSheet, linkBytes, writeLinks, writeSheet}
 use Rattle.sheet.specs.Values.{writing}
@@ -60,7 +61,7 @@ pub data Refused (bytes : List ℕ) : ℕ → Type 0 where
   later : {k : ℕ} (net : Network) (rest : List ℕ) → Begun bytes net rest → Fault (net .stations) (before net) (firstField rest) k
       → Refused bytes k
   -- a 65th link
-  full : (net : Network) (rest : List ℕ) (e : Ends) (more : List ℕ) → Begun bytes net rest → length (net .links) ≡ 64
+  full : (net : Network) (rest : List ℕ) (e : Ends) (more : List ℕ) → Begun bytes net rest → length (net .links) ≡ linkRoom
       → judged (net .stations) (before net) (firstField rest) ≡ link e more → Refused bytes 5
 
 -- ---- one field
@@ -175,7 +176,7 @@ refused-only bytes k t e = go (opened (firstField bytes)) refl e
     go (faulty j) p q = let m : j ≡ k = cc in at-first (opened-only (firstField bytes) k (p ∙ ap faulty m))
     go (stations n rest) p q =
         let f = stations-written bytes n rest t p in
-        let s = stopped 64 n noLink [] rest k (rest-bytes bytes (writeField 1 (n ∷ [])) rest t f) q in
+        let s = stopped linkRoom n noLink [] rest k (rest-bytes bytes (writeField 1 (n ∷ [])) rest t f) q in
         let w = is-stations (firstField bytes) n rest p in
         let net : Network = record { stations = n; links = s .es } in
         let b : Begun bytes net (s .rest) = record {
@@ -193,11 +194,11 @@ unfolding readSheet
 refused-when bytes k (at-first f) = ap readOpened (opened-when (firstField bytes) k f)
 refused-when bytes k (later net rest b f) =
     ap readSheet (b .front) ∙ reads-on net rest (risen-of net (b .holds))
-    ∙ ap (readLinks (64 - length (net .links)) (net .stations) (net .links))
+    ∙ ap (readLinks (linkRoom - length (net .links)) (net .stations) (net .links))
     (judged-when (net .stations) (before net) (firstField rest) k f)
-    ∙ wrong-read (64 - length (net .links)) (net .stations) (net .links) k
+    ∙ wrong-read (linkRoom - length (net .links)) (net .stations) (net .links) k
 refused-when bytes k (full net rest e more b l p) =
-    let z : 64 - length (net .links) ≡ 0 = omega arith in
+    let z : linkRoom - length (net .links) ≡ 0 = omega arith in
     ap readSheet (b .front) ∙ reads-on net rest (risen-of net (b .holds))
     ∙ ap₂ (λ (m : ℕ) (v : Verdict). readLinks m (net .stations) (net .links) v) z p ∙ full-read (net .stations) (net .links) e more
 

@@ -12,6 +12,7 @@ use Rattle.lists.proofs.Tests.{and-no}
 use Rattle.fields.specs.Fields.{short, firstField, isEmpty}
 use Rattle.fields.proofs.Seen.{Seen, value-at}
 use Rattle.net.specs.Network.{Ends}
+use Rattle.net.specs.Sizes.{stationRoom, linkRoom}
 use Rattle.sheet_rules.specs.Rules.{precedes, endsHold}
 use Rattle.sheet.specs.declared.Answer.the-variants.{OutOfRange, OutOfOrder}
 use Rattle.sheet.specs.declared.Next.{Next}
@@ -56,11 +57,11 @@ module _ (bytes : List ℕ) where
       pub opened-few : getD bytes 3 0 < 1 → faulty 3 ≡ opened (firstField bytes)
       opened-few h = sym (one ∙ simp (lt-leb 1 (getD bytes 3 0) h))
 
-      pub opened-many : 32 < getD bytes 3 0 → faulty 3 ≡ opened (firstField bytes)
-      opened-many h = sym (one ∙ simp (lt-leb (getD bytes 3 0) 32 h, and-no))
+      pub opened-many : stationRoom < getD bytes 3 0 → faulty 3 ≡ opened (firstField bytes)
+      opened-many h = sym (one ∙ simp (lt-leb (getD bytes 3 0) stationRoom h, and-no))
 
-      pub opened-good : 1 ≤ getD bytes 3 0 → getD bytes 3 0 ≤ 32 → stations (getD bytes 3 0) (drop 4 bytes) ≡ opened (firstField bytes)
-      opened-good l h = sym (one ∙ simp (le-leb 1 (getD bytes 3 0) l, le-leb (getD bytes 3 0) 32 h))
+      pub opened-good : 1 ≤ getD bytes 3 0 → getD bytes 3 0 ≤ stationRoom → stations (getD bytes 3 0) (drop 4 bytes) ≡ opened (firstField bytes)
+      opened-good l h = sym (one ∙ simp (le-leb 1 (getD bytes 3 0) l, le-leb (getD bytes 3 0) stationRoom h))
 
 -- ---- a link's ends
 module _ (n a b low high : ℕ) where
@@ -166,6 +167,6 @@ module _ (bytes : List ℕ) (n a b : ℕ) where
         judged-last h = sym (end ∙ ap (λ (l : List ℕ). if isEmpty l then last else wrong 2) (drop-of-length-le bytes {i = 3} (omega arith)))
 
 -- ---- the room of 64 places
-pub zeros-room : replicate 64 0 ≡ roomOf []
+pub zeros-room : replicate linkRoom 0 ≡ roomOf []
 unfolding roomOf
 zeros-room = refl

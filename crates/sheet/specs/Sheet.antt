@@ -7,6 +7,7 @@ use lib.ListN.{getD}
 use Rattle.lists.specs.Lists.{if_then_else_}
 use Rattle.fields.specs.Fields.{Field, short, field, firstField, writeField, isField, isEmpty}
 use Rattle.net.specs.Network.{Ends, Network}
+use Rattle.net.specs.Sizes.{stationRoom, linkRoom}
 use Rattle.sheet_rules.specs.Rules.{precedes, endsHold}
 
 -- what reading a sheet gives: the number of a refusal, or the network
@@ -21,7 +22,7 @@ pub data Opening : Type 0 where
   stations : ℕ → List ℕ → Opening
 
 abbrev pub stationsHold : ℕ → Bool
-stationsHold n = leb 1 n && leb n 32
+stationsHold n = leb 1 n && leb n stationRoom
 
 unfoldable pub opened : Field → Opening
 opened short = faulty 1
@@ -67,7 +68,7 @@ readLinks (suc room) n so v = readOn n so (λ e rest. readLinks room n (so ++ (e
 
 abbrev pub readOpened : Opening → Sheet
 readOpened (faulty k) = refused k
-readOpened (stations n rest) = readLinks 64 n [] (judged n noLink (firstField rest))
+readOpened (stations n rest) = readLinks linkRoom n [] (judged n noLink (firstField rest))
 
 unfoldable pub readSheet : List ℕ → Sheet
 readSheet bytes = readOpened (opened (firstField bytes))

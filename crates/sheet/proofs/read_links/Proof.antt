@@ -1,6 +1,7 @@
 use borrow.Author.Needs.{needs}
 use denote.Ref.{now}
 use Prim.Native.Nat.{_-_}
+use Rattle.net.specs.Sizes.{linkRoom}
 use Rattle.sheet.specs.Steps.{linksOf}
 use Rattle.sheet.proofs.Loop.{Standing, standing-first, standing-wrong, standing-last, standing-full, standing-link}
 use Rattle.sheet.proofs.read_links.Statement.{statement}
@@ -15,7 +16,7 @@ abbrev Inv-loop : tie.InvT-loop
 Inv-loop bytes n low₀ high₀ a₀ b₀ k₀ at₀ low high a b k at = Standing (linksOf n bytes) n bytes low high a b k at
 
 abbrev μ-loop : tie.MeasureT-loop
-μ-loop bytes n low₀ high₀ a₀ b₀ k₀ at₀ low high a b k at = 64 - k
+μ-loop bytes n low₀ high₀ a₀ b₀ k₀ at₀ low high a b k at = linkRoom - k
 
 zeros-requires : tie.Need-zeros-requires Inv-loop μ-loop
 zeros-requires c κs = search needs

@@ -6,18 +6,19 @@ use lib.ListN.{length, getD}
 use borrow.Author.Tests.{not-true, not-false, eq-eqb}
 use Rattle.lists.specs.Lists.{every, below}
 use Rattle.lists.proofs.Numbers.{all-more}
+use Rattle.net.specs.Sizes.{linkRoom}
 use Rattle.state.proofs.Places.{zeroAt, blank-marked, blank-counted, blank-all}
 use borrow.Author.Needs.{needs}
 use Rattle.state.proofs.is_blank.Statement.{statement}
 use Rattle.state.proofs.is_blank.Tie as tie
 
 abbrev Inv-loop : tie.InvT-loop
-Inv-loop st k₀ k = (k ≤ 64) × (every (zeroAt (st .counters)) (below k) ≡ true)
+Inv-loop st k₀ k = (k ≤ linkRoom) × (every (zeroAt (st .counters)) (below k) ≡ true)
 
 abbrev μ-loop : tie.MeasureT-loop
-μ-loop st k₀ k = 64 - k
+μ-loop st k₀ k = linkRoom - k
 
-size : (c : tie.Start Inv-loop μ-loop) → length (c .args .t1 .counters) ≡ 64
+size : (c : tie.Start Inv-loop μ-loop) → length (c .args .t1 .counters) ≡ linkRoom
 size c = search needs
 
 is-down-requires : tie.Need-is-down-requires Inv-loop μ-loop

@@ -9,6 +9,7 @@ use mathlib.Core.List.{map}
 use lib.Dec.{eqb}
 use lib.ListN.{length, length-map}
 use Rattle.station.proofs.Station as StationType
+use Rattle.net.specs.Sizes.{stationRoom, letterRoom}
 use Rattle.net.proofs.Letter as LetterType
 use Rattle.lists.specs.Lists.{every, below}
 use Rattle.net.specs.Letters.{letterHolds}
@@ -20,10 +21,10 @@ use Rattle.state.proofs.Tested.{upto-more, upto-none, frame-net, frame-
 use Rattle.state.specs.State.{stationIn, letterIn, stationPlace, letterPlace, isNoLetter, Fits, Ends64}
 
 abbrev Inv-loop : tie.InvT-loop
-Inv-loop s net flying i₀ i = (i ≤ 32) × ((t : ℕ) → t < i → (stationPlace net t (stationIn s t) ≡ true) × Fits (stationIn s t))
+Inv-loop s net flying i₀ i = (i ≤ stationRoom) × ((t : ℕ) → t < i → (stationPlace net t (stationIn s t) ≡ true) × Fits (stationIn s t))
 
 abbrev μ-loop : tie.MeasureT-loop
-μ-loop s net flying i₀ i = 32 - i
+μ-loop s net flying i₀ i = stationRoom - i
 
 abbrev Inv-loop2 : tie.InvT-loop2
 Inv-loop2 s net flying j₀ j = (j ≤ flying) × ((t : ℕ) → t < j → letterHolds (networkOf net) (letterIn s t) ≡ true)
@@ -32,22 +33,22 @@ abbrev μ-loop2 : tie.MeasureT-loop2
 μ-loop2 s net flying j₀ j = flying - j
 
 abbrev Inv-loop3 : tie.InvT-loop3
-Inv-loop3 s flying rest₀ j₀ rest j = (flying ≤ j) × (j ≤ 4096) × (rest ≤ j * 17179869184) × (eqb rest 0 ≡ every (restAt s flying) (below j))
+Inv-loop3 s flying rest₀ j₀ rest j = (flying ≤ j) × (j ≤ letterRoom) × (rest ≤ j * 17179869184) × (eqb rest 0 ≡ every (restAt s flying) (below j))
 
 abbrev μ-loop3 : tie.MeasureT-loop3
-μ-loop3 s flying rest₀ j₀ rest j = 4096 - j
+μ-loop3 s flying rest₀ j₀ rest j = letterRoom - j
 
-stations-long : (c : tie.Start Inv-loop μ-loop Inv-loop2 μ-loop2 Inv-loop3 μ-loop3) → length (c .args .t1 .stations) ≡ 32
+stations-long : (c : tie.Start Inv-loop μ-loop Inv-loop2 μ-loop2 Inv-loop3 μ-loop3) → length (c .args .t1 .stations) ≡ stationRoom
 stations-long c =
-    let e : length (map (StationType.the-field .into) (c .args .t1 .stations)) ≡ 32 = search needs in
+    let e : length (map (StationType.the-field .into) (c .args .t1 .stations)) ≡ stationRoom = search needs in
     sym (length-map (c .args .t1 .stations) (StationType.the-field .into)) ∙ e
 
 ends-long : (c : tie.Start Inv-loop μ-loop Inv-loop2 μ-loop2 Inv-loop3 μ-loop3) → Ends64 (c .args .t1 .net)
 ends-long c = record { low = search needs; high = search needs }
 
-letters-long : (c : tie.Start Inv-loop μ-loop Inv-loop2 μ-loop2 Inv-loop3 μ-loop3) → length (c .args .t1 .letters) ≡ 4096
+letters-long : (c : tie.Start Inv-loop μ-loop Inv-loop2 μ-loop2 Inv-loop3 μ-loop3) → length (c .args .t1 .letters) ≡ letterRoom
 letters-long c =
-    let e : length (map (LetterType.the-field .into) (c .args .t1 .letters)) ≡ 4096 = search needs in
+    let e : length (map (LetterType.the-field .into) (c .args .t1 .letters)) ≡ letterRoom = search needs in
     sym (length-map (c .args .t1 .letters) (LetterType.the-field .into)) ∙ e
 
 frame-holds-requires :
@@ -207,9 +208,9 @@ returns-4 c =
     let s = c .before .before .before .before .before .before .before .before .before .args .t1 in
     let n = is-T _ (sym (c .before .before .before .before .before .before .before .frame-holds .ensures)
     ∙ not-false _ (c .before .before .before .before .before .before .if1 .left)) in
-    let f : ((t : ℕ) → t < 32 → StationSeen s t) = λ t h. c .before .before .before .before .before .loop .inv .1 t (omega arith) in
+    let f : ((t : ℕ) → t < stationRoom → StationSeen s t) = λ t h. c .before .before .before .before .before .loop .inv .1 t (omega arith) in
     let g : ((t : ℕ) → t < s .flying → LetterSeen s t) = λ t h. c .before .before .before .loop2 .inv .1 t (omega arith) in
-    let j : c .before .loop3 .j ≡ 4096 = omega arith in
+    let j : c .before .loop3 .j ≡ letterRoom = omega arith in
     let e = c .before .loop3 .inv .3 ∙ ap (λ (k : ℕ). every (restAt s (s .flying)) (below k)) j in (
       all-seen s _ n f g e,
       seen-sized s _ n f g e (ends-long (c .before .before .before .before .before .before .before .before .before))

@@ -7,6 +7,7 @@ use lib.ListN.{length, getD}
 use borrow.Author.Tests.{not-true, not-false}
 use Rattle.lists.specs.Lists.{every, below}
 use Rattle.lists.proofs.Numbers.{all-more}
+use Rattle.net.specs.Sizes.{linkRoom}
 use Rattle.state_rules.specs.Steps.{counterTest}
 use Rattle.state_rules.proofs.Parts.{mismarked, miscounted, well-formed}
 use borrow.Author.Needs.{needs}
@@ -14,12 +15,12 @@ use Rattle.state_rules.proofs.station_formed.Statement.{statement}
 use Rattle.state_rules.proofs.station_formed.Tie as tie
 
 abbrev Inv-loop : tie.InvT-loop
-Inv-loop s st own m live k₀ k = (k ≤ 64) × (every (λ t. counterTest (ltb t m) live (getD (st .counters) t 0)) (below k) ≡ true)
+Inv-loop s st own m live k₀ k = (k ≤ linkRoom) × (every (λ t. counterTest (ltb t m) live (getD (st .counters) t 0)) (below k) ≡ true)
 
 abbrev μ-loop : tie.MeasureT-loop
-μ-loop s st own m live k₀ k = 64 - k
+μ-loop s st own m live k₀ k = linkRoom - k
 
-size : (c : tie.Start Inv-loop μ-loop) → length (c .args .t3 .counters) ≡ 64
+size : (c : tie.Start Inv-loop μ-loop) → length (c .args .t3 .counters) ≡ linkRoom
 size c = search needs
 
 own-links-requires : tie.Need-own-links-requires Inv-loop μ-loop
