@@ -14,6 +14,7 @@ use Rattle.net.specs.declared.Net.{Net}
 use Rattle.net.specs.declared.Body.{Body}
 use Rattle.net.specs.Network.{Ends, Network}
 use Rattle.net.specs.Values.{networkOf}
+use Rattle.net.specs.Sizes.{linkRoom}
 use Rattle.sheet_rules.specs.Values.{netHolds}
 use Rattle.letters.specs.declared.Shape.{Shape}
 use Rattle.letters.specs.declared.Shape.the-variants.{Unknown, Says}
@@ -97,7 +98,7 @@ module _ (net : Net) (bytes : List ℕ) where
                 let t = is-T (valuesTest (net .links) k side body) (sym g ∙ not-false w l) in
                 ltb→lt k (net .links) (and-l (ltb k (net .links)) _ (and-l (ltb k (net .links) && leb side 1) _ t))
 
-            pub place-inside : k < 64
+            pub place-inside : k < linkRoom
             place-inside = omega (arith, link-inside, few-places net (is-T (netHolds net) good))
 
             pub read-more : (length bytes ≡ n + 3 → ⊥) → refused 2 ≡ reading net bytes

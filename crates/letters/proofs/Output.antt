@@ -18,6 +18,7 @@ use Rattle.net.specs.declared.Letter.{Letter}
 use Rattle.net.specs.Network.{Ends, Network, isEnd}
 use Rattle.net.specs.Letters.{bodyHolds, letterHolds}
 use Rattle.net.specs.Values.{networkOf, bodyTest}
+use Rattle.net.specs.Sizes.{linkRoom}
 use Rattle.sheet_rules.specs.Values.{netHolds}
 use Rattle.sheet_rules.proofs.Good.{few-places, links-are, ends-are, bodies-are}
 use Rattle.letters.specs.declared.Wrote.{Wrote}
@@ -107,7 +108,7 @@ module _ (net : Net) (x : Letter) (old : List ℕ) where
         denied-3 (simp b)
 
     module _ (l : x .link < net .links) where
-      pub write-place : x .link < 64
+      pub write-place : x .link < linkRoom
       write-place = omega (arith, few-places net whole)
 
       module _ (w : Bool) (g : w ≡ endIn (getD (net .low) (x .link) 0) (getD (net .high) (x .link) 0) (x .sender)) where

@@ -5,7 +5,7 @@ ghost use Prim.Native.Nat.{_≤_, _*_};
 ghost use lib.ListN.{length};
 ghost use Rattle.net.specs.Sizes.{linkRoom};
 ghost use Rattle.fields.specs.Fields.{firstField, writeField, onto};
-ghost use Rattle.sheet.specs.Sheet.{opened, judged, readSheet, linkBytes, writeLinks};
+ghost use Rattle.sheet.specs.Sheet.{stationsTag, endTag, opened, judged, readSheet, linkBytes, writeLinks};
 ghost use Rattle.sheet.specs.Values.{roomOf, Says, writing, wroteNumbers};
 ghost use Rattle.sheet.specs.Steps.{refusedAs, openingOf, endsOf, linkVerdict, verdictOf, linksOf, firstEnds};
 ghost use Rattle.fields.specs.Output.{writingNumbers, writingOutput};
@@ -216,7 +216,7 @@ pub fn read(bytes: &[u8]) -> Reading
 // The fields that are written, each at the front of what is left of the output.
 fn put_stations(out: &mut [u8], n: u8)
     requires { ⌜ 4 ≤ length (now out) ⌝ }
-    ensures { λ r. ⌜ now (out .exit) ≡ onto (writeField 1 (n ∷ [])) (now (out .entry)) ⌝ }
+    ensures { λ r. ⌜ now (out .exit) ≡ onto (writeField stationsTag (n ∷ [])) (now (out .entry)) ⌝ }
 {
     let value = [n];
     fields::put(out, STATIONS, &value);
@@ -232,7 +232,7 @@ fn put_link(out: &mut [u8], low: u8, high: u8)
 
 fn put_last(out: &mut [u8])
     requires { ⌜ 3 ≤ length (now out) ⌝ }
-    ensures { λ r. ⌜ now (out .exit) ≡ onto (writeField 15 []) (now (out .entry)) ⌝ }
+    ensures { λ r. ⌜ now (out .exit) ≡ onto (writeField endTag []) (now (out .entry)) ⌝ }
 {
     fields::put(out, END, b"");
 }

@@ -1,15 +1,16 @@
 use Prim.Native.Nat.{_≤_, _-_}
 use borrow.Author.Needs.{needs}
+use Rattle.net.specs.Sizes.{linkRoom}
 use Rattle.byte_cases.proofs.net_of.Statement.{statement}
 use Rattle.byte_cases.proofs.net_of.Tie as tie
 use Rattle.byte_cases.proofs.net_of.Reads as reads
 use Rattle.byte_cases.proofs.net_of.Lts as lts
 
 abbrev Inv-loop : tie.InvT-loop
-Inv-loop case low₀ high₀ i₀ low high i = i ≤ 64
+Inv-loop case low₀ high₀ i₀ low high i = i ≤ linkRoom
 
 abbrev μ-loop : tie.MeasureT-loop
-μ-loop case low₀ high₀ i₀ low high i = 64 - i
+μ-loop case low₀ high₀ i₀ low high i = linkRoom - i
 
 -- src/main.rt:113:5
 loop-holds : tie.Need-loop-holds Inv-loop μ-loop

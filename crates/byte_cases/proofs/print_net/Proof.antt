@@ -1,5 +1,6 @@
 use Prim.Native.Nat.{_≤_, _-_}
 use borrow.Author.Needs.{needs}
+use Rattle.net.specs.Sizes.{linkRoom}
 use Rattle.byte_cases.proofs.print_net.Statement.{statement}
 use Rattle.byte_cases.proofs.print_net.Tie as tie
 use Rattle.byte_cases.proofs.print_net.Reads as reads
@@ -8,10 +9,10 @@ use Rattle.byte_cases.proofs.is_shown.Reads as is-shown-reads
 use Rattle.byte_cases.proofs.print_byte.Reads as print-byte-reads
 
 abbrev Inv-loop : tie.InvT-loop
-Inv-loop net i₀ i = i ≤ 64
+Inv-loop net i₀ i = i ≤ linkRoom
 
 abbrev μ-loop : tie.MeasureT-loop
-μ-loop net i₀ i = 64 - i
+μ-loop net i₀ i = linkRoom - i
 
 -- src/main.rt:89:5
 print-byte-requires : tie.Need-print-byte-requires Inv-loop μ-loop

@@ -1,5 +1,5 @@
 use denote.Ref.{now}
-use Rattle.letters.proofs.Steps.{form-33, form-request, form-34, form-reply, form-other, form-35, form-notice}
+use Rattle.letters.proofs.Steps.{form-request-size, form-request, form-reply-size, form-reply, form-other, form-notice-size, form-notice}
 use borrow.Author.Needs.{needs}
 use Rattle.letters.proofs.form_of.Statement.{statement}
 use Rattle.letters.proofs.form_of.Tie as tie
@@ -9,7 +9,7 @@ use Rattle.fields.proofs.two_bytes.Reads as two-bytes-reads
 
 returns : tie.Need-returns
 returns c =
-    let a = c .before .before .before .args in form-33 (now (a .bytes)) (a .tag) (a .n) (c .before .before .before .pre)
+    let a = c .before .before .before .args in form-request-size (now (a .bytes)) (a .tag) (a .n) (c .before .before .before .pre)
     (c .before .if1 .taken) (c .if2 .taken)
 
 returns-2 : tie.Need-returns-2
@@ -19,7 +19,7 @@ returns-2 c =
 
 returns-3 : tie.Need-returns-3
 returns-3 c =
-    let a = c .before .before .before .before .args in form-34 (now (a .bytes)) (a .tag) (a .n) (c .before .before .before .before .pre)
+    let a = c .before .before .before .before .args in form-reply-size (now (a .bytes)) (a .tag) (a .n) (c .before .before .before .before .pre)
     (c .before .if3 .taken) (c .if4 .taken)
 
 shared-slice-read-two-bytes : tie.Need-shared-slice-read-two-bytes
@@ -44,7 +44,7 @@ returns-5 c =
 
 returns-6 : tie.Need-returns-6
 returns-6 c =
-    let a = c .before .before .before .before .before .args in form-35 (now (a .bytes)) (a .tag) (a .n)
+    let a = c .before .before .before .before .before .args in form-notice-size (now (a .bytes)) (a .tag) (a .n)
     (c .before .before .before .before .before .pre) (c .before .before .before .if1 .left) (c .before .before .if3 .left) (c .if6 .taken)
 
 shared-slice-read-two-bytes-3 : tie.Need-shared-slice-read-two-bytes-3

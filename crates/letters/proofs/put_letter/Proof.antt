@@ -3,7 +3,7 @@ use mathlib.Core.List.{[], _∷_}
 use mathlib.Core.Path.{sym, ap, ap₂, _∙_}
 use denote.Ref.{now}
 use Rattle.fields.specs.Fields.{writeField}
-use Rattle.letters.specs.Letters.{bodyBytes}
+use Rattle.letters.specs.Letters.{bodyBytes, replyTag, noticeTag}
 use Rattle.letters.proofs.Output.{put-as}
 use borrow.Author.Needs.{needs}
 use Rattle.letters.proofs.put_letter.Statement.{statement}
@@ -70,7 +70,7 @@ returns-2 c =
     let a = c .before .before .before .before .before .before .before .before .before .before .before .args in
     let g = c .before .before .before .before .before .before .before .before .body .given in
     put-as _ _ (c .before .before .put-value2 .result) (now (a .out)) _
-    (ap₂ (λ (x y : ℕ). writeField 34 (a .link ∷ a .side ∷ x ∷ y ∷ []))
+    (ap₂ (λ (x y : ℕ). writeField replyTag (a .link ∷ a .side ∷ x ∷ y ∷ []))
     (c .before .before .before .before .before .before .high-byte .ensures) (c .before .before .before .before .before .low-byte .ensures)
     ∙ sym (ap (bodyBytes (a .link) (a .side)) (g .1)))
     (c .before .before .put-value2 .ensures)
@@ -83,7 +83,7 @@ returns-3 c =
     let a = c .before .before .before .before .before .before .before .before .before .before .before .args in
     let g = c .before .before .before .before .before .before .before .before .body2 .given in
     put-as _ _ (c .before .before .put-value3 .result) (now (a .out)) _
-    (ap₂ (λ (x y : ℕ). writeField 35 (a .link ∷ a .side ∷ g .0 .0 ∷ x ∷ y ∷ []))
+    (ap₂ (λ (x y : ℕ). writeField noticeTag (a .link ∷ a .side ∷ g .0 .0 ∷ x ∷ y ∷ []))
     (c .before .before .before .before .before .before .high-byte2 .ensures) (c .before .before .before .before .before .low-byte2 .ensures)
     ∙ sym (ap (bodyBytes (a .link) (a .side)) (g .1)))
     (c .before .before .put-value3 .ensures)
