@@ -13,6 +13,7 @@ use Rattle.lists.proofs.Tests.{is-T}
 use Rattle.lists.proofs.Rooms.{closing-none, closing-more}
 use Rattle.net.specs.declared.Letter.{Letter}
 use Rattle.net.specs.Values.{networkOf}
+use Rattle.net.specs.Sizes.{stationRoom, linkRoom, letterRoom}
 use Rattle.station.specs.declared.Kind.{Kind}
 use Rattle.station.specs.Events.{takesLetter, linkOf}
 use Rattle.station_plan.specs.Comes.{EventPlans}
@@ -30,7 +31,7 @@ use Rattle.step.proofs.step.Tie as tie
 
 abbrev Inv-loop : tie.InvT-loop
 Inv-loop kind a b s₀ flying place x me named k about own who on of plan told send count leaves left answer last from i₀ s i =
-    (from ≤ i) × (i ≤ last) × (from < last → last < 4096) × (length (s₀ .letters) ≡ 4096) × (s ≡ withLetters s₀
+    (from ≤ i) × (i ≤ last) × (from < last → last < letterRoom) × (length (s₀ .letters) ≡ letterRoom) × (s ≡ withLetters s₀
     (closing from (s₀ .letters) i))
 
 abbrev μ-loop : tie.MeasureT-loop
@@ -38,21 +39,21 @@ abbrev μ-loop : tie.MeasureT-loop
 
 abbrev Inv-loop2 : tie.InvT-loop2
 Inv-loop2 kind a b s₀ flying place me named k about own who on of plan told count leaves left answer last from free post₀ i₀ s post i =
-    (i ≤ count) × (last + count ≤ 4096) × (count ≡ length (posted me told post₀)) × Going
+    (i ≤ count) × (last + count ≤ letterRoom) × (count ≡ length (posted me told post₀)) × Going
     post × (posted me told post ≡ drop i (posted me told post₀)) × (s ≡ withLetters s₀ (s .letters))
-    × (length told ≡ 64)
-    × ((ls : List Letter) → s₀ .letters ≡ roomed 4096 noLetter ls → length ls ≡ last
-    → s .letters ≡ roomed 4096 noLetter (ls ++ take i (posted me told post₀)))
+    × (length told ≡ linkRoom)
+    × ((ls : List Letter) → s₀ .letters ≡ roomed letterRoom noLetter ls → length ls ≡ last
+    → s .letters ≡ roomed letterRoom noLetter (ls ++ take i (posted me told post₀)))
 
 abbrev μ-loop2 : tie.MeasureT-loop2
 μ-loop2 kind a b s₀ flying place me named k about own who on of plan told count leaves left answer last from free post₀ i₀ s post i =
     count - i
 
 -- what is read is within its room
-place-within : (c : tie.After-place-of Inv-loop μ-loop Inv-loop2 μ-loop2) → c .place-of .result < 4096
+place-within : (c : tie.After-place-of Inv-loop μ-loop Inv-loop2 μ-loop2) → c .place-of .result < letterRoom
 place-within c = place-few (c .before .before .before .before .before .args .a) (c .place-of .result) (c .place-of .ensures)
 
-who-within : (c : tie.After-concerned Inv-loop μ-loop Inv-loop2 μ-loop2) → c .concerned .result < 32
+who-within : (c : tie.After-concerned Inv-loop μ-loop Inv-loop2 μ-loop2) → c .concerned .result < stationRoom
 who-within c =
     let a = c .before .before .before .before .before .before .before .args in
     room-few (concernedBy (c .before .before .before .kind-of .result) (networkOf (a .t1 .net)) (a .a)
@@ -83,7 +84,7 @@ facts c =
         names = c .before .before .before .before .before .before .before .before .before .before .before .before .before .before .there .ensures ∙ ap (λ (e : Kind). existsAs e (networkOf (a .t1 .net)) (a .t1 .flying) (a .a) (a .b)) k;
         link =
             c .before .before .before .before .before .before .before .before .before .before .before .before .before .link-of .ensures
-            ∙ ap (λ (e : Kind). linkOf e (a .b) x % 64) k;
+            ∙ ap (λ (e : Kind). linkOf e (a .b) x % linkRoom) k;
         subject = c .before .before .before .before .before .before .before .before .before .before .before .before .subject-of .ensures;
         mine = c .before .before .before .before .before .before .before .before .before .before .before .own-links .ensures;
         plans = subst (λ (e : Kind). EventPlans (c .before .before .before .before .before .before .before .before .before .before .before .before .before .before .there .result) e (c .before .before .before .before .before .before .before .before .before .before .before .own-links .result) (c .before .before .before .before .before .before .before .before .before .before .before .before .before .before .before .concerned .result) (c .before .before .before .before .before .before .before .before .before .before .before .before .before .link-of .result) x (getD (st .counters) (c .before .before .before .before .before .before .before .before .before .before .before .before .before .link-of .result) 0) (getD (st .counters) (c .before .before .before .before .before .before .before .before .before .before .before .before .subject-of .result) 0) (st .condition) (st .marks) (c .before .before .before .before .before .before .before .plan-event .result)) k (c .before .before .before .before .before .before .before .plan-event .ensures .1);
@@ -98,7 +99,7 @@ facts c =
     }
 
 -- the table that is told has its room
-told-size : (c : tie.After-told-table Inv-loop μ-loop Inv-loop2 μ-loop2) → length (c .told-table .result) ≡ 64
+told-size : (c : tie.After-told-table Inv-loop μ-loop Inv-loop2 μ-loop2) → length (c .told-table .result) ≡ linkRoom
 told-size c = search needs
 
 -- the state where the letters begin to close up, and where new letters begin to be put
@@ -391,7 +392,7 @@ returns-3 c =
     ∙ closed-up f q from left free unused refl (c .before .before .before .before .before .before .before .before .pick .ensures)
     (c .before .before .before .before .before .pick2 .ensures) (c .before .before .before .before .freed .ensures) in
     let put = l .inv .7 (leftLetters f q) closed (left-length f q)
-    ∙ ap (λ (x : List Letter). roomed 4096 noLetter (leftLetters f q ++ x))
+    ∙ ap (λ (x : List Letter). roomed letterRoom noLetter (leftLetters f q ++ x))
     (ap (λ (i : ℕ). take i (posted me told post)) all ∙ take-length (posted me told post) ∙ new) in
     made f q (l .s .net) (l .s .stations) (l .s .letters) (left + c .before .before .before .before .before .before .before .before .before .before .before .before .before .before .before .count .result) (c .before .before .before .before .before .before .before .before .before .before .kept-table .result)
     (ap (λ (x : State). x .net) (l .inv .5) ∙ ap (λ (x : State). x .net) (m .inv .4))
