@@ -69,7 +69,8 @@ pub bytes-append : (xs ys : List ℕ) → T (areBytes xs) → T (areBytes ys) �
 bytes-append xs ys t u = subst⁻¹ T (every-append (λ b. ltb b 256) xs ys) (and-i (areBytes xs) _ t u)
 
 -- a field of bytes whose length fits in two bytes is written in bytes
-pub field-bytes : (tag : ℕ) (value : List ℕ) → tag < 256 → length value ≤ longestValue → T (areBytes value) → T (areBytes (writeField tag value))
+pub field-bytes : (tag : ℕ) (value : List ℕ) → tag < 256 → length value ≤ longestValue → T (areBytes value)
+    → T (areBytes (writeField tag value))
 unfolding writeField
 field-bytes tag value h l t =
     let high : length value / 256 < 256 = omega arith in

@@ -8,7 +8,8 @@ use lib.ListN.{length, getD, take, drop, length-drop, length-append, drop-of-len
 use lib.Seq.{take-at, drop-at, take-all, drop-drop, length-take-le, getD-take, getD-drop}
 use borrow.Author.Tests.{lt-ltb, le-ltb, le-leb}
 use Rattle.fields.specs.declared.Cut.the-variants.{Short, Whole}
-use Rattle.fields.specs.Fields.{Field, short, field, wide, cutValue, firstField, writeField, onto, cutOf, putField, putSize, longestValue}
+use Rattle.fields.specs.Fields.{Field, short, field, wide, cutValue, firstField, writeField}
+use Rattle.fields.specs.Fields.{onto, cutOf, putField, putSize, longestValue}
 use Rattle.fields.proofs.Law.{value-cut}
 use Rattle.fields.proofs.Steps.{head-short, head-whole}
 

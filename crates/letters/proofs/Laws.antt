@@ -23,7 +23,8 @@ use Rattle.net.specs.Values.{networkOf}
 use Rattle.sheet_rules.specs.Values.{netHolds}
 use Rattle.net.specs.Sizes.{linkRoom, largestCounter}
 use Rattle.net.specs.Letters.{isCounter, bodyHolds, letterHolds}
-use Rattle.letters.specs.Letters.{refused, letter, Form, unknown, says, formOf, senderOf, sideOf, valuesHold, judged, letterFrom, readLetter, bodyBytes, writeLetter}
+use Rattle.letters.specs.Letters.{refused, letter, Form, unknown, says, formOf, senderOf, sideOf, valuesHold}
+use Rattle.letters.specs.Letters.{judged, letterFrom, readLetter, bodyBytes, writeLetter}
 use Rattle.letters.specs.Values.{reading}
 use Rattle.sheet_rules.proofs.Rules.{rules-of}
 use Rattle.sheet_rules.proofs.Ends.{ends-rise}

@@ -23,7 +23,8 @@ use Rattle.letters.specs.declared.Answer.{Answer}
 use Rattle.letters.specs.declared.Answer.the-variants as answer
 use Rattle.letters.specs.declared.Wrote.{Wrote}
 use Rattle.letters.specs.declared.Wrote.the-variants as wrote
-use Rattle.letters.specs.Letters.{Letters, refused, letter, Form, unknown, says, formOf, senderOf, valuesHold, judged, letterFrom, readLetter, writeLetter, requestTag, replyTag, noticeTag}
+use Rattle.letters.specs.Letters.{Letters, refused, letter, Form, unknown, says, formOf, senderOf, valuesHold, judged}
+use Rattle.letters.specs.Letters.{letterFrom, readLetter, writeLetter, requestTag, replyTag, noticeTag}
 use Rattle.letters.specs.Values.{reading, lettersOf, writing, wroteNumbers}
 
 -- ---- reading: the list of numbers
@@ -59,7 +60,8 @@ unknown-only t v rest net e =
     go x y z false false true p q r e = let n : _≡_ {A = ℕ} 0 1 = cc in absurd (omega arith)
     go x y z false false false p q r e = unfit p q r
 
-unknown-when : (t : ℕ) (v : List ℕ) → isField requestTag 2 t v ≡ false → isField replyTag 4 t v ≡ false → isField noticeTag 5 t v ≡ false → formOf t v ≡ unknown
+unknown-when : (t : ℕ) (v : List ℕ) → isField requestTag 2 t v ≡ false → isField replyTag 4 t v ≡ false → isField noticeTag 5 t v ≡ false
+    → formOf t v ≡ unknown
 unfolding formOf
 unknown-when t v p q r = rw (p, q, r)
 

@@ -81,8 +81,8 @@ module _ (bytes : List ℕ) (tag n : ℕ) (fits : n + 3 ≤ length bytes) where
   pub form-notice-size : (tag ≡ requestTag → ⊥) → (tag ≡ replyTag → ⊥) → (n ≡ 5 → ⊥) → unknown ≡ formOf tag value
   form-notice-size p q h = sym (form-is ∙ simp (ne-eqb tag requestTag p, ne-eqb tag replyTag q, ne-eqb n 5 h, and-no))
 
-  pub form-notice : (c : ℕ) → (tag ≡ requestTag → ⊥) → (tag ≡ replyTag → ⊥) → tag ≡ noticeTag → n ≡ 5 → c ≡ wide (getD bytes 6 0) (getD bytes 7 0)
-      → says (Notice (getD bytes 5 0) c) ≡ formOf tag value
+  pub form-notice : (c : ℕ) → (tag ≡ requestTag → ⊥) → (tag ≡ replyTag → ⊥) → tag ≡ noticeTag → n ≡ 5
+      → c ≡ wide (getD bytes 6 0) (getD bytes 7 0) → says (Notice (getD bytes 5 0) c) ≡ formOf tag value
   form-notice c p q t h e =
       sym (form-is ∙ simp (ne-eqb tag requestTag p, ne-eqb tag replyTag q, eq-eqb tag noticeTag t, eq-eqb n 5 h)
       (ap₂ (λ (x y : ℕ). says (Notice x y)) (byte 2 (omega arith)) (ap₂ wide (byte 3 (omega arith)) (byte 4 (omega arith)) ∙ sym e)))
