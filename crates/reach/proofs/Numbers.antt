@@ -26,7 +26,8 @@ module _ (net : Net) (works : ℕ → Bool) (s : ℕ) where
   pub lowest-of-reach : lowestMissing (wordOf (reachOf net works s)) (net .stations) ≡ lowestOf (reachOf net works s)
   unfolding lowestMissing
   lowest-of-reach =
-      ap (λ (p : ℕ → Bool). firstOf p (below (min (net .stations) stationRoom)) 255) (fun-ext (λ t. ap not (in-wordOf (reachOf net works s) t)))
+      ap (λ (p : ℕ → Bool). firstOf p (below (min (net .stations) stationRoom)) 255)
+      (fun-ext (λ t. ap not (in-wordOf (reachOf net works s) t)))
       ∙ ap (λ (n : ℕ). firstOf (λ t. not (has (reachOf net works s) t)) (below n) 255) (sym (reach-length _ _ s ∙ stations-of net))
 
 pub reached-is : (net : Net) (works : ℕ → Bool) (s word ones lowest : ℕ) → word ≡ wordOf (reachOf net works s) → ones ≡ onesOf word
@@ -46,4 +47,5 @@ lowest-run w n z r h =
 
 pub lowest-none : (w n z : ℕ) → Run 32 w z → min n stationRoom ≤ z → 255 ≡ lowestMissing w n
 unfolding lowestMissing
-lowest-none w n z r h = sym (first-none (λ t. not (inWord w t)) (min n stationRoom) 255 (λ t l. ap not (one-is-in w t (r .has t (omega arith)))))
+lowest-none w n z r h =
+    sym (first-none (λ t. not (inWord w t)) (min n stationRoom) 255 (λ t l. ap not (one-is-in w t (r .has t (omega arith)))))

@@ -23,7 +23,8 @@ module _ (links : ℕ) (counters : List ℕ) where
   -- a link that is not there does not work
   idle-beyond : (k : ℕ) → min links linkRoom ≤ k → worksIn (take (min links linkRoom) counters) k ≡ false
   idle-beyond k h =
-      ap even (List·getD-eq-default (take (min links linkRoom) counters) 1 {n = k} (omega (arith, length-take (min links linkRoom) counters)))
+      ap even (List·getD-eq-default (take (min links linkRoom) counters) 1 {n = k}
+      (omega (arith, length-take (min links linkRoom) counters)))
 
   in-working : (k : ℕ) → inWord (workingOf links counters) k ≡ worksIn (take (min links linkRoom) counters) k
   in-working k = go (decLt k linkRoom)
@@ -33,13 +34,14 @@ module _ (links : ℕ) (counters : List ℕ) where
       go (no h) = out-by (worksIn (take (min links linkRoom) counters)) k (omega arith) ∙ sym (idle-beyond k (omega arith))
 
   -- the word as the code makes it, from the counters in their room
-  pub working-made : length counters ≡ linkRoom → wordBy (upTo (λ k. even (getD counters k 0)) (min links linkRoom)) ≡ workingOf links counters
+  pub working-made : length counters ≡ linkRoom
+      → wordBy (upTo (λ k. even (getD counters k 0)) (min links linkRoom)) ≡ workingOf links counters
   working-made size =
       by-same (upTo (λ k. even (getD counters k 0)) (min links linkRoom)) (worksIn (take (min links linkRoom) counters))
       (λ k l. go k (decLt k (min links linkRoom)))
     where
-      go : (k : ℕ) → Dec (k < min links linkRoom) → upTo (λ k. even (getD counters k 0)) (min links linkRoom) k ≡ worksIn (take (min links linkRoom) counters)
-          k
+      go : (k : ℕ) → Dec (k < min links linkRoom) → upTo (λ k. even (getD counters k 0)) (min links linkRoom) k
+          ≡ worksIn (take (min links linkRoom) counters) k
       go k (yes h) =
           ap₂ (λ (x : Bool) (c : ℕ). x && even c) (lt-ltb k (min links linkRoom) h)
           (getD-any counters k 0 1 (omega arith) ∙ sym (getD-take (min links linkRoom) counters k 1 h))
