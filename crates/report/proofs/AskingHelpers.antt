@@ -21,7 +21,9 @@ pub place-past : (a : ℕ) → stationRoom ≤ a → 0 ≡ inRoom a
 place-past a h = sym (ap (λ (b : Bool). if b then a else 0) (le-ltb a stationRoom h))
 
 pub place-few : (a r : ℕ) → r ≡ inRoom a → r < stationRoom
-place-few a r e = subst⁻¹ (λ (n : ℕ). n < stationRoom) e (if-elim (λ (n : ℕ). n < stationRoom) (ltb a stationRoom) (λ t. ltb→lt a stationRoom t) (λ t. omega arith))
+place-few a r e =
+    subst⁻¹ (λ (n : ℕ). n < stationRoom) e
+    (if-elim (λ (n : ℕ). n < stationRoom) (ltb a stationRoom) (λ t. ltb→lt a stationRoom t) (λ t. omega arith))
 
 -- ---- the number
 module _ (good : Bool) (stations a : ℕ) (x : Condition) where

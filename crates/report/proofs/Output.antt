@@ -95,8 +95,9 @@ module _ (net : Net) (works : ℕ → Bool) (s : ℕ) where
         ∙ ap (λ (n : ℕ). map linkByte (below n)) (sym (links-of net))
 
     -- the output after the stations, and after the links, which are put in what is left of it
-    module _ (n m : ℕ) (ne : n ≡ min (net .stations) stationRoom) (me : m ≡ linkCount net) (old one part two : List ℕ) (room : n + m ≤ length old)
-        (p : one ≡ filled (bitAt word) old n) (q : part ≡ filled (linkShown net works word) (take (length one - n) (drop n one)) m)
+    module _ (n m : ℕ) (ne : n ≡ min (net .stations) stationRoom) (me : m ≡ linkCount net) (old one part two : List ℕ)
+        (room : n + m ≤ length old) (p : one ≡ filled (bitAt word) old n)
+        (q : part ≡ filled (linkShown net works word) (take (length one - n) (drop n one)) m)
         (w : two ≡ take n one ++ (part ++ drop (length one - n) (drop n one))) where
       abbrev front : List ℕ
       front = map (bitAt word) (below n)

@@ -106,7 +106,9 @@ fn put_links(out: &mut [u8], net: Net, working: u64, word: u32, m: u8)
 // The report over the working links, where no number refuses it yet and the output has room for it.
 fn written(number: u8, net: Net, working: u64, me: u8, out: &mut [u8]) -> u8
     ensures answer { λ r. ⌜ r ≡ withRoom number (reportIn net (inWord working) me) (now (out .entry)) ⌝ }
-    ensures output { λ r. ⌜ now (out .exit) ≡ writtenOver (withRoom number (reportIn net (inWord working) me) (now (out .entry))) (reportIn net (inWord working) me) (now (out .entry)) ⌝ }
+    ensures output { λ r. ⌜ now (out .exit)
+        ≡ writtenOver (withRoom number (reportIn net (inWord working) me) (now (out .entry)))
+        (reportIn net (inWord working) me) (now (out .entry)) ⌝ }
 {
     if number != 0 {
         return number;

@@ -10,7 +10,8 @@ use Rattle.lists.proofs.Tests.{and-l, and-r, if-elim}
 use Rattle.fields.specs.Fields.{Field, short, field, isField, isEmpty}
 use Rattle.net.specs.Network.{Ends}
 use Rattle.sheet_rules.specs.Rules.{precedes, endsHold}
-use Rattle.sheet.specs.Sheet.{refused, sheet, Opening, stations, stationsHold, opened, Verdict, wrong, link, last, linkOf, judged, readLinks, stationsTag, linkTag, endTag}
+use Rattle.sheet.specs.Sheet.{refused, sheet, Opening, stations, stationsHold, opened, Verdict, wrong}
+use Rattle.sheet.specs.Sheet.{link, last, linkOf, judged, readLinks, stationsTag, linkTag, endTag}
 
 not-not : (b : Bool) → T (not (not b)) → T b
 not-not true t = tt
@@ -51,7 +52,8 @@ is-stations (field t v r) n rest e =
     let k : getD v 0 0 ≡ n = cc in
     let w : r ≡ rest = cc in
     let g : t ≡ stationsTag = tag-is stationsTag 1 t v h in
-    record { value = v; cut = cc; size = size-is stationsTag 1 t v h; count = k; good = subst (λ (y : ℕ). T (stationsHold y)) k (not-not (stationsHold (getD v 0 0)) s) })) e
+    let o = subst (λ (y : ℕ). T (stationsHold y)) k (not-not (stationsHold (getD v 0 0)) s) in
+    record { value = v; cut = cc; size = size-is stationsTag 1 t v h; count = k; good = o })) e
 
 -- ---- a later field
 pub record IsLink (n : ℕ) (prev : Ends) (f : Field) (e : Ends) (rest : List ℕ) : Type 0 where

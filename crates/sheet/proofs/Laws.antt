@@ -14,12 +14,14 @@ use Rattle.net.specs.Network.{Ends, Network}
 use Rattle.net.specs.Sizes.{stationRoom, linkRoom}
 use Rattle.sheet_rules.specs.Rules.{precedes, endsHold, sheetHolds}
 use Rattle.sheet_rules.proofs.Rules.{lower-first, higher-there, rules-of}
-use Rattle.sheet.specs.Sheet.{sheet, Opening, faulty, stations, stationsHold, opened, Verdict, wrong, link, last, noLink, judged, readLinks, readOpened, readSheet, linkBytes, writeLinks, writeSheet, stationsTag, linkTag, endTag}
+use Rattle.sheet.specs.Sheet.{sheet, Opening, faulty, stations, stationsHold, opened, Verdict, wrong, link, last, noLink, judged}
+use Rattle.sheet.specs.Sheet.{readLinks, readOpened, readSheet, linkBytes, writeLinks, writeSheet, stationsTag, linkTag, endTag}
 use Rattle.sheet.proofs.Rising.{rising, Risen, risen-of, of-risen}
 use Rattle.sheet.proofs.Judged.{is-stations, is-link, is-last, last-read}
 
 -- ---- what was written is judged good
-pub open-written : (n : ℕ) (rest : List ℕ) → T (stationsHold n) → opened (firstField (writeField stationsTag (n ∷ []) ++ rest)) ≡ stations n rest
+pub open-written : (n : ℕ) (rest : List ℕ) → T (stationsHold n)
+    → opened (firstField (writeField stationsTag (n ∷ []) ++ rest)) ≡ stations n rest
 unfolding opened
 open-written n rest t = rw (cut-written stationsTag (n ∷ []) rest, T-is (stationsHold n) t)
 
@@ -30,7 +32,8 @@ judge-link n prev e rest t u = rw (cut-written linkTag (e .low ∷ e .high ∷ [
 
 judge-last : (n : ℕ) (prev : Ends) → judged n prev (firstField (writeField endTag [])) ≡ last
 unfolding judged
-judge-last n prev = ap (λ (l : List ℕ). judged n prev (firstField l)) (sym (append-nil (writeField endTag []))) ∙ rw (cut-written endTag [] [])
+judge-last n prev =
+    ap (λ (l : List ℕ). judged n prev (firstField l)) (sym (append-nil (writeField endTag []))) ∙ rw (cut-written endTag [] [])
 
 -- the link that stands before what follows es
 abbrev pub lastOf : Ends → List Ends → Ends
@@ -109,7 +112,8 @@ pub link-written : (n : ℕ) (prev : Ends) (bytes : List ℕ) (e : Ends) (rest :
 link-written n prev bytes e rest t p =
     let w = is-link n prev (firstField bytes) e rest p in
     written-cut bytes linkTag (w .value) rest t (w .cut)
-    ∙ ap (λ (v : List ℕ). writeField linkTag v ++ rest) (two-bytes (w .value) (w .size) ∙ ap (λ (x : Ends). x .low ∷ x .high ∷ []) (w .ends))
+    ∙ ap (λ (v : List ℕ). writeField linkTag v ++ rest) (two-bytes (w .value) (w .size)
+    ∙ ap (λ (x : Ends). x .low ∷ x .high ∷ []) (w .ends))
 
 pub rest-bytes : (bytes front rest : List ℕ) → T (areBytes bytes) → bytes ≡ front ++ rest → T (areBytes rest)
 rest-bytes bytes front rest t e = parts-bytes front rest (subst (λ (l : List ℕ). T (areBytes l)) e t) .1
@@ -148,7 +152,8 @@ ended-link room n prev so bytes net x rest p r =
       few = omega (arith, r .few);
       wrote =
           λ t. let f = link-written n prev bytes x rest t p in
-          f ∙ ap (λ (l : List ℕ). linkBytes x ++ l) (r .wrote (rest-bytes bytes (linkBytes x) rest t f))
+          f ∙ ap (λ (l : List ℕ). linkBytes x ++ l)
+          (r .wrote (rest-bytes bytes (linkBytes x) rest t f))
           ∙ sym (append-assoc (linkBytes x) (writeLinks (r .es)) (writeField endTag []));
     }
 
@@ -190,7 +195,8 @@ whole bytes net e = go (opened (firstField bytes)) refl e
           rules = record { count = w .good; few = r .few; order = r .order };
           wrote =
               λ t. let f = stations-written bytes n rest t p in
-              f ∙ ap (λ (l : List ℕ). writeField stationsTag (n ∷ []) ++ l) (r .wrote (rest-bytes bytes (writeField stationsTag (n ∷ [])) rest t f))
+              f ∙ ap (λ (l : List ℕ). writeField stationsTag (n ∷ []) ++ l)
+              (r .wrote (rest-bytes bytes (writeField stationsTag (n ∷ [])) rest t f))
               ∙ sym (append-assoc (writeField stationsTag (n ∷ [])) (writeLinks (r .es)) (writeField endTag []));
         })
 

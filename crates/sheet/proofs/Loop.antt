@@ -15,7 +15,8 @@ use Rattle.sheet.specs.declared.Answer.the-variants.{Good, TooManyLinks}
 use Rattle.sheet.specs.declared.Reading.{Reading}
 use Rattle.sheet.specs.declared.Next.{Next}
 use Rattle.sheet.specs.declared.Next.the-variants.{Wrong, Link, Last}
-use Rattle.sheet.specs.Sheet.{Sheet, Opening, faulty, stations, opened, Verdict, wrong, link, last, judged, readLinks, readOpened, readSheet}
+use Rattle.sheet.specs.Sheet.{Sheet, Opening, faulty, stations, opened, Verdict, wrong}
+use Rattle.sheet.specs.Sheet.{link, last, judged, readLinks, readOpened, readSheet}
 use Rattle.sheet.specs.Values.{numberOf, roomOf, valueOf, sheetNumber, sheetNet, Says}
 use Rattle.sheet.specs.Steps.{refusedAs, endsOf, verdictOf, linksOf}
 use Rattle.sheet.proofs.Judged.{is-link, is-stations, wrong-read, last-read}

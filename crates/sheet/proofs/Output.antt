@@ -66,16 +66,13 @@ module _ (low high : List ℕ) where
   links-fit m old h = length-onto (writeLinks (firstEnds low high m)) old (omega (arith, first-length m))
 
 -- ---- the whole sheet
-module _ (net : Net) (r : Bool) (e : r ≡ netHolds net) where
-  pub write-bad : (old : List ℕ) → not r ≡ true → (wroteNumbers BadNetwork ≡ writingNumbers (writing net old)) × (old ≡ writingOutput
-      (writing net old) old)
+module _ (net : Net) where
+  pub write-bad : (r : Bool) → r ≡ netHolds net → (old : List ℕ) → not r ≡ true
+      → (wroteNumbers BadNetwork ≡ writingNumbers (writing net old)) × (old ≡ writingOutput (writing net old) old)
   unfolding writing
-  write-bad old h = let b : netHolds net ≡ false = sym e ∙ not-true r h in (simp b, simp b)
+  write-bad r e old h = let b : netHolds net ≡ false = sym e ∙ not-true r h in (simp b, simp b)
 
-  module _ (h : not r ≡ false) where
-    good : netHolds net ≡ true
-    good = sym e ∙ not-false r h
-
+  module _ (good : netHolds net ≡ true) where
     pub few-stations : net .stations ≤ stationRoom
     few-stations = holds-of net (is-T (netHolds net) good) .few-stations
 
@@ -134,8 +131,8 @@ module _ (net : Net) (r : Bool) (e : r ≡ netHolds net) where
           pub write-all : (three last : List ℕ) → last ≡ onto (writeField endTag [])
               (take (length two - (4 + 5 * net .links)) (drop (4 + 5 * net .links) two))
               → three ≡ take (4 + 5 * net .links) two ++ (last ++ drop (length two - (4 + 5 * net .links)) (drop (4 + 5 * net .links) two))
-              → (wroteNumbers (Bytes (4 + 5 * net .links + 3)) ≡ writingNumbers (writing net old)) × (three ≡ writingOutput
-              (writing net old) old)
+              → (wroteNumbers (Bytes (4 + 5 * net .links + 3)) ≡ writingNumbers (writing net old))
+              × (three ≡ writingOutput (writing net old) old)
           write-all three last f w = (
             ap (λ (n : ℕ). 0 ∷ n ∷ []) (sym sheet-length) ∙ ap writingNumbers (sym written),
             w ∙ lent-more (front ++ middle) (writeField endTag []) old two last (4 + 5 * net .links) two-is both-length f

@@ -19,7 +19,9 @@ use Rattle.sheet_rules.specs.Values.{netHolds}
 use Rattle.net.specs.Network.{Ends, Network}
 use Rattle.net.specs.Sizes.{linkRoom}
 use Rattle.sheet_rules.specs.Rules.{precedes, endsHold, sheetHolds}
-use Rattle.sheet.specs.Sheet.{refused, Opening, faulty, stations, stationsHold, opened, Verdict, wrong, link, last, linkOf, noLink, judged, readLinks, readOpened, readSheet, linkBytes, writeLinks, writeSheet, stationsTag, linkTag, endTag}
+use Rattle.sheet.specs.Sheet.{refused, Opening, faulty, stations, stationsHold, opened, Verdict, wrong, link, last, linkOf, noLink}
+use Rattle.sheet.specs.Sheet.{judged, readLinks, readOpened, readSheet, linkBytes, writeLinks, writeSheet, stationsTag, linkTag}
+use Rattle.sheet.specs.Sheet.{endTag}
 use Rattle.sheet.specs.Values.{writing}
 use Rattle.sheet.proofs.Rising.{rising, risen-of, of-risen}
 use Rattle.sheet.proofs.Judged.{is-stations, is-link, wrong-read, full-read}
@@ -33,7 +35,8 @@ pub data FirstFault : Field → ℕ → Type 0 where
   -- another tag, or another length
   unfit : {t : ℕ} {v rest : List ℕ} → isField stationsTag 1 t v ≡ false → FirstFault (field t v rest) 2
   -- not 1 to 32 stations
-  no-count : {t : ℕ} {v rest : List ℕ} → isField stationsTag 1 t v ≡ true → stationsHold (getD v 0 0) ≡ false → FirstFault (field t v rest) 3
+  no-count : {t : ℕ} {v rest : List ℕ} → isField stationsTag 1 t v ≡ true → stationsHold (getD v 0 0) ≡ false
+      → FirstFault (field t v rest) 3
 
 -- a later field after the link prev, and its fault
 pub data Fault (n : ℕ) (prev : Ends) : Field → ℕ → Type 0 where
@@ -90,7 +93,8 @@ module _ (n : ℕ) (prev : Ends) where
   unfolding judged
   judged-only short k e = let m : 1 ≡ k = cc in subst (Fault n prev short) m cut-short
   judged-only (field t v rest) k e =
-      go (isField linkTag 2 t v) (endsHold n (linkOf v)) (precedes prev (linkOf v)) (isField endTag 0 t v && isEmpty rest) refl refl refl refl e
+      go (isField linkTag 2 t v) (endsHold n (linkOf v)) (precedes prev (linkOf v)) (isField endTag 0 t v && isEmpty rest) refl refl
+      refl refl e
     where
       go : (a b c d : Bool) → isField linkTag 2 t v ≡ a → endsHold n (linkOf v) ≡ b → precedes prev (linkOf v) ≡ c
           → (isField endTag 0 t v && isEmpty rest) ≡ d
@@ -126,7 +130,8 @@ unfolding writeLinks
 stopped-wrong room n prev so bytes j k p q =
     let e = wrong-read room n so j in
     let m : j ≡ k = cc in
-    record { es = []; rest = bytes; order = tt; few = omega arith; front = refl; why = inl (judged-only n prev (firstField bytes) k (p ∙ ap wrong m)) }
+    let why = judged-only n prev (firstField bytes) k (p ∙ ap wrong m) in
+    record { es = []; rest = bytes; order = tt; few = omega arith; front = refl; why = inl why }
 
 stopped-link : (room n : ℕ) (prev : Ends) (bytes : List ℕ) (k : ℕ) (x : Ends) (rest : List ℕ) → T (areBytes bytes)
     → judged n prev (firstField bytes) ≡ link x rest → Stopped room n x rest k → Stopped (suc room) n prev bytes k

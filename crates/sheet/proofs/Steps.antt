@@ -17,7 +17,8 @@ use Rattle.sheet_rules.specs.Rules.{precedes, endsHold}
 use Rattle.sheet.specs.declared.Answer.the-variants.{OutOfRange, OutOfOrder}
 use Rattle.sheet.specs.declared.Next.{Next}
 use Rattle.sheet.specs.declared.Next.the-variants.{Wrong, Link}
-use Rattle.sheet.specs.Sheet.{Opening, faulty, stations, stationsHold, opened, Verdict, wrong, link, last, linkOf, judged, stationsTag, linkTag, endTag}
+use Rattle.sheet.specs.Sheet.{Opening, faulty, stations, stationsHold, opened, Verdict, wrong}
+use Rattle.sheet.specs.Sheet.{link, last, linkOf, judged, stationsTag, linkTag, endTag}
 use Rattle.sheet.specs.Values.{roomOf}
 use Rattle.sheet.specs.Steps.{endsOf, linkVerdict, verdictOf}
 
@@ -33,7 +34,8 @@ module _ (bytes : List ℕ) where
 
     abbrev openedAs : ℕ → ℕ → Opening
     openedAs n y =
-        if not (eqb tag stationsTag && eqb n 1) then faulty 2 else (if not (stationsHold y) then faulty 3 else stations y (drop (3 + n) bytes))
+        if not (eqb tag stationsTag && eqb n 1) then faulty 2
+        else (if not (stationsHold y) then faulty 3 else stations y (drop (3 + n) bytes))
 
     seen : opened (firstField bytes) ≡ openedAs n x
     unfolding opened x
@@ -60,7 +62,8 @@ module _ (bytes : List ℕ) where
       pub opened-many : stationRoom < getD bytes 3 0 → faulty 3 ≡ opened (firstField bytes)
       opened-many h = sym (one ∙ simp (lt-leb (getD bytes 3 0) stationRoom h, and-no))
 
-      pub opened-good : 1 ≤ getD bytes 3 0 → getD bytes 3 0 ≤ stationRoom → stations (getD bytes 3 0) (drop 4 bytes) ≡ opened (firstField bytes)
+      pub opened-good : 1 ≤ getD bytes 3 0 → getD bytes 3 0 ≤ stationRoom
+          → stations (getD bytes 3 0) (drop 4 bytes) ≡ opened (firstField bytes)
       opened-good l h = sym (one ∙ simp (le-leb 1 (getD bytes 3 0) l, le-leb (getD bytes 3 0) stationRoom h))
 
 -- ---- a link's ends
@@ -116,7 +119,8 @@ module _ (bytes : List ℕ) (n a b : ℕ) where
     pub judged-size : tag ≡ linkTag → (m ≡ 2 → ⊥) → wrong 2 ≡ want
     judged-size t h = let t′ : tag ≡ endTag → ⊥ = λ u. omega arith in sym (seen-later ∙ simp (ne-eqb m 2 h, and-no, ne-eqb tag endTag t′))
 
-    pub judged-link : (r : Next) → tag ≡ linkTag → m ≡ 2 → r ≡ linkVerdict n a b (getD bytes 3 0) (getD bytes 4 0) → verdictOf bytes r ≡ want
+    pub judged-link : (r : Next) → tag ≡ linkTag → m ≡ 2 → r ≡ linkVerdict n a b (getD bytes 3 0) (getD bytes 4 0)
+        → verdictOf bytes r ≡ want
     unfolding linkVerdict
     judged-link r t e p = ap (verdictOf bytes) p ∙ sym (seen-later ∙ two)
       where

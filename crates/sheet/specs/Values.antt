@@ -40,7 +40,12 @@ roomOf xs = xs ++ replicate (linkRoom - length xs) 0
 -- the value of a network
 unfoldable pub valueOf : Network → Net
 valueOf net =
-    record { stations = net .stations; links = length (net .links); low = roomOf (map (λ e. e .low) (net .links)); high = roomOf (map (λ e. e .high) (net .links)) }
+    record {
+      stations = net .stations;
+      links = length (net .links);
+      low = roomOf (map (λ e. e .low) (net .links));
+      high = roomOf (map (λ e. e .high) (net .links));
+    }
 
 -- the value that stands beside a refusal: zero throughout
 abbrev pub zeroNet : Net

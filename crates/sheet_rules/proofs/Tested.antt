@@ -64,7 +64,8 @@ Before net a b k = (k ≡ 0) ⊎ ((a ≡ getD (net .low) (k - 1) 0) × (b ≡ ge
 
 module _ (net : Net) where
   link-is : (k : ℕ) → k < linkCount net
-      → linkHolds (networkOf net) k ≡ follows (min (net .stations) stationRoom) (eqb k 0) (getD (net .low) (k - 1) 0) (getD (net .high) (k - 1) 0)
+      → linkHolds (networkOf net) k
+      ≡ follows (min (net .stations) stationRoom) (eqb k 0) (getD (net .low) (k - 1) 0) (getD (net .high) (k - 1) 0)
       (getD (net .low) k 0) (getD (net .high) k 0)
   link-is k h =
       ap₂ (λ (x y : Ends). endsHold (networkOf net .stations) y && (eqb k 0 || precedes x y)) (ends-of net (k - 1) (omega arith))
@@ -142,8 +143,8 @@ module _ (net : Net) where
   rest l h k = simp (le-leb (net .stations) stationRoom h, le-leb (net .links) linkRoom k, rules l h k)
 
   -- once the sizes are good, every place has to hold
-  pub holds-places : 1 ≤ net .stations → net .stations ≤ stationRoom → net .links ≤ linkRoom → length (net .low) ≡ linkRoom → length (net .high) ≡ linkRoom
-      → every placeHolds (below linkRoom) ≡ netHolds net
+  pub holds-places : 1 ≤ net .stations → net .stations ≤ stationRoom → net .links ≤ linkRoom
+      → length (net .low) ≡ linkRoom → length (net .high) ≡ linkRoom → every placeHolds (below linkRoom) ≡ netHolds net
   holds-places l h k ll lh = same-test _ _ whole parts ∙ sym (rest l h k)
     where
       m : ℕ
@@ -165,7 +166,8 @@ module _ (net : Net) where
       unused : (j : ℕ) → m ≤ j → placeHolds j ≡ (isZero (getD (net .low) j 0) && isZero (getD (net .high) j 0))
       unused j g = simp (le-ltb j (linkCount net) g)
 
-      tail : (room : List ℕ) → length room ≡ linkRoom → ((j : ℕ) → m ≤ j → j < linkRoom → T (isZero (getD room j 0))) → T (every isZero (drop m room))
+      tail : (room : List ℕ) → length room ≡ linkRoom → ((j : ℕ) → m ≤ j → j < linkRoom → T (isZero (getD room j 0)))
+          → T (every isZero (drop m room))
       tail room e f =
           at-every isZero (drop m room) 0 (λ i g. subst⁻¹ (λ (x : ℕ). T (isZero x)) (getD-drop m room i 0)
           (f (m + i) (omega arith) (omega (arith, g, length-drop m room))))
@@ -178,7 +180,8 @@ module _ (net : Net) where
           (tail (net .low) ll (λ j g n. and-l (isZero (getD (net .low) j 0)) _ (subst T (unused j g) (at j n)))))
           (tail (net .high) lh (λ j g n. and-r (isZero (getD (net .low) j 0)) _ (subst T (unused j g) (at j n))))
 
-      back : (room : List ℕ) (j : ℕ) → length room ≡ linkRoom → m ≤ j → j < linkRoom → T (every isZero (drop m room)) → T (isZero (getD room j 0))
+      back : (room : List ℕ) (j : ℕ) → length room ≡ linkRoom → m ≤ j → j < linkRoom → T (every isZero (drop m room))
+          → T (isZero (getD room j 0))
       back room j e g n t =
           let i : ℕ = j - m in
           let z : T (isZero (getD (drop m room) i 0)) = every-at isZero (drop m room) i 0 t (omega (arith, length-drop m room)) in

@@ -22,4 +22,5 @@ linkHolds net k = endsHold (net .stations) (ends net k) && (eqb k 0 || precedes 
 -- 1 to 32 stations, 0 to 64 links, each of them good. Other rooms use the laws of proofs/Rules.antt, never this text.
 unfoldable pub sheetHolds : Network → Bool
 sheetHolds net =
-    leb 1 (net .stations) && leb (net .stations) stationRoom && leb (length (net .links)) linkRoom && every (linkHolds net) (linkNumbers net)
+    leb 1 (net .stations) && leb (net .stations) stationRoom && leb (length (net .links)) linkRoom
+    && every (linkHolds net) (linkNumbers net)

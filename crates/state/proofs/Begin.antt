@@ -52,7 +52,8 @@ module _ (net : Net) (r : Bool) (e : r ≡ netHolds net) where
     -- each of the stations is down, and the places beyond them stay as they were
     stations-down : (down : Station) (n : ℕ) → n ≤ stationRoom → n ≡ networkOf net .stations
         → down ≡ laid net blank (stopped (networkOf net) 0 .holding)
-        → filled (λ (t : ℕ). down) (replicate stationRoom nobody) n ≡ roomed stationRoom blank (map (laid net blank) (fresh (networkOf net) .holdings))
+        → filled (λ (t : ℕ). down) (replicate stationRoom nobody) n
+        ≡ roomed stationRoom blank (map (laid net blank) (fresh (networkOf net) .holdings))
     unfolding roomed fresh stopped doneBy
     stations-down down n l m d =
         ap₂ (λ (xs ys : List Station). xs ++ ys)

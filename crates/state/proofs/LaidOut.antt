@@ -32,7 +32,8 @@ use Rattle.state_rules.specs.Formed.{stationFormed}
 use Rattle.world.specs.World.{World, nobody, noLetter, holdingAt}
 use Rattle.world.proofs.Keeps.{Formed}
 use Rattle.state.specs.declared.State.{State}
-use Rattle.state.specs.State.{beyond, stationIn, letterIn, worldOf, stateOf, isBlank, isNoLetter, stationPlace, letterPlace, stationsHold, lettersHold, stateHolds, Fits, Ends64, Sized}
+use Rattle.state.specs.State.{beyond, stationIn, letterIn, worldOf, stateOf, isBlank, isNoLetter, stationPlace}
+use Rattle.state.specs.State.{letterPlace, stationsHold, lettersHold, stateHolds, Fits, Ends64, Sized}
 use Rattle.state.proofs.StationRoom.{Spare, spare-formed, fits-laid, laid-spare, holding-laid, is-blank, fits-blank}
 
 module _ (net : Net) (w : World) (n : T (netHolds net)) (e : networkOf net ≡ w .net) (f : Formed w) where
@@ -160,7 +161,8 @@ module _ (net : Net) (w : World) (n : T (netHolds net)) (e : networkOf net ≡ w
 
   pub laid-holds : T (stateHolds out)
   unfolding stateHolds
-  laid-holds = and-i (netHolds (out .net) && leb (out .flying) letterRoom) _ frame-laid (and-i (stationsHold out) _ stations-laid letters-laid)
+  laid-holds =
+      and-i (netHolds (out .net) && leb (out .flying) letterRoom) _ frame-laid (and-i (stationsHold out) _ stations-laid letters-laid)
 
   -- ---- it means the world
   holdings-back : map (holdingOf net) laidAll ≡ w .holdings

@@ -35,8 +35,10 @@ use Rattle.state_rules.specs.Formed.{stationFormed}
 use Rattle.world.specs.World.{World, nobody, noLetter, holdingAt, wellFormed}
 use Rattle.world.proofs.Keeps.{Formed, formed, well}
 use Rattle.state.specs.declared.State.{State}
-use Rattle.state.specs.State.{beyond, stationIn, letterIn, worldOf, stateOf, isBlank, isRequest, isNoLetter, stationPlace, letterPlace, stationsHold, lettersHold, stateHolds, Fits, Sized}
-use Rattle.state.proofs.StationRoom.{Spare, own-laid, formed-holds, formed-spare, spare-formed, fits-laid, laid-spare, holding-laid, blank-is, is-blank, fits-blank}
+use Rattle.state.specs.State.{beyond, stationIn, letterIn, worldOf, stateOf, isBlank, isRequest, isNoLetter, stationPlace}
+use Rattle.state.specs.State.{letterPlace, stationsHold, lettersHold, stateHolds, Fits, Sized}
+use Rattle.state.proofs.StationRoom.{Spare, own-laid, formed-holds, formed-spare, spare-formed, fits-laid}
+use Rattle.state.proofs.StationRoom.{laid-spare, holding-laid, blank-is, is-blank, fits-blank}
 
 no-letter-is : (x : Letter) → T (isNoLetter x) → x ≡ noLetter
 no-letter-is x t =

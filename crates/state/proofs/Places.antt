@@ -40,8 +40,8 @@ module _ (st : Station) where
       ∙ ap (λ (b : Bool). (isDown (st .condition) && noWord (st .marks)) && b)
       (sym (sym (counters-zero (st .counters) e) ∙ all-fails (zeroAt (st .counters)) linkRoom k h (ne-eqb (getD (st .counters) k 0) 0 n)))
 
-  pub blank-all : (r : Bool) (k : ℕ) → r ≡ (isDown (st .condition) && noWord (st .marks)) → r ≡ true → k ≡ linkRoom → length (st .counters) ≡ linkRoom
-      → every (zeroAt (st .counters)) (below k) ≡ true → true ≡ isBlank st
+  pub blank-all : (r : Bool) (k : ℕ) → r ≡ (isDown (st .condition) && noWord (st .marks)) → r ≡ true → k ≡ linkRoom
+      → length (st .counters) ≡ linkRoom → every (zeroAt (st .counters)) (below k) ≡ true → true ≡ isBlank st
   blank-all r k e d n z q =
       ap₂ (λ (a b : Bool). a && b) (sym d ∙ e) (sym q ∙ ap (λ (x : ℕ). every (zeroAt (st .counters)) (below x)) n
       ∙ counters-zero (st .counters) z)

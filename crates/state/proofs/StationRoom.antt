@@ -6,7 +6,8 @@ use mathlib.Core.List.{List, [], _∷_, _++_, map}
 use native.Mathlib.Decide.{decLt}
 use native.Mathlib.Omega.{arith}
 use lib.Dec.{T, eqb→eq}
-use lib.ListN.{length, getD, take, drop, replicate, length-append, length-drop, length-map, length-replicate, List·getD-append, List·getD-map, List·getD-eq-default, getD-replicate}
+use lib.ListN.{length, getD, take, drop, replicate, length-append, length-drop, length-map, length-replicate}
+use lib.ListN.{List·getD-append, List·getD-map, List·getD-eq-default, getD-replicate}
 use lib.Seq.{ext-getD, getD-append-add, getD-drop, take-at, drop-at, length-take-le}
 use Rattle.lists.specs.Lists.{every, from, below}
 use Rattle.lists.specs.Words.{inWord, wordOf}

@@ -21,7 +21,8 @@ use Rattle.sheet_rules.proofs.Good.{few-places}
 use Rattle.state_rules.specs.Carried.{letterTest}
 use Rattle.state_rules.proofs.LetterTests.{letter-is, letter-past}
 use Rattle.state.specs.declared.State.{State}
-use Rattle.state.specs.State.{stationIn, letterIn, stationPlace, letterPlace, isNoLetter, stationsHold, lettersHold, stateHolds, Fits, Ends64, Sized}
+use Rattle.state.specs.State.{stationIn, letterIn, stationPlace, letterPlace, isNoLetter, stationsHold}
+use Rattle.state.specs.State.{lettersHold, stateHolds, Fits, Ends64, Sized}
 use Rattle.state.proofs.Places.{restAt}
 
 -- what holds below i, and at i, holds below i + 1
@@ -116,7 +117,8 @@ module _ (s : State) where
   letters-bad : (j : ℕ) → j < letterRoom → letterPlace (s .net) (s .flying) j (letterIn s j) ≡ false → false ≡ stateHolds s
   unfolding stateHolds lettersHold
   letters-bad j h d =
-      sym (ap (λ (b : Bool). frame && (stationsHold s && b)) (all-fails (λ j. letterPlace (s .net) (s .flying) j (letterIn s j)) letterRoom j h d)
+      sym (ap (λ (b : Bool). frame && (stationsHold s && b))
+      (all-fails (λ j. letterPlace (s .net) (s .flying) j (letterIn s j)) letterRoom j h d)
       ∙ ap (λ (b : Bool). frame && b) (and-no (stationsHold s)) ∙ and-no frame)
 
   pub letter-bad : (j : ℕ) → j < s .flying → s .flying ≤ letterRoom → letterHolds (networkOf (s .net)) (letterIn s j) ≡ false

@@ -23,6 +23,9 @@ abbrev μ-loop : tie.MeasureT-loop
 size : (c : tie.Start Inv-loop μ-loop) → length (c .args .t3 .counters) ≡ linkRoom
 size c = search needs
 
+abbrev begun : tie.At-loop Inv-loop μ-loop → tie.Start Inv-loop μ-loop
+begun c = c .before .before .before .before .before .before .before
+
 own-links-requires : tie.Need-own-links-requires Inv-loop μ-loop
 own-links-requires c κs = search needs
 
@@ -58,12 +61,11 @@ counter-formed-requires c κs = search needs
 
 returns-2 : tie.Need-returns-2 Inv-loop μ-loop
 returns-2 c =
-    let a = c .before .before .before .before .before .before .before .before .before .before .before .args in
-    miscounted (a .net) (a .s) (a .t3) (size (c .before .before .before .before .before .before .before .before .before .before .before)) _
-    _ (c .before .before .before .before .before .before .before .before .before .before .own-links .ensures)
-    (c .before .before .before .before .before .before .before .before .marks-formed .ensures) _ _
-    (c .before .before .before .before .before .before .at-most-64 .ensures) (c .before .before .before .before .before .is-live .ensures)
-    (c .before .before .before .before .loop .k) (omega arith) (sym (c .before .counter-formed .ensures) ∙ not-true _ (c .if2 .taken))
+    let l = c .before .before .before .before in
+    let a = begun l .args in
+    miscounted (a .net) (a .s) (a .t3) (size (begun l)) _ _ (l .before .before .before .before .before .before .own-links .ensures)
+    (l .before .before .before .before .marks-formed .ensures) _ _ (l .before .before .at-most-64 .ensures) (l .before .is-live .ensures)
+    (l .loop .k) (omega arith) (sym (c .before .counter-formed .ensures) ∙ not-true _ (c .if2 .taken))
 
 add-k : tie.Need-add-k Inv-loop μ-loop
 add-k c = omega arith
@@ -78,12 +80,11 @@ loop-again c =
 
 returns-3 : tie.Need-returns-3 Inv-loop μ-loop
 returns-3 c =
-    let a = c .before .before .before .before .before .before .before .before .args in
-    well-formed (a .net) (a .s) (a .t3) (size (c .before .before .before .before .before .before .before .before)) _ _
-    (c .before .before .before .before .before .before .before .own-links .ensures)
-    (c .before .before .before .before .before .marks-formed .ensures) _ _ (c .before .before .before .at-most-64 .ensures)
-    (c .before .before .is-live .ensures) (c .before .loop .k) (omega arith) (not-false _ (c .before .before .before .before .if1 .left))
-    (c .before .loop .inv .1)
+    let l = c .before in
+    let a = begun l .args in
+    well-formed (a .net) (a .s) (a .t3) (size (begun l)) _ _ (l .before .before .before .before .before .before .own-links .ensures)
+    (l .before .before .before .before .marks-formed .ensures) _ _ (l .before .before .at-most-64 .ensures) (l .before .is-live .ensures)
+    (l .loop .k) (omega arith) (not-false _ (l .before .before .before .if1 .left)) (l .loop .inv .1)
 
 pub station-formed-spec : {M : Type 1} → statement M
 station-formed-spec =

@@ -24,7 +24,8 @@ use Rattle.state.specs.State.{letterIn, stationIn}
 use Rattle.post.specs.Post.{posted, Going}
 use Rattle.post.proofs.PostLaws as P
 use Rattle.step.proofs.Helpers.{place-few, room-few}
-use Rattle.step.proofs.Made.{refused-bad, refused-event, posted-none, posted-more, Facts, answer-refusal, leftLetters, left-length, new-are, new-length, few-after, closed-up, closes-within, free-within, made}
+use Rattle.step.proofs.Made.{refused-bad, refused-event, posted-none, posted-more, Facts, answer-refusal, leftLetters, left-length}
+use Rattle.step.proofs.Made.{new-are, new-length, few-after, closed-up, closes-within, free-within, made}
 use Rattle.step.proofs.Loops.{withLetters, shifted, not-shifted, other-letters}
 use Rattle.step.proofs.step.Statement.{statement}
 use Rattle.step.proofs.step.Tie as tie
