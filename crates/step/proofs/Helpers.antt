@@ -9,9 +9,14 @@ use Rattle.lists.specs.Lists.{if_then_else_}
 use Rattle.lists.proofs.Tests.{if-elim}
 use Rattle.net.specs.declared.Letter.{Letter}
 use Rattle.net.specs.Sizes.{stationRoom, letterRoom}
+use Rattle.station.specs.declared.Kind.{Kind}
 use Rattle.world.specs.World.{noLetter}
 use Rattle.sets.specs.Rooms.{inRoom}
 use Rattle.step.specs.Parts.{placeBy, fewerBy, numberBy}
+
+-- what is said of the kind that the code decoded holds of the kind that it is
+pub by-kind : {A : Type 0} (f : Kind → A) {x : A} {e e′ : Kind} → x ≡ f e → e ≡ e′ → x ≡ f e′
+by-kind f p q = p ∙ ap f q
 
 pub place-there : (a : ℕ) → a < letterRoom → a ≡ placeBy a
 place-there a h = sym (ap (λ (b : Bool). if b then a else 0) (lt-ltb a letterRoom h))
@@ -20,10 +25,14 @@ pub place-past : (a : ℕ) → letterRoom ≤ a → 0 ≡ placeBy a
 place-past a h = sym (ap (λ (b : Bool). if b then a else 0) (le-ltb a letterRoom h))
 
 pub place-few : (a r : ℕ) → r ≡ placeBy a → r < letterRoom
-place-few a r e = subst⁻¹ (λ (n : ℕ). n < letterRoom) e (if-elim (λ (n : ℕ). n < letterRoom) (ltb a letterRoom) (λ t. ltb→lt a letterRoom t) (λ t. omega arith))
+place-few a r e =
+    subst⁻¹ (λ (n : ℕ). n < letterRoom) e
+    (if-elim (λ (n : ℕ). n < letterRoom) (ltb a letterRoom) (λ t. ltb→lt a letterRoom t) (λ t. omega arith))
 
 pub room-few : (n r : ℕ) → r ≡ inRoom n → r < stationRoom
-room-few n r e = subst⁻¹ (λ (n : ℕ). n < stationRoom) e (if-elim (λ (n : ℕ). n < stationRoom) (ltb n stationRoom) (λ t. ltb→lt n stationRoom t) (λ t. omega arith))
+room-few n r e =
+    subst⁻¹ (λ (n : ℕ). n < stationRoom) e
+    (if-elim (λ (n : ℕ). n < stationRoom) (ltb n stationRoom) (λ t. ltb→lt n stationRoom t) (λ t. omega arith))
 
 module _ (leaves : Bool) where
   pub left-all : (n : ℕ) → leaves ≡ false → n ≡ fewerBy leaves n
