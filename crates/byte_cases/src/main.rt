@@ -4,6 +4,7 @@ ghost use Prim.Native.Nat.{_≤_};
 ghost use mathlib.Core.Path.{_≡_};
 ghost use lib.ListN.{length};
 use net::Body;
+use net::LINK_ROOM;
 use net::Letter;
 use net::Net;
 
@@ -76,7 +77,7 @@ fn is_shown(i: usize, links: u8, low: u8, high: u8) -> bool {
 fn print_net(net: Net) {
     print_byte(net.stations);
     print_byte(net.links);
-    for i in 0..64usize {
+    for i in 0..LINK_ROOM {
         let low = net.low[i];
         let high = net.high[i];
         if is_shown(i, net.links, low, high) {
@@ -252,9 +253,9 @@ fn letter_of(case: &[u8]) -> Letter
 fn net_of(case: &[u8]) -> Net
     requires { ⌜ 130 ≤ length (now case) ⌝ }
 {
-    let mut low = [0u8; 64];
-    let mut high = [0u8; 64];
-    for i in 0..64usize {
+    let mut low = [0u8; LINK_ROOM];
+    let mut high = [0u8; LINK_ROOM];
+    for i in 0..LINK_ROOM {
         low[i] = case[2 + i];
         high[i] = case[66 + i];
     }

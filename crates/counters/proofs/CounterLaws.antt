@@ -3,6 +3,7 @@ use Prim.Native.Nat.{ℕ, _+_, _%_, _≤_, _<_, max}
 use mathlib.Core.Bool.{true, false}
 use mathlib.Core.Path.{_≡_}
 use borrow.Author.Tests.{eq-eqb, ne-eqb, eqb-true, eqb-false, le-ltb, lt-ltb}
+use Rattle.net.specs.Sizes.{largestCounter}
 use Rattle.counters.specs.declared.Healed.the-variants.{To, TooHigh}
 use Rattle.counters.specs.Counters.{even, healed, healing, timedOut}
 
@@ -26,10 +27,10 @@ pub healed-odd : (own carried : ℕ) → (max own carried % 2 ≡ 0 → ⊥) →
 unfolding healed
 healed-odd own carried h = simp (ne-eqb _ _ h)
 
-pub healing-fits : (own carried m : ℕ) → healed own carried ≡ m → m ≤ 65535 → To m ≡ healing own carried
+pub healing-fits : (own carried m : ℕ) → healed own carried ≡ m → m ≤ largestCounter → To m ≡ healing own carried
 unfolding healing
-healing-fits own carried m e h = simp (e, le-ltb 65535 m h)
+healing-fits own carried m e h = simp (e, le-ltb largestCounter m h)
 
-pub healing-over : (own carried m : ℕ) → healed own carried ≡ m → 65535 < m → TooHigh ≡ healing own carried
+pub healing-over : (own carried m : ℕ) → healed own carried ≡ m → largestCounter < m → TooHigh ≡ healing own carried
 unfolding healing
-healing-over own carried m e h = simp (e, lt-ltb 65535 m h)
+healing-over own carried m e h = simp (e, lt-ltb largestCounter m h)

@@ -4,6 +4,7 @@ use mathlib.Core.Bool.{Bool, not}
 use mathlib.Core.List.{List, [], _∷_}
 use lib.Dec.{eqb, ltb}
 use Rattle.lists.specs.Lists.{if_then_else_}
+use Rattle.net.specs.Sizes.{largestCounter}
 use Rattle.counters.specs.declared.Healed.{Healed}
 use Rattle.counters.specs.declared.Healed.the-variants.{To, TooHigh}
 
@@ -23,7 +24,7 @@ healed own carried = if even (max own carried) then max own carried else max own
 
 -- a reply's new counter, or that it would be 65,536
 unfoldable pub healing : ℕ → ℕ → Healed
-healing own carried = if ltb 65535 (healed own carried) then TooHigh else To (healed own carried)
+healing own carried = if ltb largestCounter (healed own carried) then TooHigh else To (healed own carried)
 
 -- the paper's number and values of that answer
 abbrev pub healedNumbers : Healed → List ℕ

@@ -3,9 +3,11 @@
 ghost use mathlib.Core.Path.{_≡_};
 ghost use Prim.Native.Nat.{max};
 ghost use Rattle.counters.specs.Counters.{even, timedOut, healing, newer};
+use net::LARGEST_COUNTER;
+use net::LINK_ROOM;
 
 // A station's table: the counter of link k at place k.
-pub type Counters = [u16; 64];
+pub type Counters = [u16; LINK_ROOM];
 
 // A reply's new counter, or that it would be 65,536.
 pub enum Healed {
@@ -38,7 +40,7 @@ pub fn heal(own: u16, carried: u16) -> Healed
     if larger % 2 == 0 {
         return Healed::To(larger);
     }
-    if larger == 65535 {
+    if larger == LARGEST_COUNTER {
         return Healed::TooHigh;
     }
     Healed::To(larger + 1)

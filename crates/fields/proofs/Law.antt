@@ -11,7 +11,7 @@ use lib.Seq.{take-append-seam, drop-append-seam, length-take-le}
 use borrow.Author.Tests.{le-ltb, ltb-false}
 use Rattle.lists.specs.Lists.{if_then_else_}
 use Rattle.lists.proofs.Tests.{and-l, and-r, and-i, every-append}
-use Rattle.fields.specs.Fields.{short, field, wide, cutValue, firstField, writeField, areBytes}
+use Rattle.fields.specs.Fields.{short, field, wide, cutValue, firstField, writeField, areBytes, longestValue}
 
 -- what was written is cut back, whatever follows
 pub cut-written : (tag : ℕ) (value rest : List ℕ) → firstField (writeField tag value ++ rest) ≡ field tag value rest
@@ -69,7 +69,8 @@ pub bytes-append : (xs ys : List ℕ) → T (areBytes xs) → T (areBytes ys) �
 bytes-append xs ys t u = subst⁻¹ T (every-append (λ b. ltb b 256) xs ys) (and-i (areBytes xs) _ t u)
 
 -- a field of bytes whose length fits in two bytes is written in bytes
-pub field-bytes : (tag : ℕ) (value : List ℕ) → tag < 256 → length value ≤ 65535 → T (areBytes value) → T (areBytes (writeField tag value))
+pub field-bytes : (tag : ℕ) (value : List ℕ) → tag < 256 → length value ≤ longestValue → T (areBytes value)
+    → T (areBytes (writeField tag value))
 unfolding writeField
 field-bytes tag value h l t =
     let high : length value / 256 < 256 = omega arith in

@@ -8,7 +8,8 @@ use lib.ListN.{length, getD, take, drop, length-drop, length-append, drop-of-len
 use lib.Seq.{take-at, drop-at, take-all, drop-drop, length-take-le, getD-take, getD-drop}
 use borrow.Author.Tests.{lt-ltb, le-ltb, le-leb}
 use Rattle.fields.specs.declared.Cut.the-variants.{Short, Whole}
-use Rattle.fields.specs.Fields.{Field, short, field, wide, cutValue, firstField, writeField, onto, cutOf, putField, putSize}
+use Rattle.fields.specs.Fields.{Field, short, field, wide, cutValue, firstField, writeField}
+use Rattle.fields.specs.Fields.{onto, cutOf, putField, putSize, longestValue}
 use Rattle.fields.proofs.Law.{value-cut}
 use Rattle.fields.proofs.Steps.{head-short, head-whole}
 
@@ -75,14 +76,14 @@ pub value-at : (bytes : List ℕ) (n i : ℕ) → i < n → getD (take n (drop 3
 value-at bytes n i h = getD-take n (drop 3 bytes) i 0 h ∙ getD-drop 3 bytes i 0
 
 -- where the field fits, `put` writes it
-module _ (tag : ℕ) (value old : List ℕ) (small : length value ≤ 65535) (room : length value + 3 ≤ length old) where
+module _ (tag : ℕ) (value old : List ℕ) (small : length value ≤ longestValue) (room : length value + 3 ≤ length old) where
   pub put-written : putField tag value old ≡ onto (writeField tag value) old
   unfolding putField
-  put-written = simp (le-leb (length value) 65535 small, le-leb (length value + 3) (length old) room)
+  put-written = simp (le-leb (length value) longestValue small, le-leb (length value + 3) (length old) room)
 
   pub size-written : putSize value old ≡ length value + 3
   unfolding putSize
-  size-written = simp (le-leb (length value) 65535 small, le-leb (length value + 3) (length old) room)
+  size-written = simp (le-leb (length value) longestValue small, le-leb (length value + 3) (length old) room)
 
 pub length-field : (tag : ℕ) (value : List ℕ) → length (writeField tag value) ≡ length value + 3
 unfolding writeField

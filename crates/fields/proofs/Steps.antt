@@ -9,7 +9,7 @@ use lib.Seq.{sets, length-sets, paste, take-length, length-take-le, paste-zero, 
 use borrow.Author.Tests.{lt-ltb, le-ltb, le-leb, lt-leb}
 use Rattle.lists.proofs.Tests.{and-no}
 use Rattle.fields.specs.declared.Cut.the-variants.{Short, Whole}
-use Rattle.fields.specs.Fields.{short, wide, cutValue, firstField, writeField, onto, cutOf, putField, putSize}
+use Rattle.fields.specs.Fields.{short, wide, cutValue, firstField, writeField, onto, cutOf, putField, putSize, longestValue}
 
 -- ---- cutting
 pub head-short : (bytes : List ℕ) → length bytes < 3 → firstField bytes ≡ short
@@ -49,9 +49,9 @@ three-add : (n : ℕ) → 3 + n ≡ suc (suc (suc n))
 three-add n = omega arith
 
 module _ (tag : ℕ) (value old : List ℕ) where
-  pub put-long : 65535 < length value → (0 ≡ putSize value old) × (old ≡ putField tag value old)
+  pub put-long : longestValue < length value → (0 ≡ putSize value old) × (old ≡ putField tag value old)
   unfolding putSize putField
-  put-long h = (simp (lt-leb (length value) 65535 h), simp (lt-leb (length value) 65535 h))
+  put-long h = (simp (lt-leb (length value) longestValue h), simp (lt-leb (length value) longestValue h))
 
   pub put-short : length old < length value + 3 → (0 ≡ putSize value old) × (old ≡ putField tag value old)
   unfolding putSize putField
@@ -64,13 +64,13 @@ module _ (tag : ℕ) (value old : List ℕ) where
   pub length-headed : length headed ≡ length old
   length-headed = length-sets old 0 (tag ∷ length value / 256 ∷ length value % 256 ∷ [])
 
-  pub put-all : length value ≤ 65535 → length value + 3 ≤ length old
+  pub put-all : length value ≤ longestValue → length value + 3 ≤ length old
       → (length value + 3 ≡ putSize value old) × (paste headed 3 value (length value) ≡ putField tag value old)
   unfolding putSize putField writeField
   put-all h l = (
-    simp (le-leb (length value) 65535 h, le-leb (length value + 3) (length old) l),
+    simp (le-leb (length value) longestValue h, le-leb (length value + 3) (length old) l),
     simp
-        (le-leb (length value) 65535 h, le-leb (length value + 3) (length old) l) (whole old (omega arith)),
+        (le-leb (length value) longestValue h, le-leb (length value + 3) (length old) l) (whole old (omega arith)),
   )
     where
       whole : (l : List ℕ) → 3 ≤ length l → paste (sets l 0 (tag ∷ length value / 256 ∷ length value % 256 ∷ [])) 3 value
@@ -93,5 +93,5 @@ module _ (tag : ℕ) (value old : List ℕ) where
         ap (λ (x : List ℕ). set x (3 + i) (getD value i 0)) e ∙ paste-suc headed 3 value i 0 (omega (arith, length-headed)) h
         ∙ ap (paste headed 3 value) (sym (add-one i))
 
-    pub put-done : length value ≤ 65535 → i ≡ length value → (length value + 3 ≡ putSize value old) × (out ≡ putField tag value old)
+    pub put-done : length value ≤ longestValue → i ≡ length value → (length value + 3 ≡ putSize value old) × (out ≡ putField tag value old)
     put-done h k = let w = put-all h fits in (w .0, e ∙ ap (paste headed 3 value) k ∙ w .1)

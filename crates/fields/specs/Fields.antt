@@ -53,9 +53,13 @@ abbrev pub cutOf : Field → Cut
 cutOf short = Short
 cutOf (field tag value rest) = Whole tag (length value)
 
+-- the longest value: its length is said in two bytes
+abbrev pub longestValue : ℕ
+longestValue = 65535
+
 -- its length fits in two bytes, and the whole of it in the output
 abbrev pub fieldFits : List ℕ → List ℕ → Bool
-fieldFits value old = leb (length value) 65535 && leb (length value + 3) (length old)
+fieldFits value old = leb (length value) longestValue && leb (length value + 3) (length old)
 
 unfoldable pub putField : ℕ → List ℕ → List ℕ → List ℕ
 putField tag value old = if fieldFits value old then onto (writeField tag value) old else old

@@ -3,6 +3,9 @@
 ghost use mathlib.Core.Path.{_≡_};
 ghost use Rattle.fields.specs.Fields.{wide, firstField, cutOf, putField, putSize};
 
+// The longest value: its length is said in two bytes.
+const LONGEST_VALUE: usize = 65535;
+
 // The field at the front of some bytes. Its value starts at 3, and the next field after the value.
 pub enum Cut {
     // the bytes end inside it
@@ -43,7 +46,7 @@ pub fn put(out: &mut [u8], tag: u8, value: &[u8]) -> usize
     ensures output { λ r. ⌜ now (out .exit) ≡ putField tag (now (value .entry)) (now (out .entry)) ⌝ }
 {
     let n = value.len();
-    if 65535 < n {
+    if LONGEST_VALUE < n {
         return 0;
     }
     if out.len() < n + 3 {

@@ -9,13 +9,13 @@ use Rattle.lists.proofs.Tests.{and-l, and-r, if-elim, every-at}
 use Rattle.fields.specs.Fields.{wide, writeField, isField, areBytes}
 use Rattle.net.specs.declared.Body.{Body}
 use Rattle.net.specs.declared.Body.the-variants.{Request, Reply, Notice}
-use Rattle.letters.specs.Letters.{Form, says, formOf, bodyBytes}
+use Rattle.letters.specs.Letters.{Form, says, formOf, bodyBytes, requestTag, replyTag, noticeTag}
 
 -- the tag of a body, and what stands in the value after link and side
 abbrev pub tagOf : Body → ℕ
-tagOf Request = 33
-tagOf (Reply c) = 34
-tagOf (Notice s c) = 35
+tagOf Request = requestTag
+tagOf (Reply c) = replyTag
+tagOf (Notice s c) = noticeTag
 
 abbrev pub payload : Body → List ℕ
 payload Request = []
@@ -69,14 +69,14 @@ module _ (t : ℕ) (v : List ℕ) where
   size-is : (tag n : ℕ) → T (isField tag n t v) → length v ≡ n
   size-is tag n h = eqb→eq (length v) n (and-r (eqb t tag) _ h)
 
-  is-request : T (isField 33 2 t v) → IsForm t v Request
-  is-request h = let n = size-is 33 2 h in record { tag = tag-is 33 2 h; size = omega arith; value = λ w. two v n }
+  is-request : T (isField requestTag 2 t v) → IsForm t v Request
+  is-request h = let n = size-is requestTag 2 h in record { tag = tag-is requestTag 2 h; size = omega arith; value = λ w. two v n }
 
-  is-reply : T (isField 34 4 t v) → IsForm t v (Reply (wide (getD v 2 0) (getD v 3 0)))
+  is-reply : T (isField replyTag 4 t v) → IsForm t v (Reply (wide (getD v 2 0) (getD v 3 0)))
   is-reply h =
-      let n = size-is 34 4 h in
+      let n = size-is replyTag 4 h in
       record {
-        tag = tag-is 34 4 h;
+        tag = tag-is replyTag 4 h;
         size = omega arith;
         value =
             λ w. let c = high-low v 2 3 w (omega arith) (omega arith) in
@@ -84,11 +84,11 @@ module _ (t : ℕ) (v : List ℕ) where
             ∙ ap (λ (l : List ℕ). getD v 0 0 ∷ getD v 1 0 ∷ l) (four v n ∙ ap₂ (λ (x y : ℕ). x ∷ y ∷ []) (sym (c .0)) (sym (c .1)));
       }
 
-  is-notice : T (isField 35 5 t v) → IsForm t v (Notice (getD v 2 0) (wide (getD v 3 0) (getD v 4 0)))
+  is-notice : T (isField noticeTag 5 t v) → IsForm t v (Notice (getD v 2 0) (wide (getD v 3 0) (getD v 4 0)))
   is-notice h =
-      let n = size-is 35 5 h in
+      let n = size-is noticeTag 5 h in
       record {
-        tag = tag-is 35 5 h;
+        tag = tag-is noticeTag 5 h;
         size = omega arith;
         value =
             λ w. let c = high-low v 3 4 w (omega arith) (omega arith) in
@@ -100,9 +100,9 @@ module _ (t : ℕ) (v : List ℕ) where
   pub is-form : (b : Body) → formOf t v ≡ says b → IsForm t v b
   unfolding formOf
   is-form b e =
-      if-elim P (isField 33 2 t v) (λ h q. subst (IsForm t v) (body q) (is-request h))
-      (λ _. if-elim P (isField 34 4 t v) (λ h q. subst (IsForm t v) (body q) (is-reply h))
-      (λ _. if-elim P (isField 35 5 t v) (λ h q. subst (IsForm t v) (body q) (is-notice h))
+      if-elim P (isField requestTag 2 t v) (λ h q. subst (IsForm t v) (body q) (is-request h))
+      (λ _. if-elim P (isField replyTag 4 t v) (λ h q. subst (IsForm t v) (body q) (is-reply h))
+      (λ _. if-elim P (isField noticeTag 5 t v) (λ h q. subst (IsForm t v) (body q) (is-notice h))
       (λ _ q. let z : _≡_ {A = ℕ} 0 1 = cc in absurd (omega arith)))) e
     where
       P : Form → Type 0

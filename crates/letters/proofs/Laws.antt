@@ -11,7 +11,7 @@ use lib.ListN.{length, getD}
 use borrow.Author.Tests.{ne-eqb, eqb-true}
 use Rattle.lists.specs.Lists.{if_then_else_}
 use Rattle.lists.proofs.Tests.{and-l, and-r, and-i, or-left, or-right, T-is, is-T, if-elim}
-use Rattle.fields.specs.Fields.{Field, short, field, firstField, writeField, isEmpty, areBytes}
+use Rattle.fields.specs.Fields.{Field, short, field, firstField, writeField, isEmpty, areBytes, longestValue}
 use Rattle.fields.proofs.Law.{cut-written, written-cut, parts-bytes, field-bytes}
 use Rattle.net.specs.declared.Body.{Body}
 use Rattle.net.specs.declared.Body.the-variants.{Request, Reply, Notice}
@@ -21,8 +21,10 @@ use Rattle.sheet_rules.specs.Rules.{sheetHolds}
 use Rattle.net.specs.declared.Net.{Net}
 use Rattle.net.specs.Values.{networkOf}
 use Rattle.sheet_rules.specs.Values.{netHolds}
+use Rattle.net.specs.Sizes.{linkRoom, largestCounter}
 use Rattle.net.specs.Letters.{isCounter, bodyHolds, letterHolds}
-use Rattle.letters.specs.Letters.{refused, letter, Form, unknown, says, formOf, senderOf, sideOf, valuesHold, judged, letterFrom, readLetter, bodyBytes, writeLetter}
+use Rattle.letters.specs.Letters.{refused, letter, Form, unknown, says, formOf, senderOf, sideOf, valuesHold}
+use Rattle.letters.specs.Letters.{judged, letterFrom, readLetter, bodyBytes, writeLetter}
 use Rattle.letters.specs.Values.{reading}
 use Rattle.sheet_rules.proofs.Rules.{rules-of}
 use Rattle.sheet_rules.proofs.Ends.{ends-rise}
@@ -201,7 +203,7 @@ writes-bytes net x good t =
     u : T (a && e)
     u = and-l (a && e) (bodyHolds net (x .body)) t
 
-    few : m ≤ 64
+    few : m ≤ linkRoom
     few = rules-of net good .few-links
 
     tag-small : (b : Body) → tagOf b < 256
@@ -209,14 +211,14 @@ writes-bytes net x good t =
     tag-small (Reply c) = omega arith
     tag-small (Notice s c) = omega arith
 
-    payload-small : (b : Body) → length (k ∷ side ∷ payload b) ≤ 65535
+    payload-small : (b : Body) → length (k ∷ side ∷ payload b) ≤ longestValue
     payload-small Request = omega arith
     payload-small (Reply c) = omega arith
     payload-small (Notice s c) = omega arith
 
     two-bytes : (c : ℕ) → T (isCounter c) → T (areBytes (c / 256 ∷ c % 256 ∷ []))
     two-bytes c h =
-        let l = leb→le c 65535 (and-r (leb 1 c) _ h) in
+        let l = leb→le c largestCounter (and-r (leb 1 c) _ h) in
         and-i (ltb (c / 256) 256) _ (lt→ltb (c / 256) 256 (omega arith))
         (and-i (ltb (c % 256) 256) _ (lt→ltb (c % 256) 256 (omega arith)) tt)
 

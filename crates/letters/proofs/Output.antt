@@ -18,6 +18,7 @@ use Rattle.net.specs.declared.Letter.{Letter}
 use Rattle.net.specs.Network.{Ends, Network, isEnd}
 use Rattle.net.specs.Letters.{bodyHolds, letterHolds}
 use Rattle.net.specs.Values.{networkOf, bodyTest}
+use Rattle.net.specs.Sizes.{linkRoom}
 use Rattle.sheet_rules.specs.Values.{netHolds}
 use Rattle.sheet_rules.proofs.Good.{few-places, links-are, ends-are, bodies-are}
 use Rattle.letters.specs.declared.Wrote.{Wrote}
@@ -78,6 +79,33 @@ pub put-as : (new bytes : List ℕ) (r : Wrote) (old out : List ℕ) → new ≡
 put-as new bytes r old out e p =
     subst (λ (l : List ℕ). (wroteNumbers r ≡ writingNumbers (fitting l old)) × (out ≡ writingOutput (fitting l old) old)) e p
 
+-- what is known where the letter's link is there, and where its sender is an end of the link besides
+pub record Placed (net : Net) (x : Letter) : Type 0 where
+  pub good : netHolds net ≡ true
+  pub link : x .link < net .links
+
+pub record Sent (net : Net) (x : Letter) : Type 0 where
+  pub placed : Placed net x
+  pub sender : isEnd (networkOf net) (x .link) (x .sender) ≡ true
+
+module _ {net : Net} {x : Letter} (k : Placed net x) where
+  whole : T (netHolds net)
+  whole = is-T (netHolds net) (k .good)
+
+  pub write-place : x .link < linkRoom
+  write-place = omega (arith, k .link, few-places net whole)
+
+  end-is : (w : Bool) → w ≡ endIn (getD (net .low) (x .link) 0) (getD (net .high) (x .link) 0) (x .sender)
+      → isEnd (networkOf net) (x .link) (x .sender) ≡ w
+  end-is w g = ap (λ (z : Ends). endIn (z .low) (z .high) (x .sender)) (ends-are net whole (x .link) (k .link)) ∙ sym g
+
+  pub sender-seen : (w : Bool) → w ≡ endIn (getD (net .low) (x .link) 0) (getD (net .high) (x .link) 0) (x .sender)
+      → not w ≡ false → Sent net x
+  sender-seen w g o = record { placed = k; sender = end-is w g ∙ not-false w o }
+
+  body-is : (v : Bool) → v ≡ bodyTest (net .links) (x .body) → bodyHolds (networkOf net) (x .body) ≡ v
+  body-is v p = bodies-are net whole (x .body) ∙ sym p
+
 module _ (net : Net) (x : Letter) (old : List ℕ) where
   abbrev Wants : Wrote → List ℕ → Type 0
   Wants a out = (wroteNumbers a ≡ writingNumbers (writing net x old)) × (out ≡ writingOutput (writing net x old) old)
@@ -86,60 +114,44 @@ module _ (net : Net) (x : Letter) (old : List ℕ) where
   unfolding writing
   write-bad r e h = let b : netHolds net ≡ false = sym e ∙ not-true r h in (simp b, simp b)
 
-  module _ (r : Bool) (e : r ≡ netHolds net) (h : not r ≡ false) where
-    sound : netHolds net ≡ true
-    sound = sym e ∙ not-false r h
+  denied-3 : netHolds net ≡ true → letterHolds (networkOf net) x ≡ false → Wants wrote.OutOfRange old
+  unfolding writing
+  denied-3 g b = (simp (g, b), simp (g, b))
 
-    whole : T (netHolds net)
-    whole = is-T (netHolds net) sound
+  pub write-link : netHolds net ≡ true → net .links ≤ x .link → Wants wrote.OutOfRange old
+  unfolding letterHolds
+  write-link g l =
+      let n = length (networkOf net .links) in
+      let b : ltb (x .link) n ≡ false = le-ltb (x .link) n (omega (arith, links-are net (is-T (netHolds net) g))) in denied-3 g (simp b)
 
-    abbrev M : Network
-    M = networkOf net
+  pub write-sender : Placed net x → (w : Bool) → w ≡ endIn (getD (net .low) (x .link) 0) (getD (net .high) (x .link) 0) (x .sender)
+      → not w ≡ true → Wants wrote.OutOfRange old
+  unfolding letterHolds
+  write-sender k w g o =
+      let b : isEnd (networkOf net) (x .link) (x .sender) ≡ false = end-is k w g ∙ not-true w o in denied-3 (k .good) (simp (b, and-no))
 
-    denied-3 : letterHolds M x ≡ false → Wants wrote.OutOfRange old
-    unfolding writing
-    denied-3 b = let g = sound in (simp (g, b), simp (g, b))
-
-    pub write-link : net .links ≤ x .link → Wants wrote.OutOfRange old
+  module _ (k : Sent net x) (v : Bool) (p : v ≡ bodyTest (net .links) (x .body)) where
+    pub write-body : not v ≡ true → Wants wrote.OutOfRange old
     unfolding letterHolds
-    write-link l =
-        let b : ltb (x .link) (length (M .links)) ≡ false = le-ltb (x .link) (length (M .links)) (omega (arith, links-are net whole)) in
-        denied-3 (simp b)
+    write-body q =
+        let b : bodyHolds (networkOf net) (x .body) ≡ false = body-is (k .placed) v p ∙ not-true v q in
+        denied-3 (k .placed .good) (simp (b, and-no))
 
-    module _ (l : x .link < net .links) where
-      pub write-place : x .link < 64
-      write-place = omega (arith, few-places net whole)
-
-      module _ (w : Bool) (g : w ≡ endIn (getD (net .low) (x .link) 0) (getD (net .high) (x .link) 0) (x .sender)) where
-        end-is : isEnd M (x .link) (x .sender) ≡ w
-        end-is = ap (λ (z : Ends). endIn (z .low) (z .high) (x .sender)) (ends-are net whole (x .link) l) ∙ sym g
-
-        pub write-sender : not w ≡ true → Wants wrote.OutOfRange old
-        unfolding letterHolds
-        write-sender o = let b : isEnd M (x .link) (x .sender) ≡ false = end-is ∙ not-true w o in denied-3 (simp (b, and-no))
-
-        module _ (o : not w ≡ false) (v : Bool) (p : v ≡ bodyTest (net .links) (x .body)) where
-          body-holds : bodyHolds M (x .body) ≡ v
-          body-holds = bodies-are net whole (x .body) ∙ sym p
-
-          pub write-body : not v ≡ true → Wants wrote.OutOfRange old
-          unfolding letterHolds
-          write-body q = let b : bodyHolds M (x .body) ≡ false = body-holds ∙ not-true v q in denied-3 (simp (b, and-no))
-
-          pub write-good : (q : not v ≡ false) (a : Wrote) (out : List ℕ) (side : ℕ)
-              → side ≡ sideIn (getD (net .low) (x .link) 0) (x .sender)
-              → (wroteNumbers a ≡ writingNumbers (fitting (bodyBytes (x .link) side (x .body)) old)) × (out ≡ writingOutput
-              (fitting (bodyBytes (x .link) side (x .body)) old) old)
-              → Wants a out
-          unfolding letterHolds writing writeLetter
-          write-good q a out side t z =
-              let g = sound in
-              let b : ltb (x .link) (length (M .links)) ≡ true = lt-ltb (x .link) (length (M .links))
-              (omega (arith, links-are net whole)) in
-              let c : isEnd M (x .link) (x .sender) ≡ true = end-is ∙ not-false w o in
-              let d : bodyHolds M (x .body) ≡ true = body-holds ∙ not-false v q in
-              let s : side ≡ sideOf M (x .link) (x .sender) = t
-              ∙ sym (ap (λ (y : Ends). sideIn (y .low) (x .sender)) (ends-are net whole (x .link) l)) in
-              let m : writing net x old ≡ fitting (bodyBytes (x .link) side (x .body)) old = simp (g, b, c, d)
-              (ap (λ (k : ℕ). fitting (bodyBytes (x .link) k (x .body)) old) (sym s)) in
-              subst (λ (y : Writing). (wroteNumbers a ≡ writingNumbers y) × (out ≡ writingOutput y old)) (sym m) z
+    pub write-good : not v ≡ false → (a : Wrote) (out : List ℕ) (side : ℕ)
+        → side ≡ sideIn (getD (net .low) (x .link) 0) (x .sender)
+        → (wroteNumbers a ≡ writingNumbers (fitting (bodyBytes (x .link) side (x .body)) old))
+        × (out ≡ writingOutput (fitting (bodyBytes (x .link) side (x .body)) old) old) → Wants a out
+    unfolding letterHolds writing writeLetter
+    write-good q a out side t z =
+        let M = networkOf net in
+        let t′ = whole (k .placed) in
+        let g = k .placed .good in
+        let b : ltb (x .link) (length (M .links)) ≡ true = lt-ltb (x .link) (length (M .links))
+        (omega (arith, k .placed .link, links-are net t′)) in
+        let c : isEnd M (x .link) (x .sender) ≡ true = k .sender in
+        let d : bodyHolds M (x .body) ≡ true = body-is (k .placed) v p ∙ not-false v q in
+        let s : side ≡ sideOf M (x .link) (x .sender) = t
+        ∙ sym (ap (λ (y : Ends). sideIn (y .low) (x .sender)) (ends-are net t′ (x .link) (k .placed .link))) in
+        let m : writing net x old ≡ fitting (bodyBytes (x .link) side (x .body)) old = simp (g, b, c, d)
+        (ap (λ (k : ℕ). fitting (bodyBytes (x .link) k (x .body)) old) (sym s)) in
+        subst (λ (y : Writing). (wroteNumbers a ≡ writingNumbers y) × (out ≡ writingOutput y old)) (sym m) z

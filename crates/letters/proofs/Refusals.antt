@@ -23,7 +23,8 @@ use Rattle.letters.specs.declared.Answer.{Answer}
 use Rattle.letters.specs.declared.Answer.the-variants as answer
 use Rattle.letters.specs.declared.Wrote.{Wrote}
 use Rattle.letters.specs.declared.Wrote.the-variants as wrote
-use Rattle.letters.specs.Letters.{Letters, refused, letter, Form, unknown, says, formOf, senderOf, valuesHold, judged, letterFrom, readLetter, writeLetter}
+use Rattle.letters.specs.Letters.{Letters, refused, letter, Form, unknown, says, formOf, senderOf, valuesHold, judged}
+use Rattle.letters.specs.Letters.{letterFrom, readLetter, writeLetter, requestTag, replyTag, noticeTag}
 use Rattle.letters.specs.Values.{reading, lettersOf, writing, wroteNumbers}
 
 -- ---- reading: the list of numbers
@@ -32,7 +33,7 @@ pub data Fault (net : Network) : Field → ℕ → Type 0 where
   -- the bytes end inside it, or there are none
   cut-off : Fault net short 1
   -- another tag, or another length than the tag's
-  unfit : {t : ℕ} {v rest : List ℕ} → isField 33 2 t v ≡ false → isField 34 4 t v ≡ false → isField 35 5 t v ≡ false
+  unfit : {t : ℕ} {v rest : List ℕ} → isField requestTag 2 t v ≡ false → isField replyTag 4 t v ≡ false → isField noticeTag 5 t v ≡ false
       → Fault net (field t v rest) 2
   -- no such link, side or subject, or counter 0
   no-value : {t : ℕ} {v rest : List ℕ} (b : Body) → formOf t v ≡ says b → valuesHold net (getD v 0 0) (getD v 1 0) b ≡ false
@@ -49,17 +50,18 @@ pub data Refused (net : Net) (bytes : List ℕ) : ℕ → Type 0 where
 unknown-only : (t : ℕ) (v rest : List ℕ) (net : Network) → formOf t v ≡ unknown → Fault net (field t v rest) 2
 unfolding formOf
 unknown-only t v rest net e =
-    go Request (Reply (wide (getD v 2 0) (getD v 3 0))) (Notice (getD v 2 0) (wide (getD v 3 0) (getD v 4 0))) (isField 33 2 t v)
-    (isField 34 4 t v) (isField 35 5 t v) refl refl refl e
+    go Request (Reply (wide (getD v 2 0) (getD v 3 0))) (Notice (getD v 2 0) (wide (getD v 3 0) (getD v 4 0))) (isField requestTag 2 t v)
+    (isField replyTag 4 t v) (isField noticeTag 5 t v) refl refl refl e
   where
-    go : (x y z : Body) (a b c : Bool) → isField 33 2 t v ≡ a → isField 34 4 t v ≡ b → isField 35 5 t v ≡ c
+    go : (x y z : Body) (a b c : Bool) → isField requestTag 2 t v ≡ a → isField replyTag 4 t v ≡ b → isField noticeTag 5 t v ≡ c
         → (if a then says x else (if b then says y else (if c then says z else unknown))) ≡ unknown → Fault net (field t v rest) 2
     go x y z true b c p q r e = let n : _≡_ {A = ℕ} 0 1 = cc in absurd (omega arith)
     go x y z false true c p q r e = let n : _≡_ {A = ℕ} 0 1 = cc in absurd (omega arith)
     go x y z false false true p q r e = let n : _≡_ {A = ℕ} 0 1 = cc in absurd (omega arith)
     go x y z false false false p q r e = unfit p q r
 
-unknown-when : (t : ℕ) (v : List ℕ) → isField 33 2 t v ≡ false → isField 34 4 t v ≡ false → isField 35 5 t v ≡ false → formOf t v ≡ unknown
+unknown-when : (t : ℕ) (v : List ℕ) → isField requestTag 2 t v ≡ false → isField replyTag 4 t v ≡ false → isField noticeTag 5 t v ≡ false
+    → formOf t v ≡ unknown
 unfolding formOf
 unknown-when t v p q r = rw (p, q, r)
 

@@ -15,7 +15,7 @@ use Rattle.fields.proofs.Seen.{value-at}
 use Rattle.net.specs.declared.Body.{Body}
 use Rattle.net.specs.declared.Body.the-variants.{Request, Reply, Notice}
 use Rattle.net.specs.Values.{bodyTest}
-use Rattle.letters.specs.Letters.{Form, unknown, says, formOf}
+use Rattle.letters.specs.Letters.{Form, unknown, says, formOf, requestTag, replyTag, noticeTag}
 use Rattle.letters.specs.Steps.{valuesTest, senderIn}
 
 -- ---- the values of a field that was read
@@ -44,9 +44,9 @@ module _ (bytes : List ℕ) (tag n : ℕ) (fits : n + 3 ≤ length bytes) where
 
   abbrev formAs : ℕ → Form
   formAs m =
-      if eqb tag 33 && eqb m 2 then says Request
-      else (if eqb tag 34 && eqb m 4 then says (Reply (wide (getD value 2 0) (getD value 3 0)))
-      else (if eqb tag 35 && eqb m 5 then says (Notice (getD value 2 0) (wide (getD value 3 0) (getD value 4 0)))
+      if eqb tag requestTag && eqb m 2 then says Request
+      else (if eqb tag replyTag && eqb m 4 then says (Reply (wide (getD value 2 0) (getD value 3 0)))
+      else (if eqb tag noticeTag && eqb m 5 then says (Notice (getD value 2 0) (wide (getD value 3 0) (getD value 4 0)))
       else unknown))
 
   form-is : formOf tag value ≡ formAs n
@@ -56,33 +56,33 @@ module _ (bytes : List ℕ) (tag n : ℕ) (fits : n + 3 ≤ length bytes) where
   byte : (i : ℕ) → i < n → getD value i 0 ≡ getD bytes (3 + i) 0
   byte i h = value-at bytes n i h
 
-  pub form-33 : tag ≡ 33 → (n ≡ 2 → ⊥) → unknown ≡ formOf tag value
-  form-33 t h =
-      let p : tag ≡ 34 → ⊥ = λ e. omega arith in let q : tag ≡ 35
-      → ⊥ = λ e. omega arith in sym (form-is ∙ simp (ne-eqb n 2 h, and-no, ne-eqb tag 34 p, ne-eqb tag 35 q))
+  pub form-request-size : tag ≡ requestTag → (n ≡ 2 → ⊥) → unknown ≡ formOf tag value
+  form-request-size t h =
+      let p : tag ≡ replyTag → ⊥ = λ e. omega arith in let q : tag ≡ noticeTag
+      → ⊥ = λ e. omega arith in sym (form-is ∙ simp (ne-eqb n 2 h, and-no, ne-eqb tag replyTag p, ne-eqb tag noticeTag q))
 
-  pub form-request : tag ≡ 33 → n ≡ 2 → says Request ≡ formOf tag value
-  form-request t h = sym (form-is ∙ simp (eq-eqb tag 33 t, eq-eqb n 2 h))
+  pub form-request : tag ≡ requestTag → n ≡ 2 → says Request ≡ formOf tag value
+  form-request t h = sym (form-is ∙ simp (eq-eqb tag requestTag t, eq-eqb n 2 h))
 
-  pub form-34 : tag ≡ 34 → (n ≡ 4 → ⊥) → unknown ≡ formOf tag value
-  form-34 t h =
-      let p : tag ≡ 33 → ⊥ = λ e. omega arith in let q : tag ≡ 35
-      → ⊥ = λ e. omega arith in sym (form-is ∙ simp (ne-eqb tag 33 p, ne-eqb n 4 h, and-no, ne-eqb tag 35 q))
+  pub form-reply-size : tag ≡ replyTag → (n ≡ 4 → ⊥) → unknown ≡ formOf tag value
+  form-reply-size t h =
+      let p : tag ≡ requestTag → ⊥ = λ e. omega arith in let q : tag ≡ noticeTag
+      → ⊥ = λ e. omega arith in sym (form-is ∙ simp (ne-eqb tag requestTag p, ne-eqb n 4 h, and-no, ne-eqb tag noticeTag q))
 
-  pub form-reply : (c : ℕ) → tag ≡ 34 → n ≡ 4 → c ≡ wide (getD bytes 5 0) (getD bytes 6 0) → says (Reply c) ≡ formOf tag value
+  pub form-reply : (c : ℕ) → tag ≡ replyTag → n ≡ 4 → c ≡ wide (getD bytes 5 0) (getD bytes 6 0) → says (Reply c) ≡ formOf tag value
   form-reply c t h e =
-      let p : tag ≡ 33 → ⊥ = λ e. omega arith in
-      sym (form-is ∙ simp (ne-eqb tag 33 p, eq-eqb tag 34 t, eq-eqb n 4 h)
+      let p : tag ≡ requestTag → ⊥ = λ e. omega arith in
+      sym (form-is ∙ simp (ne-eqb tag requestTag p, eq-eqb tag replyTag t, eq-eqb n 4 h)
       (ap (λ (x : ℕ). says (Reply x)) (ap₂ wide (byte 2 (omega arith)) (byte 3 (omega arith)) ∙ sym e)))
 
-  pub form-other : (tag ≡ 33 → ⊥) → (tag ≡ 34 → ⊥) → (tag ≡ 35 → ⊥) → unknown ≡ formOf tag value
-  form-other p q r = sym (form-is ∙ simp (ne-eqb tag 33 p, ne-eqb tag 34 q, ne-eqb tag 35 r))
+  pub form-other : (tag ≡ requestTag → ⊥) → (tag ≡ replyTag → ⊥) → (tag ≡ noticeTag → ⊥) → unknown ≡ formOf tag value
+  form-other p q r = sym (form-is ∙ simp (ne-eqb tag requestTag p, ne-eqb tag replyTag q, ne-eqb tag noticeTag r))
 
-  pub form-35 : (tag ≡ 33 → ⊥) → (tag ≡ 34 → ⊥) → (n ≡ 5 → ⊥) → unknown ≡ formOf tag value
-  form-35 p q h = sym (form-is ∙ simp (ne-eqb tag 33 p, ne-eqb tag 34 q, ne-eqb n 5 h, and-no))
+  pub form-notice-size : (tag ≡ requestTag → ⊥) → (tag ≡ replyTag → ⊥) → (n ≡ 5 → ⊥) → unknown ≡ formOf tag value
+  form-notice-size p q h = sym (form-is ∙ simp (ne-eqb tag requestTag p, ne-eqb tag replyTag q, ne-eqb n 5 h, and-no))
 
-  pub form-notice : (c : ℕ) → (tag ≡ 33 → ⊥) → (tag ≡ 34 → ⊥) → tag ≡ 35 → n ≡ 5 → c ≡ wide (getD bytes 6 0) (getD bytes 7 0)
-      → says (Notice (getD bytes 5 0) c) ≡ formOf tag value
+  pub form-notice : (c : ℕ) → (tag ≡ requestTag → ⊥) → (tag ≡ replyTag → ⊥) → tag ≡ noticeTag → n ≡ 5
+      → c ≡ wide (getD bytes 6 0) (getD bytes 7 0) → says (Notice (getD bytes 5 0) c) ≡ formOf tag value
   form-notice c p q t h e =
-      sym (form-is ∙ simp (ne-eqb tag 33 p, ne-eqb tag 34 q, eq-eqb tag 35 t, eq-eqb n 5 h)
+      sym (form-is ∙ simp (ne-eqb tag requestTag p, ne-eqb tag replyTag q, eq-eqb tag noticeTag t, eq-eqb n 5 h)
       (ap₂ (λ (x y : ℕ). says (Notice x y)) (byte 2 (omega arith)) (ap₂ wide (byte 3 (omega arith)) (byte 4 (omega arith)) ∙ sym e)))

@@ -17,7 +17,16 @@ pub data Letters : Type 0 where
   refused : ℕ → Letters
   letter : Letter → Letters
 
--- ---- the field's form: each tag has its length
+-- ---- the field's tag: 21, 22 and 23 in document 01, and its form: each tag has its length
+abbrev pub requestTag : ℕ
+requestTag = 33
+
+abbrev pub replyTag : ℕ
+replyTag = 34
+
+abbrev pub noticeTag : ℕ
+noticeTag = 35
+
 pub data Form : Type 0 where
   unknown : Form
   says : Body → Form
@@ -25,9 +34,9 @@ pub data Form : Type 0 where
 -- a request is link and side; a reply has a counter besides, high byte first; a notice a subject link and its counter
 unfoldable pub formOf : ℕ → List ℕ → Form
 formOf t v =
-    if isField 33 2 t v then says Request
-    else (if isField 34 4 t v then says (Reply (wide (getD v 2 0) (getD v 3 0)))
-    else (if isField 35 5 t v then says (Notice (getD v 2 0) (wide (getD v 3 0) (getD v 4 0)))
+    if isField requestTag 2 t v then says Request
+    else (if isField replyTag 4 t v then says (Reply (wide (getD v 2 0) (getD v 3 0)))
+    else (if isField noticeTag 5 t v then says (Notice (getD v 2 0) (wide (getD v 3 0) (getD v 4 0)))
     else unknown))
 
 -- ---- the field's values
@@ -59,9 +68,9 @@ readLetter net bytes = letterFrom net (firstField bytes)
 
 -- ---- the bytes that say a letter
 abbrev pub bodyBytes : ℕ → ℕ → Body → List ℕ
-bodyBytes k side Request = writeField 33 (k ∷ side ∷ [])
-bodyBytes k side (Reply c) = writeField 34 (k ∷ side ∷ c / 256 ∷ c % 256 ∷ [])
-bodyBytes k side (Notice subject c) = writeField 35 (k ∷ side ∷ subject ∷ c / 256 ∷ c % 256 ∷ [])
+bodyBytes k side Request = writeField requestTag (k ∷ side ∷ [])
+bodyBytes k side (Reply c) = writeField replyTag (k ∷ side ∷ c / 256 ∷ c % 256 ∷ [])
+bodyBytes k side (Notice subject c) = writeField noticeTag (k ∷ side ∷ subject ∷ c / 256 ∷ c % 256 ∷ [])
 
 unfoldable pub writeLetter : Network → Letter → List ℕ
 writeLetter net x = bodyBytes (x .link) (sideOf net (x .link) (x .sender)) (x .body)

@@ -135,7 +135,8 @@ fn side_of(low: u8, sender: u16) -> u8
 fn put_value(out: &mut [u8], tag: u8, value: &[u8]) -> Wrote
     requires { ⌜ length (now value) ≤ 5 ⌝ }
     ensures answer { λ r. ⌜ wroteNumbers r ≡ writingNumbers (fitting (writeField tag (now (value .entry))) (now (out .entry))) ⌝ }
-    ensures output { λ r. ⌜ now (out .exit) ≡ writingOutput (fitting (writeField tag (now (value .entry))) (now (out .entry))) (now (out .entry)) ⌝ }
+    ensures output { λ r. ⌜ now (out .exit)
+        ≡ writingOutput (fitting (writeField tag (now (value .entry))) (now (out .entry))) (now (out .entry)) ⌝ }
 {
     let n = fields::put(out, tag, value);
     if n == 0 {

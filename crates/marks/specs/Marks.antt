@@ -14,7 +14,13 @@ use Rattle.marks.specs.declared.Words.{Words}
 -- the marks of link k
 abbrev pub marksAt : Words → ℕ → Marks
 marksAt w k =
-    record { token = inWord (w .token) k; turn = inWord (w .turn) k; testing = inWord (w .testing) k; asked = inWord (w .asked) k; quiet = inWord (w .quiet) k }
+    record {
+      token = inWord (w .token) k;
+      turn = inWord (w .turn) k;
+      testing = inWord (w .testing) k;
+      asked = inWord (w .asked) k;
+      quiet = inWord (w .quiet) k;
+    }
 
 -- the five words of marks that are given for each link
 abbrev pub wordsBy : (ℕ → Marks) → Words

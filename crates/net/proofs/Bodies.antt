@@ -9,13 +9,14 @@ use Rattle.lists.proofs.Tests.{and-yes}
 use Rattle.net.specs.declared.Body.{Body}
 use Rattle.net.specs.declared.Body.the-variants.{Request, Reply, Notice}
 use Rattle.net.specs.declared.Net.{Net}
+use Rattle.net.specs.Sizes.{largestCounter}
 use Rattle.net.specs.Letters.{isCounter, bodyHolds}
 use Rattle.net.specs.Values.{networkOf, linkCount, bodyTest}
 use Rattle.net.proofs.ValueLaws.{links-of}
 
 -- a number of 16 bits is a counter if it is no 0
-pub counter-is : (c : ℕ) → c ≤ 65535 → leb 1 c ≡ isCounter c
-counter-is c h = sym (and-yes (leb 1 c)) ∙ ap (λ (b : Bool). leb 1 c && b) (sym (le-leb c 65535 h))
+pub counter-is : (c : ℕ) → c ≤ largestCounter → leb 1 c ≡ isCounter c
+counter-is c h = sym (and-yes (leb 1 c)) ∙ ap (λ (b : Bool). leb 1 c && b) (sym (le-leb c largestCounter h))
 
 module _ (links : ℕ) (b : Body) where
   pub body-reply : (c : ℕ) → b ≡ Reply c → c < 65536 → leb 1 c ≡ bodyTest links b

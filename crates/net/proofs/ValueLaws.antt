@@ -7,13 +7,14 @@ use Rattle.lists.proofs.Numbers.{getD-map-below, length-map-below}
 use Rattle.net.specs.declared.Net.{Net}
 use Rattle.net.specs.Network.{ends}
 use Rattle.net.specs.Values.{networkOf, placeEnds, linkCount}
+use Rattle.net.specs.Sizes.{stationRoom}
 
 module _ (net : Net) where
-  pub stations-of : networkOf net .stations ≡ min (net .stations) 32
+  pub stations-of : networkOf net .stations ≡ min (net .stations) stationRoom
   unfolding networkOf
   stations-of = refl
 
-  pub stations-few : networkOf net .stations ≤ 32
+  pub stations-few : networkOf net .stations ≤ stationRoom
   unfolding networkOf
   stations-few = omega arith
 

@@ -6,11 +6,12 @@ use lib.ListN.{length}
 use Rattle.net.specs.declared.Body.{Body}
 use Rattle.net.specs.declared.Body.the-variants.{Request, Reply, Notice}
 use Rattle.net.specs.declared.Letter.{Letter}
+use Rattle.net.specs.Sizes.{largestCounter}
 use Rattle.net.specs.Network.{Network, isEnd}
 
 -- a counter is 1 to 65,535
 abbrev pub isCounter : ℕ → Bool
-isCounter c = leb 1 c && leb c 65535
+isCounter c = leb 1 c && leb c largestCounter
 
 abbrev pub bodyHolds : Network → Body → Bool
 bodyHolds net Request = true

@@ -1,3 +1,4 @@
+pub mod Sizes
 pub mod Network
 pub mod Letters
 pub mod Values

@@ -11,15 +11,16 @@ use Rattle.net.specs.declared.Body.{Body}
 use Rattle.net.specs.declared.Body.the-variants.{Request, Reply, Notice}
 use Rattle.net.specs.Network.{Ends, Network}
 use Rattle.net.specs.Letters.{isCounter}
+use Rattle.net.specs.Sizes.{stationRoom, linkRoom}
 
 abbrev pub placeEnds : Net → ℕ → Ends
 placeEnds net k = record { low = getD (net .low) k 0; high = getD (net .high) k 0 }
 
 abbrev pub linkCount : Net → ℕ
-linkCount net = min (net .links) 64
+linkCount net = min (net .links) linkRoom
 
 unfoldable pub networkOf : Net → Network
-networkOf net = record { stations = min (net .stations) 32; links = map (placeEnds net) (below (linkCount net)) }
+networkOf net = record { stations = min (net .stations) stationRoom; links = map (placeEnds net) (below (linkCount net)) }
 
 abbrev pub isZero : ℕ → Bool
 isZero x = eqb x 0

@@ -5,12 +5,28 @@ ghost use Rattle.net.specs.Values.{bodyTest};
 ghost use mathlib.Core.Bool.{_||_};
 ghost use lib.Dec.{eqb};
 
+// The sizes of document 01, once; specs/Sizes.antt has them for definitions and proofs. First as lengths of arrays.
+pub const STATION_ROOM: usize = 32;
+
+pub const LINK_ROOM: usize = 64;
+
+pub const LETTER_ROOM: usize = 4096;
+
+// The same as numbers to compare with, and the largest counter.
+pub const MOST_STATIONS: u8 = STATION_ROOM as u8;
+
+pub const MOST_LINKS: u8 = LINK_ROOM as u8;
+
+pub const MOST_LETTERS: u16 = LETTER_ROOM as u16;
+
+pub const LARGEST_COUNTER: u16 = 65535;
+
 // Link k has the ends low[k] and high[k]; unused room is zero.
 pub struct Net {
     pub stations: u8,
     pub links: u8,
-    pub low: [u8; 64],
-    pub high: [u8; 64],
+    pub low: [u8; LINK_ROOM],
+    pub high: [u8; LINK_ROOM],
 }
 
 // What a letter says. The first variant is what an unused place holds.

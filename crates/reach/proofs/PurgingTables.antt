@@ -11,6 +11,7 @@ use Rattle.lists.proofs.Fill.{map-below-same}
 use Rattle.net.specs.declared.Net.{Net}
 use Rattle.net.specs.Network.{Ends}
 use Rattle.net.specs.Values.{networkOf, linkCount}
+use Rattle.net.specs.Sizes.{linkRoom}
 use Rattle.net.proofs.ValueLaws.{links-of, ends-of}
 use Rattle.reach.specs.Reach.{counterIn, has, near, purge}
 use Rattle.reach.specs.Values.{tableOf, reachOf, purgedOf}
@@ -22,7 +23,7 @@ module _ (net : Net) (cs : List ℕ) where
   abbrev pub purgedAt : ℕ → ℕ → ℕ
   purgedAt w k = purgedTo (getD (net .low) k 0) (getD (net .high) k 0) (getD cs k 0) w
 
-  pub purge-filled : (works : ℕ → Bool) (s w : ℕ) → length cs ≡ 64 → w ≡ wordOf (reachOf net works s)
+  pub purge-filled : (works : ℕ → Bool) (s w : ℕ) → length cs ≡ linkRoom → w ≡ wordOf (reachOf net works s)
       → filled (purgedAt w) cs (linkCount net) ≡ purgedOf net works cs s
   unfolding purgedOf purge
   purge-filled works s w size e =

@@ -19,15 +19,16 @@ use Rattle.net.specs.Values.{networkOf, linkCount}
 use Rattle.reach.specs.Values.{reachOf}
 use Rattle.reach.specs.Steps.{crosses, Apart}
 use Rattle.reach.proofs.ReachLaws.{reach-on, reach-self, reaches-keep}
+use Rattle.net.specs.Sizes.{stationRoom}
 use Rattle.net.proofs.ValueLaws.{stations-of, links-of, ends-of}
 use Rattle.reach.proofs.Word.{ReachesBy, word-is-reach}
 
 -- the test of link k at the word w
 abbrev pub test : Net → (ℕ → Bool) → ℕ → ℕ → Bool
-test net works w k = crosses (min (net .stations) 32) (getD (net .low) k 0) (getD (net .high) k 0) (works k) w
+test net works w k = crosses (min (net .stations) stationRoom) (getD (net .low) k 0) (getD (net .high) k 0) (works k) w
 
 -- what the code's answer to the test says, n being the number of stations and v whether the link works, as the code has them
-pub test-seen : (net : Net) (works : ℕ → Bool) (w k n : ℕ) (v r b : Bool) → n ≡ min (net .stations) 32 → v ≡ works k
+pub test-seen : (net : Net) (works : ℕ → Bool) (w k n : ℕ) (v r b : Bool) → n ≡ min (net .stations) stationRoom → v ≡ works k
     → r ≡ crosses n (getD (net .low) k 0) (getD (net .high) k 0) v w → r ≡ b → test net works w k ≡ b
 test-seen net works w k n v r b e f p q =
     ap₂ (λ (x : ℕ) (y : Bool). crosses x (getD (net .low) k 0) (getD (net .high) k 0) y w) (sym e) (sym f) ∙ sym p ∙ q
@@ -96,7 +97,7 @@ module _ (net : Net) (works : ℕ → Bool) (s : ℕ) where
   Sound w = (t : ℕ) → bitAt w t ≡ 1 → ReachesBy net works s t
 
   -- link k, as the code reads it, joins its two ends
-  joined : (k : ℕ) (u t : ℕ) → k < linkCount net → T (works k) → u < min (net .stations) 32 → t < min (net .stations) 32
+  joined : (k : ℕ) (u t : ℕ) → k < linkCount net → T (works k) → u < min (net .stations) stationRoom → t < min (net .stations) stationRoom
       → ((getD (net .low) k 0 ≡ u) × (getD (net .high) k 0 ≡ t)) ⊎ ((getD (net .low) k 0 ≡ t) × (getD (net .high) k 0 ≡ u))
       → Joined (networkOf net) works u t
   joined k u t l ev hu ht which = record {
@@ -124,14 +125,14 @@ module _ (net : Net) (works : ℕ → Bool) (s : ℕ) where
           let tied : T ((eqb lo u && eqb hi v) || (eqb lo v && eqb hi u))
           = subst (λ (x : Ends). T ((eqb (x .low) u && eqb (x .high) v) || (eqb (x .low) v && eqb (x .high) u))) (ends-of net k l)
           (j .tied) in
-          same-side (min (net .stations) 32) lo hi (works k) w u v
+          same-side (min (net .stations) stationRoom) lo hi (works k) w u v
           (j .working)
           (subst (λ (n : ℕ). u < n) (stations-of net) (j .from)) (subst (λ (n : ℕ). v < n) (stations-of net) (j .to))
           tied (none k l) e
 
   -- a word that grows over a crossing link stays sound
   grows : (w r k : ℕ) → k < linkCount net → Sound w
-      → Crossing (min (net .stations) 32) (getD (net .low) k 0) (getD (net .high) k 0) (works k) w
+      → Crossing (min (net .stations) stationRoom) (getD (net .low) k 0) (getD (net .high) k 0) (works k) w
       → Apart (getD (net .low) k 0) (getD (net .high) k 0) w r → Sound r
   grows w r k l so x g t b = go (ℕ-discrete t (g .new))
     where
@@ -159,7 +160,7 @@ pub record Searching (net : Net) (works : ℕ → Bool) (w k : ℕ) : Type 0 whe
   pub none : (j : ℕ) → j < k → test net works w j ≡ false
 
 module _ (net : Net) (works : ℕ → Bool) (s : ℕ) where
-  pub start : s < min (net .stations) 32 → (w : ℕ) → w ≡ 0 + 2 ^ s → Growing net works s w
+  pub start : s < min (net .stations) stationRoom → (w : ℕ) → w ≡ 0 + 2 ^ s → Growing net works s w
   start h w e = record {
     fits = subst⁻¹ (λ (x : ℕ). x < 2 ^ 32) e (put-fits 0 s 32 (omega arith) (pow-pos 32) (none-in s));
     self = subst⁻¹ (λ (x : ℕ). bitAt x s ≡ 1) e (put-same 0 s (none-in s));
@@ -184,7 +185,7 @@ module _ (net : Net) (works : ℕ → Bool) (s : ℕ) where
   done w k g i h = word-is-reach net works s w (g .fits) (g .sound) (closed net works s w (g .self) (λ j l. i .none j (omega arith)))
 
   -- a station that is not there reaches nothing
-  pub nobody : min (net .stations) 32 ≤ s → 0 ≡ wordOf (reachOf net works s)
+  pub nobody : min (net .stations) stationRoom ≤ s → 0 ≡ wordOf (reachOf net works s)
   nobody h =
       word-is-reach net works s 0 (pow-pos 32) (λ t e. absurd (omega (arith, none-in t)))
       (λ t r. absurd (omega (arith, subst (λ (n : ℕ). s < n) (stations-of net) (r .station))))

@@ -10,10 +10,11 @@ use Rattle.lists.specs.Lists.{if_then_else_}
 use Rattle.lists.proofs.Fill.{getD-any}
 use Rattle.net.specs.declared.Net.{Net}
 use Rattle.net.specs.Values.{linkCount}
+use Rattle.net.specs.Sizes.{linkRoom}
 use Rattle.reach.specs.Reach.{counterIn}
 use Rattle.reach.specs.Values.{tableOf}
 
-pub counter-of : (net : Net) (counters : List ℕ) (k : ℕ) → length counters ≡ 64 → k < linkCount net
+pub counter-of : (net : Net) (counters : List ℕ) (k : ℕ) → length counters ≡ linkRoom → k < linkCount net
     → counterIn (tableOf net counters) k ≡ getD counters k 0
 counter-of net counters k e h = getD-take (linkCount net) counters k 1 h ∙ getD-any counters k 1 0 (omega arith)
 

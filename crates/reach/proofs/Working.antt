@@ -14,36 +14,39 @@ use Rattle.lists.proofs.Fill.{getD-any}
 use Rattle.sets.specs.Sets.{wordBy, upTo}
 use Rattle.sets.proofs.WordLaws.{in-by, out-by, by-same}
 use Rattle.net.specs.declared.Net.{Net}
+use Rattle.net.specs.Sizes.{linkRoom}
 use Rattle.counters.specs.Counters.{even}
 use Rattle.reach.specs.Reach.{worksIn}
 use Rattle.reach.specs.Values.{tableOf, workingOf, purgedOf}
 
 module _ (links : ℕ) (counters : List ℕ) where
   -- a link that is not there does not work
-  idle-beyond : (k : ℕ) → min links 64 ≤ k → worksIn (take (min links 64) counters) k ≡ false
+  idle-beyond : (k : ℕ) → min links linkRoom ≤ k → worksIn (take (min links linkRoom) counters) k ≡ false
   idle-beyond k h =
-      ap even (List·getD-eq-default (take (min links 64) counters) 1 {n = k} (omega (arith, length-take (min links 64) counters)))
+      ap even (List·getD-eq-default (take (min links linkRoom) counters) 1 {n = k}
+      (omega (arith, length-take (min links linkRoom) counters)))
 
-  in-working : (k : ℕ) → inWord (workingOf links counters) k ≡ worksIn (take (min links 64) counters) k
-  in-working k = go (decLt k 64)
+  in-working : (k : ℕ) → inWord (workingOf links counters) k ≡ worksIn (take (min links linkRoom) counters) k
+  in-working k = go (decLt k linkRoom)
     where
-      go : Dec (k < 64) → inWord (workingOf links counters) k ≡ worksIn (take (min links 64) counters) k
-      go (yes h) = in-by (worksIn (take (min links 64) counters)) k h
-      go (no h) = out-by (worksIn (take (min links 64) counters)) k (omega arith) ∙ sym (idle-beyond k (omega arith))
+      go : Dec (k < linkRoom) → inWord (workingOf links counters) k ≡ worksIn (take (min links linkRoom) counters) k
+      go (yes h) = in-by (worksIn (take (min links linkRoom) counters)) k h
+      go (no h) = out-by (worksIn (take (min links linkRoom) counters)) k (omega arith) ∙ sym (idle-beyond k (omega arith))
 
   -- the word as the code makes it, from the counters in their room
-  pub working-made : length counters ≡ 64 → wordBy (upTo (λ k. even (getD counters k 0)) (min links 64)) ≡ workingOf links counters
+  pub working-made : length counters ≡ linkRoom
+      → wordBy (upTo (λ k. even (getD counters k 0)) (min links linkRoom)) ≡ workingOf links counters
   working-made size =
-      by-same (upTo (λ k. even (getD counters k 0)) (min links 64)) (worksIn (take (min links 64) counters))
-      (λ k l. go k (decLt k (min links 64)))
+      by-same (upTo (λ k. even (getD counters k 0)) (min links linkRoom)) (worksIn (take (min links linkRoom) counters))
+      (λ k l. go k (decLt k (min links linkRoom)))
     where
-      go : (k : ℕ) → Dec (k < min links 64) → upTo (λ k. even (getD counters k 0)) (min links 64) k ≡ worksIn (take (min links 64) counters)
-          k
+      go : (k : ℕ) → Dec (k < min links linkRoom) → upTo (λ k. even (getD counters k 0)) (min links linkRoom) k
+          ≡ worksIn (take (min links linkRoom) counters) k
       go k (yes h) =
-          ap₂ (λ (x : Bool) (c : ℕ). x && even c) (lt-ltb k (min links 64) h)
-          (getD-any counters k 0 1 (omega arith) ∙ sym (getD-take (min links 64) counters k 1 h))
+          ap₂ (λ (x : Bool) (c : ℕ). x && even c) (lt-ltb k (min links linkRoom) h)
+          (getD-any counters k 0 1 (omega arith) ∙ sym (getD-take (min links linkRoom) counters k 1 h))
       go k (no h) =
-          ap (λ (x : Bool). x && even (getD counters k 0)) (le-ltb k (min links 64) (omega arith)) ∙ sym (idle-beyond k (omega arith))
+          ap (λ (x : Bool). x && even (getD counters k 0)) (le-ltb k (min links linkRoom) (omega arith)) ∙ sym (idle-beyond k (omega arith))
 
 -- what is said over the word of the working links is said over the table
 pub working-is : (net : Net) (counters : List ℕ) (working : ℕ) → working ≡ workingOf (net .links) counters

@@ -4,6 +4,7 @@ use mathlib.Core.Bool.{Bool, not}
 use Rattle.lists.specs.Lists.{below, sumOf, firstOf}
 use Rattle.lists.specs.Words.{bitAt, inWord, wordOf}
 use Rattle.net.specs.declared.Net.{Net}
+use Rattle.net.specs.Sizes.{stationRoom}
 use Rattle.reach.specs.Reach.{countOf, lowestOf}
 use Rattle.reach.specs.Values.{reachOf}
 use Rattle.reach.specs.declared.Reached.{Reached}
@@ -19,4 +20,4 @@ onesOf w = sumOf (bitAt w) (below 32)
 
 -- the lowest station that is not in the word, or 255 if all are
 unfoldable pub lowestMissing : ℕ → ℕ → ℕ
-lowestMissing w stations = firstOf (λ t. not (inWord w t)) (below (min stations 32)) 255
+lowestMissing w stations = firstOf (λ t. not (inWord w t)) (below (min stations stationRoom)) 255

@@ -7,6 +7,7 @@ use lib.ListN.{take, drop}
 use Rattle.sets.specs.Sets.{wordBy}
 use Rattle.net.specs.declared.Net.{Net}
 use Rattle.net.specs.Values.{networkOf, linkCount}
+use Rattle.net.specs.Sizes.{linkRoom}
 use Rattle.reach.specs.Reach.{worksIn, reach, purge}
 
 -- the counters of the links that are there
@@ -15,7 +16,7 @@ tableOf net counters = take (linkCount net) counters
 
 -- the links that work by the counters, as a word: those that are there and whose counter is even
 abbrev pub workingOf : ℕ → List ℕ → ℕ
-workingOf links counters = wordBy (worksIn (take (min links 64) counters))
+workingOf links counters = wordBy (worksIn (take (min links linkRoom) counters))
 
 -- the stations that s reaches
 abbrev pub reachOf : Net → (ℕ → Bool) → ℕ → List Bool

@@ -11,6 +11,8 @@ ghost use mathlib.Core.Bool.{_||_};
 ghost use Rattle.reach.specs.Reach.{linkValue};
 ghost use Rattle.reach.specs.ShowingValues.{reachedOf, onesOf, lowestMissing};
 use counters::Counters;
+use net::MOST_LINKS;
+use net::MOST_STATIONS;
 use net::Net;
 
 // The word with bit t, which it hasn't yet.
@@ -54,7 +56,7 @@ fn grown(a: u8, b: u8, w: u32) -> u32
 pub fn working_links(links: u8, counters: Counters) -> u64
     ensures { λ r. ⌜ r ≡ workingOf links counters ⌝ }
 {
-    let m = sets::at_most(links, 64);
+    let m = sets::at_most(links, MOST_LINKS);
     let mut working: u64 = 0;
     for k in 0..m {
         let i = k as usize;
@@ -69,8 +71,8 @@ pub fn working_links(links: u8, counters: Counters) -> u64
 pub fn reach_word(net: Net, working: u64, s: u8) -> u32
     ensures { λ r. ⌜ r ≡ wordOf (reachOf net (inWord working) s) ⌝ }
 {
-    let n = sets::at_most(net.stations, 32);
-    let m = sets::at_most(net.links, 64);
+    let n = sets::at_most(net.stations, MOST_STATIONS);
+    let m = sets::at_most(net.links, MOST_LINKS);
     if n <= s {
         return 0;
     }
@@ -110,7 +112,7 @@ fn purge_one(a: u8, b: u8, counter: u16, w: u32) -> u16
 pub fn purged(net: Net, working: u64, counters: Counters, s: u8) -> Counters
     ensures { λ r. ⌜ r ≡ purgedOf net (inWord working) counters s ⌝ }
 {
-    let links = sets::at_most(net.links, 64);
+    let links = sets::at_most(net.links, MOST_LINKS);
     let w = reach_word(net, working, s);
     let mut next = counters;
     for k in 0..links {
@@ -143,7 +145,7 @@ fn count_ones(word: u32) -> u8
 fn lowest_missing(word: u32, stations: u8) -> u8
     ensures { λ r. ⌜ r ≡ lowestMissing word stations ⌝ }
 {
-    let n = sets::at_most(stations, 32);
+    let n = sets::at_most(stations, MOST_STATIONS);
     let z = u32::trailing_zeros(!word);
     if z < n as u32 { z as u8 } else { 255 }
 }

@@ -3,7 +3,10 @@
 ghost use Prim.Native.Nat.{_≤_, _+_};
 ghost use mathlib.Core.Path.{_≡_};
 ghost use lib.ListN.{length};
+ghost use Rattle.net.specs.Sizes.{linkRoom};
 use counters::Counters;
+use net::LINK_ROOM;
+use net::MOST_LINKS;
 use net::Net;
 
 // A case is 259 bytes: stations, links, 64 lower ends, 64 higher ends, 64 counters (high byte first), the asking station.
@@ -16,9 +19,9 @@ fn wide(high: u8, low: u8) -> u16 {
 fn net_of(case: &[u8]) -> Net
     requires { ⌜ length (now case) ≡ 259 ⌝ }
 {
-    let mut low = [0u8; 64];
-    let mut high = [0u8; 64];
-    for i in 0..64usize {
+    let mut low = [0u8; LINK_ROOM];
+    let mut high = [0u8; LINK_ROOM];
+    for i in 0..LINK_ROOM {
         low[i] = case[2 + i];
         high[i] = case[66 + i];
     }
@@ -33,8 +36,8 @@ fn net_of(case: &[u8]) -> Net
 fn counters_of(case: &[u8]) -> Counters
     requires { ⌜ length (now case) ≡ 259 ⌝ }
 {
-    let mut counters = [0u16; 64];
-    for i in 0..64usize {
+    let mut counters = [0u16; LINK_ROOM];
+    for i in 0..LINK_ROOM {
         counters[i] = wide(case[130 + i * 2], case[131 + i * 2]);
     }
     counters
@@ -51,13 +54,17 @@ fn print_counter(c: u16) {
 
 // How many links are there.
 fn shown_links(links: u8) -> u8
-    ensures { λ r. ⌜ r ≤ 64 ⌝ }
+    ensures { λ r. ⌜ r ≤ linkRoom ⌝ }
 {
-    if links < 64 { links } else { 64 }
+    if links < MOST_LINKS {
+        links
+    } else {
+        MOST_LINKS
+    }
 }
 
 fn print_counters(counters: Counters, links: u8)
-    requires { ⌜ links ≤ 64 ⌝ }
+    requires { ⌜ links ≤ linkRoom ⌝ }
 {
     for k in 0..links {
         let i = k as usize;
@@ -66,7 +73,7 @@ fn print_counters(counters: Counters, links: u8)
 }
 
 fn print_links(net: Net, working: u64, word: u32, links: u8)
-    requires { ⌜ links ≤ 64 ⌝ }
+    requires { ⌜ links ≤ linkRoom ⌝ }
 {
     for k in 0..links {
         let i = k as usize;

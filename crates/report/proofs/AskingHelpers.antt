@@ -11,16 +11,19 @@ use Rattle.station.specs.declared.Condition.{Condition}
 use Rattle.station.specs.Holding.{isLive}
 use Rattle.report.specs.Asking.{numberBy}
 use Rattle.sets.specs.Rooms.{inRoom}
+use Rattle.net.specs.Sizes.{stationRoom}
 
 -- ---- the place
-pub place-there : (a : ℕ) → a < 32 → a ≡ inRoom a
-place-there a h = sym (ap (λ (b : Bool). if b then a else 0) (lt-ltb a 32 h))
+pub place-there : (a : ℕ) → a < stationRoom → a ≡ inRoom a
+place-there a h = sym (ap (λ (b : Bool). if b then a else 0) (lt-ltb a stationRoom h))
 
-pub place-past : (a : ℕ) → 32 ≤ a → 0 ≡ inRoom a
-place-past a h = sym (ap (λ (b : Bool). if b then a else 0) (le-ltb a 32 h))
+pub place-past : (a : ℕ) → stationRoom ≤ a → 0 ≡ inRoom a
+place-past a h = sym (ap (λ (b : Bool). if b then a else 0) (le-ltb a stationRoom h))
 
-pub place-few : (a r : ℕ) → r ≡ inRoom a → r < 32
-place-few a r e = subst⁻¹ (λ (n : ℕ). n < 32) e (if-elim (λ (n : ℕ). n < 32) (ltb a 32) (λ t. ltb→lt a 32 t) (λ t. omega arith))
+pub place-few : (a r : ℕ) → r ≡ inRoom a → r < stationRoom
+place-few a r e =
+    subst⁻¹ (λ (n : ℕ). n < stationRoom) e
+    (if-elim (λ (n : ℕ). n < stationRoom) (ltb a stationRoom) (λ t. ltb→lt a stationRoom t) (λ t. omega arith))
 
 -- ---- the number
 module _ (good : Bool) (stations a : ℕ) (x : Condition) where

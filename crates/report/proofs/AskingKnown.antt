@@ -10,6 +10,7 @@ use Rattle.lists.specs.Lists.{if_then_else_}
 use Rattle.lists.proofs.Tests.{is-T}
 use Rattle.net.specs.Network.{Network}
 use Rattle.net.specs.Values.{networkOf}
+use Rattle.net.specs.Sizes.{stationRoom}
 use Rattle.reach.specs.Values.{tableOf}
 use Rattle.station.specs.Holding.{Holding, isLive}
 use Rattle.station.specs.Values.{holdingOf}
@@ -35,7 +36,7 @@ module _ (s : State) (z : Sized s) (t : T (stateHolds s)) where
   module _ (a me : ℕ) (pe : me ≡ inRoom a) where
     -- the station that a names stands at its place
     pub me-is : a < s .net .stations → me ≡ a
-    me-is h = pe ∙ ap (λ (b : Bool). if b then a else 0) (lt-ltb a 32 (omega (arith, M.few s z t)))
+    me-is h = pe ∙ ap (λ (b : Bool). if b then a else 0) (lt-ltb a stationRoom (omega (arith, M.few s z t)))
 
     module _ (h : a < s .net .stations) where
       holding-is : holdingAt w a ≡ holdingOf (s .net) (stationIn s me)

@@ -15,6 +15,7 @@ use Rattle.lists.proofs.Fill.{filled-more, map-below-same}
 use Rattle.net.specs.declared.Net.{Net}
 use Rattle.net.specs.Network.{Ends}
 use Rattle.net.specs.Values.{networkOf, linkCount}
+use Rattle.net.specs.Sizes.{stationRoom}
 use Rattle.net.proofs.ValueLaws.{stations-of, links-of, ends-of}
 use Rattle.reach.specs.Reach.{has, near, linkValue, report}
 use Rattle.reach.specs.Values.{reachOf}
@@ -61,7 +62,7 @@ module _ (net : Net) (works : ℕ → Bool) (s : ℕ) where
   unfolding reportIn report
   parts = refl
 
-  pub length-in : length (reportIn net works s) ≡ min (net .stations) 32 + linkCount net
+  pub length-in : length (reportIn net works s) ≡ min (net .stations) stationRoom + linkCount net
   length-in =
       ap length parts ∙ length-append (map stationByte (below (networkOf net .stations)))
       (map linkByte (below (length (networkOf net .links))))
@@ -83,9 +84,9 @@ module _ (net : Net) (works : ℕ → Bool) (s : ℕ) where
         ap₂ (λ (x y : Bool). linkValue (x || y) (works k)) (seen (getD (net .low) k 0)) (seen (getD (net .high) k 0))
         ∙ ap (λ (x : Ends). linkValue (has members (x .low) || has members (x .high)) (works k)) (sym (ends-of net k h))
 
-    stations-are : map (bitAt word) (below (min (net .stations) 32)) ≡ map stationByte (below (networkOf net .stations))
+    stations-are : map (bitAt word) (below (min (net .stations) stationRoom)) ≡ map stationByte (below (networkOf net .stations))
     stations-are =
-        map-below-same (bitAt word) stationByte (min (net .stations) 32) (λ t h. ap (λ (x : ℕ). bitAt x t) e ∙ wordOf-at members t)
+        map-below-same (bitAt word) stationByte (min (net .stations) stationRoom) (λ t h. ap (λ (x : ℕ). bitAt x t) e ∙ wordOf-at members t)
         ∙ ap (λ (n : ℕ). map stationByte (below n)) (sym (stations-of net))
 
     links-are : map (linkShown net works word) (below (linkCount net)) ≡ map linkByte (below (length (networkOf net .links)))
@@ -94,8 +95,9 @@ module _ (net : Net) (works : ℕ → Bool) (s : ℕ) where
         ∙ ap (λ (n : ℕ). map linkByte (below n)) (sym (links-of net))
 
     -- the output after the stations, and after the links, which are put in what is left of it
-    module _ (n m : ℕ) (ne : n ≡ min (net .stations) 32) (me : m ≡ linkCount net) (old one part two : List ℕ) (room : n + m ≤ length old)
-        (p : one ≡ filled (bitAt word) old n) (q : part ≡ filled (linkShown net works word) (take (length one - n) (drop n one)) m)
+    module _ (n m : ℕ) (ne : n ≡ min (net .stations) stationRoom) (me : m ≡ linkCount net) (old one part two : List ℕ)
+        (room : n + m ≤ length old) (p : one ≡ filled (bitAt word) old n)
+        (q : part ≡ filled (linkShown net works word) (take (length one - n) (drop n one)) m)
         (w : two ≡ take n one ++ (part ++ drop (length one - n) (drop n one))) where
       abbrev front : List ℕ
       front = map (bitAt word) (below n)

@@ -15,6 +15,7 @@ use Rattle.lists.proofs.Tests.{T-is, T-not-is, is-T, and-l, if-elim}
 use Rattle.lists.proofs.Fill.{getD-any}
 use Rattle.net.specs.Network.{Network}
 use Rattle.net.specs.Values.{networkOf, linkCount}
+use Rattle.net.specs.Sizes.{letterRoom}
 use Rattle.sheet_rules.specs.Values.{netHolds}
 use Rattle.sheet_rules.proofs.Good as Good
 use Rattle.reach.specs.Values.{tableOf}
@@ -75,8 +76,8 @@ module _ (s : State) where
     good-net : T (netHolds (s .net))
     unfolding stateHolds
     good-net =
-        and-l (netHolds (s .net)) (leb (s .flying) 4096)
-        (and-l (netHolds (s .net) && leb (s .flying) 4096) (stationsHold s && lettersHold s) t)
+        and-l (netHolds (s .net)) (leb (s .flying) letterRoom)
+        (and-l (netHolds (s .net) && leb (s .flying) letterRoom) (stationsHold s && lettersHold s) t)
 
     pub stations-are : networkOf (s .net) .stations ≡ s .net .stations
     stations-are = Good.stations-are (s .net) good-net

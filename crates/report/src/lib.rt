@@ -9,8 +9,11 @@ ghost use Prim.Native.Nat.{_+_, _<_, _≤_};
 ghost use lib.ListN.{length};
 ghost use Rattle.lists.specs.Lists.{filled};
 ghost use Rattle.report.specs.ReportsAnswers.{answerOf, outputOf};
+ghost use Rattle.net.specs.Sizes.{stationRoom, linkRoom};
 ghost use Rattle.fields.specs.Output.{withRoom, writtenOver};
 ghost use Rattle.report.specs.Steps.{reportIn, linkShown};
+use net::MOST_LINKS;
+use net::MOST_STATIONS;
 use net::Net;
 use reach::Reached;
 use state::State;
@@ -81,7 +84,7 @@ fn station_shown(word: u32, t: u8) -> u8
 }
 
 fn put_stations(out: &mut [u8], word: u32, n: u8)
-    requires { ⌜ (n ≤ 32) × (n ≤ length (now out)) ⌝ }
+    requires { ⌜ (n ≤ stationRoom) × (n ≤ length (now out)) ⌝ }
     ensures { λ r. ⌜ now (out .exit) ≡ filled (bitAt word) (now (out .entry)) n ⌝ }
 {
     for t in 0..n {
@@ -91,7 +94,7 @@ fn put_stations(out: &mut [u8], word: u32, n: u8)
 }
 
 fn put_links(out: &mut [u8], net: Net, working: u64, word: u32, m: u8)
-    requires { ⌜ (m ≤ 64) × (m ≤ length (now out)) ⌝ }
+    requires { ⌜ (m ≤ linkRoom) × (m ≤ length (now out)) ⌝ }
     ensures { λ r. ⌜ now (out .exit) ≡ filled (linkShown net (inWord working) word) (now (out .entry)) m ⌝ }
 {
     for k in 0..m {
@@ -103,13 +106,15 @@ fn put_links(out: &mut [u8], net: Net, working: u64, word: u32, m: u8)
 // The report over the working links, where no number refuses it yet and the output has room for it.
 fn written(number: u8, net: Net, working: u64, me: u8, out: &mut [u8]) -> u8
     ensures answer { λ r. ⌜ r ≡ withRoom number (reportIn net (inWord working) me) (now (out .entry)) ⌝ }
-    ensures output { λ r. ⌜ now (out .exit) ≡ writtenOver (withRoom number (reportIn net (inWord working) me) (now (out .entry))) (reportIn net (inWord working) me) (now (out .entry)) ⌝ }
+    ensures output { λ r. ⌜ now (out .exit)
+        ≡ writtenOver (withRoom number (reportIn net (inWord working) me) (now (out .entry)))
+        (reportIn net (inWord working) me) (now (out .entry)) ⌝ }
 {
     if number != 0 {
         return number;
     }
-    let n = sets::at_most(net.stations, 32);
-    let m = sets::at_most(net.links, 64);
+    let n = sets::at_most(net.stations, MOST_STATIONS);
+    let m = sets::at_most(net.links, MOST_LINKS);
     let from = n as usize;
     let size = from + m as usize;
     if out.len() < size {

@@ -11,25 +11,29 @@ use Rattle.lists.proofs.Tests.{and-l, and-r, and-i, T-is}
 use Rattle.fields.specs.Fields.{firstField, writeField, areBytes}
 use Rattle.fields.proofs.Law.{cut-written, written-cut, parts-bytes, bytes-append, field-bytes}
 use Rattle.net.specs.Network.{Ends, Network}
+use Rattle.net.specs.Sizes.{stationRoom, linkRoom}
 use Rattle.sheet_rules.specs.Rules.{precedes, endsHold, sheetHolds}
 use Rattle.sheet_rules.proofs.Rules.{lower-first, higher-there, rules-of}
-use Rattle.sheet.specs.Sheet.{sheet, Opening, faulty, stations, stationsHold, opened, Verdict, wrong, link, last, noLink, judged, readLinks, readOpened, readSheet, linkBytes, writeLinks, writeSheet}
+use Rattle.sheet.specs.Sheet.{sheet, Opening, faulty, stations, stationsHold, opened, Verdict, wrong, link, last, noLink, judged}
+use Rattle.sheet.specs.Sheet.{readLinks, readOpened, readSheet, linkBytes, writeLinks, writeSheet, stationsTag, linkTag, endTag}
 use Rattle.sheet.proofs.Rising.{rising, Risen, risen-of, of-risen}
 use Rattle.sheet.proofs.Judged.{is-stations, is-link, is-last, last-read}
 
 -- ---- what was written is judged good
-pub open-written : (n : ℕ) (rest : List ℕ) → T (stationsHold n) → opened (firstField (writeField 1 (n ∷ []) ++ rest)) ≡ stations n rest
+pub open-written : (n : ℕ) (rest : List ℕ) → T (stationsHold n)
+    → opened (firstField (writeField stationsTag (n ∷ []) ++ rest)) ≡ stations n rest
 unfolding opened
-open-written n rest t = rw (cut-written 1 (n ∷ []) rest, T-is (stationsHold n) t)
+open-written n rest t = rw (cut-written stationsTag (n ∷ []) rest, T-is (stationsHold n) t)
 
 judge-link : (n : ℕ) (prev e : Ends) (rest : List ℕ) → T (endsHold n e) → T (precedes prev e)
     → judged n prev (firstField (linkBytes e ++ rest)) ≡ link e rest
 unfolding judged
-judge-link n prev e rest t u = rw (cut-written 2 (e .low ∷ e .high ∷ []) rest, T-is (endsHold n e) t, T-is (precedes prev e) u)
+judge-link n prev e rest t u = rw (cut-written linkTag (e .low ∷ e .high ∷ []) rest, T-is (endsHold n e) t, T-is (precedes prev e) u)
 
-judge-last : (n : ℕ) (prev : Ends) → judged n prev (firstField (writeField 15 [])) ≡ last
+judge-last : (n : ℕ) (prev : Ends) → judged n prev (firstField (writeField endTag [])) ≡ last
 unfolding judged
-judge-last n prev = ap (λ (l : List ℕ). judged n prev (firstField l)) (sym (append-nil (writeField 15 []))) ∙ rw (cut-written 15 [] [])
+judge-last n prev =
+    ap (λ (l : List ℕ). judged n prev (firstField l)) (sym (append-nil (writeField endTag []))) ∙ rw (cut-written endTag [] [])
 
 -- the link that stands before what follows es
 abbrev pub lastOf : Ends → List Ends → Ends
@@ -63,26 +67,26 @@ links-pass (e ∷ es) left n prev so rest t =
 
 -- a sheet that begins with a good first field and good links
 pub reads-on : (net : Network) (rest : List ℕ) → Risen net
-    → readSheet (writeField 1 (net .stations ∷ []) ++ writeLinks (net .links) ++ rest)
-    ≡ readLinks (64 - length (net .links)) (net .stations) (net .links)
+    → readSheet (writeField stationsTag (net .stations ∷ []) ++ writeLinks (net .links) ++ rest)
+    ≡ readLinks (linkRoom - length (net .links)) (net .stations) (net .links)
     (judged (net .stations) (lastOf noLink (net .links)) (firstField rest))
 unfolding readSheet
 reads-on net rest r =
     let n = net .stations in
     let es = net .links in
-    let m : 64 ≡ more es (64 - length es) = omega (arith, more-is es (64 - length es), r .few) in
-    ap readSheet (append-assoc (writeField 1 (n ∷ [])) (writeLinks es) rest)
+    let m : linkRoom ≡ more es (linkRoom - length es) = omega (arith, more-is es (linkRoom - length es), r .few) in
+    ap readSheet (append-assoc (writeField stationsTag (n ∷ [])) (writeLinks es) rest)
     ∙ ap readOpened (open-written n (writeLinks es ++ rest) (r .count))
     ∙ ap (λ (k : ℕ). readLinks k n [] (judged n noLink (firstField (writeLinks es ++ rest)))) m
-    ∙ links-pass es (64 - length es) n noLink [] rest (r .order)
+    ∙ links-pass es (linkRoom - length es) n noLink [] rest (r .order)
 
 -- ---- what was written reads back
 pub reads-back : (net : Network) → T (sheetHolds net) → readSheet (writeSheet net) ≡ sheet net
 unfolding writeSheet
 reads-back net t =
-    reads-on net (writeField 15 []) (risen-of net t)
-    ∙ ap (readLinks (64 - length (net .links)) (net .stations) (net .links)) (judge-last (net .stations) (lastOf noLink (net .links)))
-    ∙ last-read (64 - length (net .links)) (net .stations) (net .links)
+    reads-on net (writeField endTag []) (risen-of net t)
+    ∙ ap (readLinks (linkRoom - length (net .links)) (net .stations) (net .links)) (judge-last (net .stations) (lastOf noLink (net .links)))
+    ∙ last-read (linkRoom - length (net .links)) (net .stations) (net .links)
 
 -- ---- what is read was written, and is good
 one-byte : (v : List ℕ) → length v ≡ 1 → v ≡ getD v 0 0 ∷ []
@@ -97,18 +101,19 @@ two-bytes (x ∷ y ∷ []) e = refl
 two-bytes (x ∷ y ∷ z ∷ v) e = absurd (omega arith)
 
 pub stations-written : (bytes : List ℕ) (n : ℕ) (rest : List ℕ) → T (areBytes bytes) → opened (firstField bytes) ≡ stations n rest
-    → bytes ≡ writeField 1 (n ∷ []) ++ rest
+    → bytes ≡ writeField stationsTag (n ∷ []) ++ rest
 stations-written bytes n rest t e =
     let w = is-stations (firstField bytes) n rest e in
-    written-cut bytes 1 (w .value) rest t (w .cut)
-    ∙ ap (λ (v : List ℕ). writeField 1 v ++ rest) (one-byte (w .value) (w .size) ∙ ap {B = List ℕ} (λ (x : ℕ). x ∷ []) (w .count))
+    written-cut bytes stationsTag (w .value) rest t (w .cut)
+    ∙ ap (λ (v : List ℕ). writeField stationsTag v ++ rest) (one-byte (w .value) (w .size) ∙ ap {B = List ℕ} (λ (x : ℕ). x ∷ []) (w .count))
 
 pub link-written : (n : ℕ) (prev : Ends) (bytes : List ℕ) (e : Ends) (rest : List ℕ) → T (areBytes bytes)
     → judged n prev (firstField bytes) ≡ link e rest → bytes ≡ linkBytes e ++ rest
 link-written n prev bytes e rest t p =
     let w = is-link n prev (firstField bytes) e rest p in
-    written-cut bytes 2 (w .value) rest t (w .cut)
-    ∙ ap (λ (v : List ℕ). writeField 2 v ++ rest) (two-bytes (w .value) (w .size) ∙ ap (λ (x : Ends). x .low ∷ x .high ∷ []) (w .ends))
+    written-cut bytes linkTag (w .value) rest t (w .cut)
+    ∙ ap (λ (v : List ℕ). writeField linkTag v ++ rest) (two-bytes (w .value) (w .size)
+    ∙ ap (λ (x : Ends). x .low ∷ x .high ∷ []) (w .ends))
 
 pub rest-bytes : (bytes front rest : List ℕ) → T (areBytes bytes) → bytes ≡ front ++ rest → T (areBytes rest)
 rest-bytes bytes front rest t e = parts-bytes front rest (subst (λ (l : List ℕ). T (areBytes l)) e t) .1
@@ -119,7 +124,7 @@ record Ended (room n : ℕ) (prev : Ends) (so : List Ends) (bytes : List ℕ) (n
   pub whole : net ≡ record { stations = n; links = so ++ es }
   pub order : T (rising n prev es)
   pub few : length es ≤ room
-  pub wrote : T (areBytes bytes) → bytes ≡ writeLinks es ++ writeField 15 []
+  pub wrote : T (areBytes bytes) → bytes ≡ writeLinks es ++ writeField endTag []
 
 ended-last : (room n : ℕ) (prev : Ends) (so : List Ends) (bytes : List ℕ) (net : Network) → judged n prev (firstField bytes) ≡ last
     → readLinks room n so last ≡ sheet net → Ended room n prev so bytes net
@@ -132,7 +137,7 @@ ended-last room n prev so bytes net p q =
       whole = w ∙ ap (λ (l : List Ends). record { stations = n; links = l }) (sym (append-nil so));
       order = tt;
       few = omega arith;
-      wrote = λ t. written-cut bytes 15 [] [] t (is-last n prev (firstField bytes) p) ∙ append-nil (writeField 15 []);
+      wrote = λ t. written-cut bytes endTag [] [] t (is-last n prev (firstField bytes) p) ∙ append-nil (writeField endTag []);
     }
 
 ended-link : (room n : ℕ) (prev : Ends) (so : List Ends) (bytes : List ℕ) (net : Network) (x : Ends) (rest : List ℕ)
@@ -147,8 +152,9 @@ ended-link room n prev so bytes net x rest p r =
       few = omega (arith, r .few);
       wrote =
           λ t. let f = link-written n prev bytes x rest t p in
-          f ∙ ap (λ (l : List ℕ). linkBytes x ++ l) (r .wrote (rest-bytes bytes (linkBytes x) rest t f))
-          ∙ sym (append-assoc (linkBytes x) (writeLinks (r .es)) (writeField 15 []));
+          f ∙ ap (λ (l : List ℕ). linkBytes x ++ l)
+          (r .wrote (rest-bytes bytes (linkBytes x) rest t f))
+          ∙ sym (append-assoc (linkBytes x) (writeLinks (r .es)) (writeField endTag []));
     }
 
 ended : (room n : ℕ) (prev : Ends) (so : List Ends) (bytes : List ℕ) (net : Network)
@@ -183,14 +189,15 @@ whole bytes net e = go (opened (firstField bytes)) refl e
     go : (o : Opening) → opened (firstField bytes) ≡ o → readOpened o ≡ sheet net → Whole bytes net
     go (faulty k) p q = let z : _≡_ {A = ℕ} 0 1 = cc in absurd (omega arith)
     go (stations n rest) p q =
-        let r = ended 64 n noLink [] rest net q in
+        let r = ended linkRoom n noLink [] rest net q in
         let w = is-stations (firstField bytes) n rest p in
         subst⁻¹ (Whole bytes) (r .whole) (record {
           rules = record { count = w .good; few = r .few; order = r .order };
           wrote =
               λ t. let f = stations-written bytes n rest t p in
-              f ∙ ap (λ (l : List ℕ). writeField 1 (n ∷ []) ++ l) (r .wrote (rest-bytes bytes (writeField 1 (n ∷ [])) rest t f))
-              ∙ sym (append-assoc (writeField 1 (n ∷ [])) (writeLinks (r .es)) (writeField 15 []));
+              f ∙ ap (λ (l : List ℕ). writeField stationsTag (n ∷ []) ++ l)
+              (r .wrote (rest-bytes bytes (writeField stationsTag (n ∷ [])) rest t f))
+              ∙ sym (append-assoc (writeField stationsTag (n ∷ [])) (writeLinks (r .es)) (writeField endTag []));
         })
 
 -- what is read keeps the sheet rules
@@ -215,7 +222,7 @@ links-bytes n prev (e ∷ es) h t =
     let high = higher-there n e u in
     let low = lower-first n e u in
     bytes-append (linkBytes e) (writeLinks es)
-    (field-bytes 2 (e .low ∷ e .high ∷ []) (omega arith) (omega arith)
+    (field-bytes linkTag (e .low ∷ e .high ∷ []) (omega arith) (omega arith)
     (and-i (ltb (e .low) 256) _ (lt→ltb (e .low) 256 (omega arith)) (and-i (ltb (e .high) 256) _ (lt→ltb (e .high) 256 (omega arith)) tt)))
     (links-bytes n e es h (and-r (endsHold n e && precedes prev e) _ t))
 
@@ -224,9 +231,9 @@ unfolding writeSheet
 writes-bytes net t =
     let r = risen-of net t in
     let n = net .stations in
-    let few : n ≤ 32 = rules-of net t .few-stations in
-    bytes-append (writeField 1 (n ∷ []) ++ writeLinks (net .links)) (writeField 15 [])
-    (bytes-append (writeField 1 (n ∷ [])) (writeLinks (net .links))
-    (field-bytes 1 (n ∷ []) (omega arith) (omega arith) (and-i (ltb n 256) _ (lt→ltb n 256 (omega arith)) tt))
+    let few : n ≤ stationRoom = rules-of net t .few-stations in
+    bytes-append (writeField stationsTag (n ∷ []) ++ writeLinks (net .links)) (writeField endTag [])
+    (bytes-append (writeField stationsTag (n ∷ [])) (writeLinks (net .links))
+    (field-bytes stationsTag (n ∷ []) (omega arith) (omega arith) (and-i (ltb n 256) _ (lt→ltb n 256 (omega arith)) tt))
     (links-bytes n noLink (net .links) (omega arith) (r .order)))
-    (field-bytes 15 [] (omega arith) (omega arith) tt)
+    (field-bytes endTag [] (omega arith) (omega arith) tt)

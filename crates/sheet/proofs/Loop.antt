@@ -9,22 +9,24 @@ use Rattle.lists.proofs.Fill.{map-append}
 use Rattle.fields.specs.Fields.{firstField}
 use Rattle.fields.proofs.Seen.{field-size}
 use Rattle.net.specs.Network.{Ends}
+use Rattle.net.specs.Sizes.{linkRoom}
 use Rattle.sheet.specs.declared.Answer.{Answer}
 use Rattle.sheet.specs.declared.Answer.the-variants.{Good, TooManyLinks}
 use Rattle.sheet.specs.declared.Reading.{Reading}
 use Rattle.sheet.specs.declared.Next.{Next}
 use Rattle.sheet.specs.declared.Next.the-variants.{Wrong, Link, Last}
-use Rattle.sheet.specs.Sheet.{Sheet, Opening, faulty, stations, opened, Verdict, wrong, link, last, judged, readLinks, readOpened, readSheet}
+use Rattle.sheet.specs.Sheet.{Sheet, Opening, faulty, stations, opened, Verdict, wrong}
+use Rattle.sheet.specs.Sheet.{link, last, judged, readLinks, readOpened, readSheet}
 use Rattle.sheet.specs.Values.{numberOf, roomOf, valueOf, sheetNumber, sheetNet, Says}
 use Rattle.sheet.specs.Steps.{refusedAs, endsOf, verdictOf, linksOf}
 use Rattle.sheet.proofs.Judged.{is-link, is-stations, wrong-read, last-read}
 
 -- ---- the room
-pub room-more : (xs : List ℕ) (x k : ℕ) → length xs ≡ k → k < 64 → set (roomOf xs) k x ≡ roomOf (xs ++ (x ∷ []))
+pub room-more : (xs : List ℕ) (x k : ℕ) → length xs ≡ k → k < linkRoom → set (roomOf xs) k x ≡ roomOf (xs ++ (x ∷ []))
 unfolding roomOf
 room-more xs x k e h =
-    let p : 64 - length xs ≡ suc (63 - k) = omega arith in
-    let q : 63 - k ≡ 64 - length (xs ++ (x ∷ [])) = omega (arith, length-append xs (x ∷ [])) in
+    let p : linkRoom - length xs ≡ suc (63 - k) = omega arith in
+    let q : 63 - k ≡ linkRoom - length (xs ++ (x ∷ [])) = omega (arith, length-append xs (x ∷ [])) in
     ap (λ (m : ℕ). set (xs ++ replicate m 0) k x) p
     ∙ set-at xs 0 (replicate (63 - k) 0) x k e
     ∙ sym (append-assoc xs (x ∷ []) (replicate (63 - k) 0))
@@ -34,11 +36,11 @@ room-more xs x k e h =
 pub record Standing (whole : Sheet) (n : ℕ) (bytes low high : List ℕ) (a b k at : ℕ) : Type 0 where
   pub so : List Ends
   pub count : length so ≡ k
-  pub room : k ≤ 64
+  pub room : k ≤ linkRoom
   pub inside : at ≤ length bytes
   pub lows : low ≡ roomOf (map (λ e. e .low) so)
   pub highs : high ≡ roomOf (map (λ e. e .high) so)
-  pub on : whole ≡ readLinks (64 - k) n so (judged n (endsOf a b) (firstField (drop at bytes)))
+  pub on : whole ≡ readLinks (linkRoom - k) n so (judged n (endsOf a b) (firstField (drop at bytes)))
 
 pub standing-first : (n : ℕ) (bytes low high : List ℕ) → 4 ≤ length bytes → low ≡ roomOf [] → high ≡ roomOf []
     → Standing (linksOf n bytes) n bytes low high 0 0 0 4
@@ -54,33 +56,33 @@ module _ (whole : Sheet) (n : ℕ) (bytes low high : List ℕ) (a b k at : ℕ) 
   here l = judged n (endsOf a b) (firstField l)
 
   told : (v : Verdict) (next : Next) → verdictOf part next ≡ here part → verdictOf (drop at bytes) next ≡ v
-      → whole ≡ readLinks (64 - k) n (s .so) v
+      → whole ≡ readLinks (linkRoom - k) n (s .so) v
   told v next p q =
       let e = take-all (length bytes - at) (drop at bytes) (omega (arith, length-drop at bytes)) in
-      s .on ∙ ap (readLinks (64 - k) n (s .so)) (sym (subst (λ (l : List ℕ). verdictOf l next ≡ here l) e p) ∙ q)
+      s .on ∙ ap (readLinks (linkRoom - k) n (s .so)) (sym (subst (λ (l : List ℕ). verdictOf l next ≡ here l) e p) ∙ q)
 
   module _ (next : Next) (p : verdictOf part next ≡ here part) where
     pub standing-wrong : (answer : Answer) (r : Reading) → next ≡ Wrong answer → r ≡ refusedAs answer → Says r whole
     standing-wrong answer r q g =
         let is = told (wrong (numberOf answer)) next p (ap (verdictOf (drop at bytes)) q)
-        ∙ wrong-read (64 - k) n (s .so) (numberOf answer) in
+        ∙ wrong-read (linkRoom - k) n (s .so) (numberOf answer) in
         subst (λ (x : Reading). Says x whole) (sym g) (record { number = ap sheetNumber (sym is); net = ap sheetNet (sym is) })
 
     pub standing-last : next ≡ Last → Says (record { answer = Good; net = record { stations = n; links = k; low = low; high = high } })
         whole
     unfolding valueOf
     standing-last q =
-        let is = told last next p (ap (verdictOf (drop at bytes)) q) ∙ last-read (64 - k) n (s .so) in
+        let is = told last next p (ap (verdictOf (drop at bytes)) q) ∙ last-read (linkRoom - k) n (s .so) in
         record {
           number = ap sheetNumber (sym is);
           net = (λ i. record { stations = n; links = sym (s .count) i; low = s .lows i; high = s .highs i }) ∙ ap sheetNet (sym is);
         }
 
     module _ (l h : ℕ) (q : next ≡ Link l h) where
-      pub standing-full : (r : Reading) → 64 ≤ k → r ≡ refusedAs TooManyLinks → Says r whole
+      pub standing-full : (r : Reading) → linkRoom ≤ k → r ≡ refusedAs TooManyLinks → Says r whole
       unfolding readLinks
       standing-full r full g =
-          let z : 64 - k ≡ 0 = omega arith in
+          let z : linkRoom - k ≡ 0 = omega arith in
           let v = link (endsOf l h) (drop 5 (drop at bytes)) in
           let is = told v next p (ap (verdictOf (drop at bytes)) q) ∙ ap (λ (m : ℕ). readLinks m n (s .so) v) z in
           subst (λ (x : Reading). Says x whole) (sym g) (record { number = ap sheetNumber (sym is); net = ap sheetNet (sym is) })
@@ -98,10 +100,10 @@ module _ (whole : Sheet) (n : ℕ) (bytes low high : List ℕ) (a b k at : ℕ) 
             length-drop at bytes,
           )
 
-      pub standing-link : k < 64 → Standing whole n bytes (set low k l) (set high k h) l h (k + 1) (at + 5)
+      pub standing-link : k < linkRoom → Standing whole n bytes (set low k l) (set high k h) l h (k + 1) (at + 5)
       unfolding readLinks
       standing-link f =
-          let z : 64 - k ≡ suc (64 - (k + 1)) = omega arith in
+          let z : linkRoom - k ≡ suc (linkRoom - (k + 1)) = omega arith in
           let v = link (endsOf l h) (drop 5 (drop at bytes)) in
           record {
             so = s .so ++ (endsOf l h ∷ []);
@@ -118,7 +120,7 @@ module _ (whole : Sheet) (n : ℕ) (bytes low high : List ℕ) (a b k at : ℕ) 
                 ∙ ap roomOf (sym (map-append (λ x. x .high) (s .so) (endsOf l h ∷ [])));
             on =
                 told v next p (ap (verdictOf (drop at bytes)) q) ∙ ap (λ (m : ℕ). readLinks m n (s .so) v) z
-                ∙ ap (λ (x : List ℕ). readLinks (64 - (k + 1)) n (s .so ++ (endsOf l h ∷ [])) (judged n (endsOf l h) (firstField x)))
+                ∙ ap (λ (x : List ℕ). readLinks (linkRoom - (k + 1)) n (s .so ++ (endsOf l h ∷ [])) (judged n (endsOf l h) (firstField x)))
                 (drop-drop 5 at bytes);
           }
 

@@ -16,10 +16,11 @@ use Rattle.fields.proofs.Seen.{length-field, length-onto, lent-more}
 use Rattle.net.specs.declared.Net.{Net}
 use Rattle.net.specs.Network.{Ends}
 use Rattle.net.specs.Values.{networkOf}
+use Rattle.net.specs.Sizes.{stationRoom, linkRoom}
 use Rattle.sheet_rules.specs.Values.{netHolds}
 use Rattle.sheet_rules.proofs.Good.{holds-of}
 use Rattle.sheet.specs.declared.Wrote.the-variants.{Bytes, OutputShort, BadNetwork}
-use Rattle.sheet.specs.Sheet.{linkBytes, writeLinks, writeSheet}
+use Rattle.sheet.specs.Sheet.{linkBytes, writeLinks, writeSheet, stationsTag, linkTag, endTag}
 use Rattle.sheet.specs.Values.{writing, wroteNumbers}
 use Rattle.sheet.specs.Steps.{endsOf, firstEnds}
 
@@ -34,7 +35,7 @@ pub links-length : (es : List Ends) → length (writeLinks es) ≡ 5 * length es
 unfolding writeLinks
 links-length [] = refl
 links-length (e ∷ es) =
-    length-append (linkBytes e) (writeLinks es) ∙ omega (arith, length-field 2 (e .low ∷ e .high ∷ []), links-length es)
+    length-append (linkBytes e) (writeLinks es) ∙ omega (arith, length-field linkTag (e .low ∷ e .high ∷ []), links-length es)
 
 module _ (low high : List ℕ) where
   abbrev at : ℕ → Ends
@@ -65,42 +66,39 @@ module _ (low high : List ℕ) where
   links-fit m old h = length-onto (writeLinks (firstEnds low high m)) old (omega (arith, first-length m))
 
 -- ---- the whole sheet
-module _ (net : Net) (r : Bool) (e : r ≡ netHolds net) where
-  pub write-bad : (old : List ℕ) → not r ≡ true → (wroteNumbers BadNetwork ≡ writingNumbers (writing net old)) × (old ≡ writingOutput
-      (writing net old) old)
+module _ (net : Net) where
+  pub write-bad : (r : Bool) → r ≡ netHolds net → (old : List ℕ) → not r ≡ true
+      → (wroteNumbers BadNetwork ≡ writingNumbers (writing net old)) × (old ≡ writingOutput (writing net old) old)
   unfolding writing
-  write-bad old h = let b : netHolds net ≡ false = sym e ∙ not-true r h in (simp b, simp b)
+  write-bad r e old h = let b : netHolds net ≡ false = sym e ∙ not-true r h in (simp b, simp b)
 
-  module _ (h : not r ≡ false) where
-    good : netHolds net ≡ true
-    good = sym e ∙ not-false r h
-
-    pub few-stations : net .stations ≤ 32
+  module _ (good : netHolds net ≡ true) where
+    pub few-stations : net .stations ≤ stationRoom
     few-stations = holds-of net (is-T (netHolds net) good) .few-stations
 
-    pub few-links : net .links ≤ 64
+    pub few-links : net .links ≤ linkRoom
     few-links = holds-of net (is-T (netHolds net) good) .few-links
 
     abbrev front : List ℕ
-    front = writeField 1 (net .stations ∷ [])
+    front = writeField stationsTag (net .stations ∷ [])
 
     abbrev middle : List ℕ
     middle = writeLinks (firstEnds (net .low) (net .high) (net .links))
 
     front-length : length front ≡ 4
-    front-length = length-field 1 (net .stations ∷ [])
+    front-length = length-field stationsTag (net .stations ∷ [])
 
-    sheet-bytes : writeSheet (networkOf net) ≡ front ++ middle ++ writeField 15 []
+    sheet-bytes : writeSheet (networkOf net) ≡ front ++ middle ++ writeField endTag []
     unfolding writeSheet networkOf
     sheet-bytes =
-        let s : min (net .stations) 32 ≡ net .stations = omega (arith, few-stations) in
-        let m : min (net .links) 64 ≡ net .links = omega (arith, few-links) in
-        ap₂ (λ (x y : ℕ). writeField 1 (x ∷ []) ++ writeLinks (firstEnds (net .low) (net .high) y) ++ writeField 15 []) s m
+        let s : min (net .stations) stationRoom ≡ net .stations = omega (arith, few-stations) in
+        let m : min (net .links) linkRoom ≡ net .links = omega (arith, few-links) in
+        ap₂ (λ (x y : ℕ). writeField stationsTag (x ∷ []) ++ writeLinks (firstEnds (net .low) (net .high) y) ++ writeField endTag []) s m
 
     sheet-length : length (writeSheet (networkOf net)) ≡ 4 + 5 * net .links + 3
     sheet-length =
-        ap length sheet-bytes ∙ length-append (front ++ middle) (writeField 15 [])
-        ∙ omega (arith, length-append front middle, front-length, first-length (net .low) (net .high) (net .links), length-field 15 [])
+        ap length sheet-bytes ∙ length-append (front ++ middle) (writeField endTag [])
+        ∙ omega (arith, length-append front middle, front-length, first-length (net .low) (net .high) (net .links), length-field endTag [])
 
     pub write-short : (old : List ℕ) → length old < 4 + 5 * net .links + 3
         → (wroteNumbers OutputShort ≡ writingNumbers (writing net old)) × (old ≡ writingOutput (writing net old) old)
@@ -130,13 +128,13 @@ module _ (net : Net) (r : Bool) (e : r ≡ netHolds net) where
           both-length : length (front ++ middle) ≡ 4 + 5 * net .links
           both-length = length-append front middle ∙ omega (arith, front-length, first-length (net .low) (net .high) (net .links))
 
-          pub write-all : (three last : List ℕ) → last ≡ onto (writeField 15 [])
+          pub write-all : (three last : List ℕ) → last ≡ onto (writeField endTag [])
               (take (length two - (4 + 5 * net .links)) (drop (4 + 5 * net .links) two))
               → three ≡ take (4 + 5 * net .links) two ++ (last ++ drop (length two - (4 + 5 * net .links)) (drop (4 + 5 * net .links) two))
-              → (wroteNumbers (Bytes (4 + 5 * net .links + 3)) ≡ writingNumbers (writing net old)) × (three ≡ writingOutput
-              (writing net old) old)
+              → (wroteNumbers (Bytes (4 + 5 * net .links + 3)) ≡ writingNumbers (writing net old))
+              × (three ≡ writingOutput (writing net old) old)
           write-all three last f w = (
             ap (λ (n : ℕ). 0 ∷ n ∷ []) (sym sheet-length) ∙ ap writingNumbers (sym written),
-            w ∙ lent-more (front ++ middle) (writeField 15 []) old two last (4 + 5 * net .links) two-is both-length f
+            w ∙ lent-more (front ++ middle) (writeField endTag []) old two last (4 + 5 * net .links) two-is both-length f
                 ∙ ap (λ (b : List ℕ). onto b old) (sym sheet-bytes) ∙ ap (λ (x : Writing). writingOutput x old) (sym written),
           )

@@ -17,8 +17,11 @@ use Rattle.net.specs.declared.Net.{Net}
 use Rattle.net.specs.Values.{networkOf}
 use Rattle.sheet_rules.specs.Values.{netHolds}
 use Rattle.net.specs.Network.{Ends, Network}
+use Rattle.net.specs.Sizes.{linkRoom}
 use Rattle.sheet_rules.specs.Rules.{precedes, endsHold, sheetHolds}
-use Rattle.sheet.specs.Sheet.{refused, Opening, faulty, stations, stationsHold, opened, Verdict, wrong, link, last, linkOf, noLink, judged, readLinks, readOpened, readSheet, linkBytes, writeLinks, writeSheet}
+use Rattle.sheet.specs.Sheet.{refused, Opening, faulty, stations, stationsHold, opened, Verdict, wrong, link, last, linkOf, noLink}
+use Rattle.sheet.specs.Sheet.{judged, readLinks, readOpened, readSheet, linkBytes, writeLinks, writeSheet, stationsTag, linkTag}
+use Rattle.sheet.specs.Sheet.{endTag}
 use Rattle.sheet.specs.Values.{writing}
 use Rattle.sheet.proofs.Rising.{rising, risen-of, of-risen}
 use Rattle.sheet.proofs.Judged.{is-stations, is-link, wrong-read, full-read}
@@ -30,27 +33,28 @@ pub data FirstFault : Field → ℕ → Type 0 where
   -- the bytes end inside it
   cut-off : FirstFault short 1
   -- another tag, or another length
-  unfit : {t : ℕ} {v rest : List ℕ} → isField 1 1 t v ≡ false → FirstFault (field t v rest) 2
+  unfit : {t : ℕ} {v rest : List ℕ} → isField stationsTag 1 t v ≡ false → FirstFault (field t v rest) 2
   -- not 1 to 32 stations
-  no-count : {t : ℕ} {v rest : List ℕ} → isField 1 1 t v ≡ true → stationsHold (getD v 0 0) ≡ false → FirstFault (field t v rest) 3
+  no-count : {t : ℕ} {v rest : List ℕ} → isField stationsTag 1 t v ≡ true → stationsHold (getD v 0 0) ≡ false
+      → FirstFault (field t v rest) 3
 
 -- a later field after the link prev, and its fault
 pub data Fault (n : ℕ) (prev : Ends) : Field → ℕ → Type 0 where
   -- the bytes end inside it, or there is none
   cut-short : Fault n prev short 1
   -- neither a link nor the last field with nothing after it
-  misplaced : {t : ℕ} {v rest : List ℕ} → isField 2 2 t v ≡ false → (isField 15 0 t v && isEmpty rest) ≡ false
+  misplaced : {t : ℕ} {v rest : List ℕ} → isField linkTag 2 t v ≡ false → (isField endTag 0 t v && isEmpty rest) ≡ false
       → Fault n prev (field t v rest) 2
   -- an end that is no station, ends equal or higher first
-  no-ends : {t : ℕ} {v rest : List ℕ} → isField 2 2 t v ≡ true → endsHold n (linkOf v) ≡ false → Fault n prev (field t v rest) 3
+  no-ends : {t : ℕ} {v rest : List ℕ} → isField linkTag 2 t v ≡ true → endsHold n (linkOf v) ≡ false → Fault n prev (field t v rest) 3
   -- equal to or before the link before it
-  no-order : {t : ℕ} {v rest : List ℕ} → isField 2 2 t v ≡ true → endsHold n (linkOf v) ≡ true → precedes prev (linkOf v) ≡ false
+  no-order : {t : ℕ} {v rest : List ℕ} → isField linkTag 2 t v ≡ true → endsHold n (linkOf v) ≡ true → precedes prev (linkOf v) ≡ false
       → Fault n prev (field t v rest) 4
 
 -- a good beginning: the first field and the links of a network that keeps the rules, and then the rest
 pub record Begun (bytes : List ℕ) (net : Network) (rest : List ℕ) : Type 0 where
   pub holds : T (sheetHolds net)
-  pub front : bytes ≡ writeField 1 (net .stations ∷ []) ++ writeLinks (net .links) ++ rest
+  pub front : bytes ≡ writeField stationsTag (net .stations ∷ []) ++ writeLinks (net .links) ++ rest
 
 abbrev before : Network → Ends
 before net = lastOf noLink (net .links)
@@ -60,7 +64,7 @@ pub data Refused (bytes : List ℕ) : ℕ → Type 0 where
   later : {k : ℕ} (net : Network) (rest : List ℕ) → Begun bytes net rest → Fault (net .stations) (before net) (firstField rest) k
       → Refused bytes k
   -- a 65th link
-  full : (net : Network) (rest : List ℕ) (e : Ends) (more : List ℕ) → Begun bytes net rest → length (net .links) ≡ 64
+  full : (net : Network) (rest : List ℕ) (e : Ends) (more : List ℕ) → Begun bytes net rest → length (net .links) ≡ linkRoom
       → judged (net .stations) (before net) (firstField rest) ≡ link e more → Refused bytes 5
 
 -- ---- one field
@@ -70,9 +74,9 @@ opened-only short k e = subst (FirstFault short) (number e) cut-off
   where
     number : faulty 1 ≡ faulty k → 1 ≡ k
     number p = cc
-opened-only (field t v rest) k e = go (isField 1 1 t v) (stationsHold (getD v 0 0)) refl refl e
+opened-only (field t v rest) k e = go (isField stationsTag 1 t v) (stationsHold (getD v 0 0)) refl refl e
   where
-    go : (a b : Bool) → isField 1 1 t v ≡ a → stationsHold (getD v 0 0) ≡ b
+    go : (a b : Bool) → isField stationsTag 1 t v ≡ a → stationsHold (getD v 0 0) ≡ b
         → (if not a then faulty 2 else (if not b then faulty 3 else stations (getD v 0 0) rest)) ≡ faulty k → FirstFault (field t v rest) k
     go false b p q e = let n : 2 ≡ k = cc in subst (FirstFault (field t v rest)) n (unfit p)
     go true false p q e = let n : 3 ≡ k = cc in subst (FirstFault (field t v rest)) n (no-count p q)
@@ -89,10 +93,11 @@ module _ (n : ℕ) (prev : Ends) where
   unfolding judged
   judged-only short k e = let m : 1 ≡ k = cc in subst (Fault n prev short) m cut-short
   judged-only (field t v rest) k e =
-      go (isField 2 2 t v) (endsHold n (linkOf v)) (precedes prev (linkOf v)) (isField 15 0 t v && isEmpty rest) refl refl refl refl e
+      go (isField linkTag 2 t v) (endsHold n (linkOf v)) (precedes prev (linkOf v)) (isField endTag 0 t v && isEmpty rest) refl refl
+      refl refl e
     where
-      go : (a b c d : Bool) → isField 2 2 t v ≡ a → endsHold n (linkOf v) ≡ b → precedes prev (linkOf v) ≡ c
-          → (isField 15 0 t v && isEmpty rest) ≡ d
+      go : (a b c d : Bool) → isField linkTag 2 t v ≡ a → endsHold n (linkOf v) ≡ b → precedes prev (linkOf v) ≡ c
+          → (isField endTag 0 t v && isEmpty rest) ≡ d
           → (if a then (if not b then wrong 3 else (if not c then wrong 4 else link (linkOf v) rest))
           else (if d then last else wrong 2)) ≡ wrong k → Fault n prev (field t v rest) k
       go true false c d p q r s e = let m : 3 ≡ k = cc in subst (Fault n prev (field t v rest)) m (no-ends p q)
@@ -125,7 +130,8 @@ unfolding writeLinks
 stopped-wrong room n prev so bytes j k p q =
     let e = wrong-read room n so j in
     let m : j ≡ k = cc in
-    record { es = []; rest = bytes; order = tt; few = omega arith; front = refl; why = inl (judged-only n prev (firstField bytes) k (p ∙ ap wrong m)) }
+    let why = judged-only n prev (firstField bytes) k (p ∙ ap wrong m) in
+    record { es = []; rest = bytes; order = tt; few = omega arith; front = refl; why = inl why }
 
 stopped-link : (room n : ℕ) (prev : Ends) (bytes : List ℕ) (k : ℕ) (x : Ends) (rest : List ℕ) → T (areBytes bytes)
     → judged n prev (firstField bytes) ≡ link x rest → Stopped room n x rest k → Stopped (suc room) n prev bytes k
@@ -175,14 +181,14 @@ refused-only bytes k t e = go (opened (firstField bytes)) refl e
     go (faulty j) p q = let m : j ≡ k = cc in at-first (opened-only (firstField bytes) k (p ∙ ap faulty m))
     go (stations n rest) p q =
         let f = stations-written bytes n rest t p in
-        let s = stopped 64 n noLink [] rest k (rest-bytes bytes (writeField 1 (n ∷ [])) rest t f) q in
+        let s = stopped linkRoom n noLink [] rest k (rest-bytes bytes (writeField stationsTag (n ∷ [])) rest t f) q in
         let w = is-stations (firstField bytes) n rest p in
         let net : Network = record { stations = n; links = s .es } in
         let b : Begun bytes net (s .rest) = record {
           holds = of-risen net (record { count = w .good; few = s .few; order = s .order });
           front =
-              f ∙ ap (λ (l : List ℕ). writeField 1 (n ∷ []) ++ l) (s .front)
-              ∙ sym (append-assoc (writeField 1 (n ∷ [])) (writeLinks (s .es)) (s .rest));
+              f ∙ ap (λ (l : List ℕ). writeField stationsTag (n ∷ []) ++ l) (s .front)
+              ∙ sym (append-assoc (writeField stationsTag (n ∷ [])) (writeLinks (s .es)) (s .rest));
         } in
         ⊎-elim (λ y. later net (s .rest) b y)
         (λ y. subst⁻¹ (Refused bytes) (y .0) (full net (s .rest) (y .2 .0) (y .2 .1 .0) b (y .1) (y .2 .1 .1))) (s .why)
@@ -193,11 +199,11 @@ unfolding readSheet
 refused-when bytes k (at-first f) = ap readOpened (opened-when (firstField bytes) k f)
 refused-when bytes k (later net rest b f) =
     ap readSheet (b .front) ∙ reads-on net rest (risen-of net (b .holds))
-    ∙ ap (readLinks (64 - length (net .links)) (net .stations) (net .links))
+    ∙ ap (readLinks (linkRoom - length (net .links)) (net .stations) (net .links))
     (judged-when (net .stations) (before net) (firstField rest) k f)
-    ∙ wrong-read (64 - length (net .links)) (net .stations) (net .links) k
+    ∙ wrong-read (linkRoom - length (net .links)) (net .stations) (net .links) k
 refused-when bytes k (full net rest e more b l p) =
-    let z : 64 - length (net .links) ≡ 0 = omega arith in
+    let z : linkRoom - length (net .links) ≡ 0 = omega arith in
     ap readSheet (b .front) ∙ reads-on net rest (risen-of net (b .holds))
     ∙ ap₂ (λ (m : ℕ) (v : Verdict). readLinks m (net .stations) (net .links) v) z p ∙ full-read (net .stations) (net .links) e more
 

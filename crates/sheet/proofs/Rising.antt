@@ -8,6 +8,7 @@ use lib.Dec.{T, leb, ltb, lt→ltb, leb→le, le→leb}
 use lib.ListN.{length, getD}
 use Rattle.lists.proofs.Tests.{and-l, and-r, and-i, or-left}
 use Rattle.net.specs.Network.{Ends, Network, ends}
+use Rattle.net.specs.Sizes.{stationRoom, linkRoom}
 use Rattle.sheet_rules.specs.Rules.{precedes, endsHold, sheetHolds}
 use Rattle.sheet_rules.proofs.Rules.{lower-first, Rules, rules-of, of-rules}
 use Rattle.sheet.specs.Sheet.{stationsHold, noLink}
@@ -43,7 +44,7 @@ module _ (n : ℕ) where
 -- the sheet rules, by the parts that a reader of bytes meets
 pub record Risen (net : Network) : Type 0 where
   pub count : T (stationsHold (net .stations))
-  pub few : length (net .links) ≤ 64
+  pub few : length (net .links) ≤ linkRoom
   pub order : T (rising (net .stations) noLink (net .links))
 
 module _ (net : Network) where
@@ -53,7 +54,7 @@ module _ (net : Network) where
   pub risen-of : T (sheetHolds net) → Risen net
   risen-of t =
       record {
-        count = and-i (leb 1 stations) _ (le→leb 1 stations (r .some-stations)) (le→leb stations 32 (r .few-stations));
+        count = and-i (leb 1 stations) _ (le→leb 1 stations (r .some-stations)) (le→leb stations stationRoom (r .few-stations));
         few = r .few-links;
         order = at-rising stations noLink (net .links) one;
       }
@@ -70,7 +71,7 @@ module _ (net : Network) where
       let at = rising-at stations noLink (net .links) (r .order) in
       of-rules net (record {
         some-stations = leb→le 1 stations (and-l (leb 1 stations) _ (r .count));
-        few-stations = leb→le stations 32 (and-r (leb 1 stations) _ (r .count));
+        few-stations = leb→le stations stationRoom (and-r (leb 1 stations) _ (r .count));
         few-links = r .few;
         good-ends = λ k h. at k h .0;
         in-order = λ k h. at (suc k) h .1;

@@ -12,11 +12,13 @@ use Rattle.lists.proofs.Tests.{and-no}
 use Rattle.fields.specs.Fields.{short, firstField, isEmpty}
 use Rattle.fields.proofs.Seen.{Seen, value-at}
 use Rattle.net.specs.Network.{Ends}
+use Rattle.net.specs.Sizes.{stationRoom, linkRoom}
 use Rattle.sheet_rules.specs.Rules.{precedes, endsHold}
 use Rattle.sheet.specs.declared.Answer.the-variants.{OutOfRange, OutOfOrder}
 use Rattle.sheet.specs.declared.Next.{Next}
 use Rattle.sheet.specs.declared.Next.the-variants.{Wrong, Link}
-use Rattle.sheet.specs.Sheet.{Opening, faulty, stations, stationsHold, opened, Verdict, wrong, link, last, linkOf, judged}
+use Rattle.sheet.specs.Sheet.{Opening, faulty, stations, stationsHold, opened, Verdict, wrong}
+use Rattle.sheet.specs.Sheet.{link, last, linkOf, judged, stationsTag, linkTag, endTag}
 use Rattle.sheet.specs.Values.{roomOf}
 use Rattle.sheet.specs.Steps.{endsOf, linkVerdict, verdictOf}
 
@@ -32,35 +34,37 @@ module _ (bytes : List ℕ) where
 
     abbrev openedAs : ℕ → ℕ → Opening
     openedAs n y =
-        if not (eqb tag 1 && eqb n 1) then faulty 2 else (if not (stationsHold y) then faulty 3 else stations y (drop (3 + n) bytes))
+        if not (eqb tag stationsTag && eqb n 1) then faulty 2
+        else (if not (stationsHold y) then faulty 3 else stations y (drop (3 + n) bytes))
 
     seen : opened (firstField bytes) ≡ openedAs n x
     unfolding opened x
     seen =
-        ap opened (s .cut) ∙ ap (λ (m : ℕ). if not (eqb tag 1 && eqb m 1) then faulty 2
+        ap opened (s .cut) ∙ ap (λ (m : ℕ). if not (eqb tag stationsTag && eqb m 1) then faulty 2
         else (if not (stationsHold x) then faulty 3 else stations x (drop (3 + n) bytes))) (s .size)
 
-    pub opened-tag : (tag ≡ 1 → ⊥) → faulty 2 ≡ opened (firstField bytes)
-    opened-tag h = sym (seen ∙ simp (ne-eqb tag 1 h))
+    pub opened-tag : (tag ≡ stationsTag → ⊥) → faulty 2 ≡ opened (firstField bytes)
+    opened-tag h = sym (seen ∙ simp (ne-eqb tag stationsTag h))
 
     pub opened-length : (n ≡ 1 → ⊥) → faulty 2 ≡ opened (firstField bytes)
     opened-length h = sym (seen ∙ simp (ne-eqb n 1 h, and-no))
 
-    module _ (t : tag ≡ 1) (e : n ≡ 1) where
+    module _ (t : tag ≡ stationsTag) (e : n ≡ 1) where
       one : opened (firstField bytes) ≡ (if not (stationsHold (getD bytes 3 0)) then faulty 3 else stations (getD bytes 3 0) (drop 4 bytes))
       unfolding x
       one =
           seen ∙ ap (openedAs n) (value-at bytes n 0 (omega arith)) ∙ ap (λ (m : ℕ). openedAs m (getD bytes 3 0)) e
-          ∙ simp (eq-eqb tag 1 t)
+          ∙ simp (eq-eqb tag stationsTag t)
 
       pub opened-few : getD bytes 3 0 < 1 → faulty 3 ≡ opened (firstField bytes)
       opened-few h = sym (one ∙ simp (lt-leb 1 (getD bytes 3 0) h))
 
-      pub opened-many : 32 < getD bytes 3 0 → faulty 3 ≡ opened (firstField bytes)
-      opened-many h = sym (one ∙ simp (lt-leb (getD bytes 3 0) 32 h, and-no))
+      pub opened-many : stationRoom < getD bytes 3 0 → faulty 3 ≡ opened (firstField bytes)
+      opened-many h = sym (one ∙ simp (lt-leb (getD bytes 3 0) stationRoom h, and-no))
 
-      pub opened-good : 1 ≤ getD bytes 3 0 → getD bytes 3 0 ≤ 32 → stations (getD bytes 3 0) (drop 4 bytes) ≡ opened (firstField bytes)
-      opened-good l h = sym (one ∙ simp (le-leb 1 (getD bytes 3 0) l, le-leb (getD bytes 3 0) 32 h))
+      pub opened-good : 1 ≤ getD bytes 3 0 → getD bytes 3 0 ≤ stationRoom
+          → stations (getD bytes 3 0) (drop 4 bytes) ≡ opened (firstField bytes)
+      opened-good l h = sym (one ∙ simp (le-leb 1 (getD bytes 3 0) l, le-leb (getD bytes 3 0) stationRoom h))
 
 -- ---- a link's ends
 module _ (n a b low high : ℕ) where
@@ -104,18 +108,19 @@ module _ (bytes : List ℕ) (n a b : ℕ) where
 
     abbrev judgedAs : ℕ → Verdict
     judgedAs k =
-        if eqb tag 2 && eqb k 2 then (if not (endsHold n ends) then wrong 3
+        if eqb tag linkTag && eqb k 2 then (if not (endsHold n ends) then wrong 3
         else (if not (precedes (endsOf a b) ends) then wrong 4 else link ends (drop (3 + m) bytes)))
-        else (if eqb tag 15 && eqb k 0 && isEmpty (drop (3 + m) bytes) then last else wrong 2)
+        else (if eqb tag endTag && eqb k 0 && isEmpty (drop (3 + m) bytes) then last else wrong 2)
 
     seen-later : want ≡ judgedAs m
     unfolding judged
     seen-later = ap (judged n (endsOf a b)) (s .cut) ∙ ap judgedAs (s .size)
 
-    pub judged-size : tag ≡ 2 → (m ≡ 2 → ⊥) → wrong 2 ≡ want
-    judged-size t h = let t′ : tag ≡ 15 → ⊥ = λ u. omega arith in sym (seen-later ∙ simp (ne-eqb m 2 h, and-no, ne-eqb tag 15 t′))
+    pub judged-size : tag ≡ linkTag → (m ≡ 2 → ⊥) → wrong 2 ≡ want
+    judged-size t h = let t′ : tag ≡ endTag → ⊥ = λ u. omega arith in sym (seen-later ∙ simp (ne-eqb m 2 h, and-no, ne-eqb tag endTag t′))
 
-    pub judged-link : (r : Next) → tag ≡ 2 → m ≡ 2 → r ≡ linkVerdict n a b (getD bytes 3 0) (getD bytes 4 0) → verdictOf bytes r ≡ want
+    pub judged-link : (r : Next) → tag ≡ linkTag → m ≡ 2 → r ≡ linkVerdict n a b (getD bytes 3 0) (getD bytes 4 0)
+        → verdictOf bytes r ≡ want
     unfolding linkVerdict
     judged-link r t e p = ap (verdictOf bytes) p ∙ sym (seen-later ∙ two)
       where
@@ -131,7 +136,7 @@ module _ (bytes : List ℕ) (n a b : ℕ) where
 
         two : judgedAs m ≡ verdictOf bytes (linkVerdict n a b (getD bytes 3 0) (getD bytes 4 0))
         two =
-            simp (eq-eqb tag 2 t, eq-eqb m 2 e)
+            simp (eq-eqb tag linkTag t, eq-eqb m 2 e)
             (ap (λ (z : Ends). if not (endsHold n z) then wrong 3
             else (if not (precedes (endsOf a b) z) then wrong 4 else link z (drop (3 + m) bytes))) same
             ∙ ap (λ (k : ℕ). if not (endsHold n (endsOf (getD bytes 3 0) (getD bytes 4 0))) then wrong 3
@@ -140,17 +145,17 @@ module _ (bytes : List ℕ) (n a b : ℕ) where
             ∙ sym (lift (not (endsHold n (endsOf (getD bytes 3 0) (getD bytes 4 0))))
             (not (precedes (endsOf a b) (endsOf (getD bytes 3 0) (getD bytes 4 0))))))
 
-    module _ (t : tag ≡ 2 → ⊥) where
-      pub judged-tag : (tag ≡ 15 → ⊥) → wrong 2 ≡ want
-      judged-tag h = sym (seen-later ∙ simp (ne-eqb tag 2 t, ne-eqb tag 15 h))
+    module _ (t : tag ≡ linkTag → ⊥) where
+      pub judged-tag : (tag ≡ endTag → ⊥) → wrong 2 ≡ want
+      judged-tag h = sym (seen-later ∙ simp (ne-eqb tag linkTag t, ne-eqb tag endTag h))
 
       pub judged-length : (m ≡ 0 → ⊥) → wrong 2 ≡ want
-      judged-length h = sym (seen-later ∙ simp (ne-eqb tag 2 t, ne-eqb m 0 h, and-no))
+      judged-length h = sym (seen-later ∙ simp (ne-eqb tag linkTag t, ne-eqb m 0 h, and-no))
 
-      module _ (u : tag ≡ 15) (e : m ≡ 0) where
+      module _ (u : tag ≡ endTag) (e : m ≡ 0) where
         end : want ≡ (if isEmpty (drop 3 bytes) then last else wrong 2)
         end =
-            seen-later ∙ simp (ne-eqb tag 2 t, eq-eqb tag 15 u, eq-eqb m 0 e)
+            seen-later ∙ simp (ne-eqb tag linkTag t, eq-eqb tag endTag u, eq-eqb m 0 e)
             (ap (λ (k : ℕ). if isEmpty (drop (3 + k) bytes) then last else wrong 2) e)
 
         pub judged-more : (length bytes ≡ 3 → ⊥) → wrong 2 ≡ want
@@ -166,6 +171,6 @@ module _ (bytes : List ℕ) (n a b : ℕ) where
         judged-last h = sym (end ∙ ap (λ (l : List ℕ). if isEmpty l then last else wrong 2) (drop-of-length-le bytes {i = 3} (omega arith)))
 
 -- ---- the room of 64 places
-pub zeros-room : replicate 64 0 ≡ roomOf []
+pub zeros-room : replicate linkRoom 0 ≡ roomOf []
 unfolding roomOf
 zeros-room = refl

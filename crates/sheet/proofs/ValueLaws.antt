@@ -15,6 +15,7 @@ use Rattle.net.specs.declared.Net.{Net}
 use Rattle.net.specs.Network.{Ends, Network}
 use Rattle.sheet_rules.specs.Rules.{sheetHolds}
 use Rattle.net.specs.Values.{networkOf, placeEnds, linkCount, isZero}
+use Rattle.net.specs.Sizes.{stationRoom, linkRoom}
 use Rattle.sheet_rules.specs.Values.{netHolds}
 use Rattle.sheet_rules.proofs.Rules.{Rules, rules-of}
 use Rattle.sheet_rules.proofs.Good.{of-holds, sheet-good, one-value}
@@ -31,7 +32,7 @@ use Rattle.sheet.proofs.Laws.{reads-back, read-holds}
 -- ---- a room
 room-at : (xs : List ℕ) (k : ℕ) → k < length xs → getD (roomOf xs) k 0 ≡ getD xs k 0
 unfolding roomOf
-room-at xs k h = List·getD-append xs (replicate (64 - length xs) 0) 0 k h
+room-at xs k h = List·getD-append xs (replicate (linkRoom - length xs) 0) 0 k h
 
 zeros-hold : (n : ℕ) → T (every isZero (replicate n 0))
 zeros-hold n =
@@ -41,12 +42,12 @@ zeros-hold n =
 room-tail : (xs : List ℕ) (m : ℕ) → length xs ≡ m → T (every isZero (drop m (roomOf xs)))
 unfolding roomOf
 room-tail xs m e =
-    subst⁻¹ (λ (l : List ℕ). T (every isZero l)) (drop-at xs (replicate (64 - length xs) 0) m e) (zeros-hold (64 - length xs))
+    subst⁻¹ (λ (l : List ℕ). T (every isZero l)) (drop-at xs (replicate (linkRoom - length xs) 0) m e) (zeros-hold (linkRoom - length xs))
 
 -- it has 64 places
-room-long : (xs : List ℕ) → length xs ≤ 64 → length (roomOf xs) ≡ 64
+room-long : (xs : List ℕ) → length xs ≤ linkRoom → length (roomOf xs) ≡ linkRoom
 unfolding roomOf
-room-long xs h = length-append xs (replicate (64 - length xs) 0) ∙ omega (arith, length-replicate {A = ℕ} (64 - length xs) 0)
+room-long xs h = length-append xs (replicate (linkRoom - length xs) 0) ∙ omega (arith, length-replicate {A = ℕ} (linkRoom - length xs) 0)
 
 -- ---- from a network to its value and back
 module _ (net : Network) (t : T (sheetHolds net)) where
@@ -59,8 +60,8 @@ module _ (net : Network) (t : T (sheetHolds net)) where
   pub value-means : networkOf (valueOf net) ≡ net
   unfolding networkOf valueOf m
   value-means =
-      let s : min (net .stations) 32 ≡ net .stations = omega (arith, rules .few-stations) in
-      let c : min m 64 ≡ m = omega (arith, rules .few-links) in
+      let s : min (net .stations) stationRoom ≡ net .stations = omega (arith, rules .few-stations) in
+      let c : min m linkRoom ≡ m = omega (arith, rules .few-links) in
       (λ i. record { stations = s i; links = map (placeEnds (valueOf net)) (below (c i)) })
       ∙ ap (λ (l : List Ends). record { stations = net .stations; links = l })
       (ext-getD noLink (map (placeEnds (valueOf net)) (below m)) (net .links) (length-map-below (placeEnds (valueOf net)) m)
@@ -78,7 +79,7 @@ module _ (net : Network) (t : T (sheetHolds net)) where
   pub value-holds : T (netHolds (valueOf net))
   unfolding valueOf
   value-holds =
-      let c : length (net .links) ≡ min (length (net .links)) 64 = omega (arith, rules .few-links) in
+      let c : length (net .links) ≡ min (length (net .links)) linkRoom = omega (arith, rules .few-links) in
       of-holds (valueOf net) (record {
         few-stations = rules .few-stations;
         few-links = rules .few-links;
@@ -88,16 +89,16 @@ module _ (net : Network) (t : T (sheetHolds net)) where
       })
 
   -- the value has its room of 64 links
-  pub low-long : length (valueOf net .low) ≡ 64
+  pub low-long : length (valueOf net .low) ≡ linkRoom
   unfolding valueOf
   low-long = room-long (map (λ e. e .low) (net .links)) (omega (arith, rules .few-links, length-map (net .links) (λ e. e .low)))
 
-  pub high-long : length (valueOf net .high) ≡ 64
+  pub high-long : length (valueOf net .high) ≡ linkRoom
   unfolding valueOf
   high-long = room-long (map (λ e. e .high) (net .links)) (omega (arith, rules .few-links, length-map (net .links) (λ e. e .high)))
 
 -- ---- from a good value to its network and back
-pub value-back : (v : Net) → T (netHolds v) → length (v .low) ≡ 64 → length (v .high) ≡ 64 → valueOf (networkOf v) ≡ v
+pub value-back : (v : Net) → T (netHolds v) → length (v .low) ≡ linkRoom → length (v .high) ≡ linkRoom → valueOf (networkOf v) ≡ v
 value-back v t ll lh =
     let n = networkOf v in
     let good = sheet-good v t in
@@ -142,7 +143,7 @@ read-value r bytes net a e =
     (ap networkOf v ∙ value-means net t, subst⁻¹ (λ (x : Net). T (netHolds x)) v (value-holds net t))
 
 -- reading what was written for a good value gives that very value
-pub value-read : (r : Reading) (v : Net) → T (netHolds v) → length (v .low) ≡ 64 → length (v .high) ≡ 64
+pub value-read : (r : Reading) (v : Net) → T (netHolds v) → length (v .low) ≡ linkRoom → length (v .high) ≡ linkRoom
     → Says r (readSheet (writeSheet (networkOf v))) → (r .answer ≡ Good) × (r .net ≡ v)
 value-read r v t ll lh a =
     let e = reads-back (networkOf v) (sheet-good v t) in

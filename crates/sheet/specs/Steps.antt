@@ -6,6 +6,7 @@ use lib.ListN.{getD, drop}
 use Rattle.lists.specs.Lists.{if_then_else_, below}
 use Rattle.fields.specs.Fields.{firstField}
 use Rattle.net.specs.Network.{Ends}
+use Rattle.net.specs.Sizes.{linkRoom}
 use Rattle.sheet_rules.specs.Rules.{precedes, endsHold}
 use Rattle.sheet.specs.declared.Answer.{Answer}
 use Rattle.sheet.specs.declared.Answer.the-variants.{OutOfRange, OutOfOrder}
@@ -43,7 +44,7 @@ verdictOf bytes Last = last
 
 -- a sheet of n stations, from its second field on
 unfoldable pub linksOf : ℕ → List ℕ → Sheet
-linksOf n bytes = readLinks 64 n [] (judged n noLink (firstField (drop 4 bytes)))
+linksOf n bytes = readLinks linkRoom n [] (judged n noLink (firstField (drop 4 bytes)))
 
 -- the first m links of two rooms of ends
 abbrev pub firstEnds : List ℕ → List ℕ → ℕ → List Ends

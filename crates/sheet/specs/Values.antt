@@ -9,6 +9,7 @@ use Rattle.fields.specs.Output.{Writing, denied, fitting}
 use Rattle.net.specs.declared.Net.{Net}
 use Rattle.net.specs.Network.{Network}
 use Rattle.net.specs.Values.{networkOf}
+use Rattle.net.specs.Sizes.{linkRoom}
 use Rattle.sheet_rules.specs.Values.{netHolds}
 use Rattle.sheet.specs.declared.Answer.{Answer}
 use Rattle.sheet.specs.declared.Answer.the-variants.{Good, Short, Malformed, OutOfRange, OutOfOrder, TooManyLinks}
@@ -34,12 +35,17 @@ sheetNumber (sheet net) = 0
 
 -- a room of 64 places, of which those that are not used are zero
 unfoldable pub roomOf : List ℕ → List ℕ
-roomOf xs = xs ++ replicate (64 - length xs) 0
+roomOf xs = xs ++ replicate (linkRoom - length xs) 0
 
 -- the value of a network
 unfoldable pub valueOf : Network → Net
 valueOf net =
-    record { stations = net .stations; links = length (net .links); low = roomOf (map (λ e. e .low) (net .links)); high = roomOf (map (λ e. e .high) (net .links)) }
+    record {
+      stations = net .stations;
+      links = length (net .links);
+      low = roomOf (map (λ e. e .low) (net .links));
+      high = roomOf (map (λ e. e .high) (net .links));
+    }
 
 -- the value that stands beside a refusal: zero throughout
 abbrev pub zeroNet : Net

@@ -3,12 +3,16 @@ ghost use mathlib.Core.Path.{_≡_};
 ghost use mathlib.Core.List.{[], _∷_};
 ghost use Prim.Native.Nat.{_≤_, _*_};
 ghost use lib.ListN.{length};
+ghost use Rattle.net.specs.Sizes.{linkRoom};
 ghost use Rattle.fields.specs.Fields.{firstField, writeField, onto};
-ghost use Rattle.sheet.specs.Sheet.{opened, judged, readSheet, linkBytes, writeLinks};
+ghost use Rattle.sheet.specs.Sheet.{stationsTag, endTag, opened, judged, readSheet, linkBytes, writeLinks};
 ghost use Rattle.sheet.specs.Values.{roomOf, Says, writing, wroteNumbers};
 ghost use Rattle.sheet.specs.Steps.{refusedAs, openingOf, endsOf, linkVerdict, verdictOf, linksOf, firstEnds};
 ghost use Rattle.fields.specs.Output.{writingNumbers, writingOutput};
 use fields::Cut;
+use net::LINK_ROOM;
+use net::MOST_LINKS;
+use net::MOST_STATIONS;
 use net::Net;
 
 // document 01's tags
@@ -59,11 +63,11 @@ enum Next {
     Last,
 }
 
-// A room of 64 places that is not used.
-fn zeros() -> [u8; 64]
+// A room of links that is not used.
+fn zeros() -> [u8; LINK_ROOM]
     ensures { λ r. ⌜ r ≡ roomOf [] ⌝ }
 {
-    [0u8; 64]
+    [0u8; LINK_ROOM]
 }
 
 // The answer to a refused sheet, with no network beside it.
@@ -100,7 +104,7 @@ fn first_field(bytes: &[u8]) -> First
     if n < 1 {
         return First::Faulty(Answer::OutOfRange);
     }
-    if 32 < n {
+    if MOST_STATIONS < n {
         return First::Faulty(Answer::OutOfRange);
     }
     First::Stations(n)
@@ -181,7 +185,7 @@ fn read_links(bytes: &[u8], n: u8) -> Reading
                 };
             }
             Next::Link(l, h) => {
-                if 64 <= k {
+                if MOST_LINKS <= k {
                     return refusal(Answer::TooManyLinks);
                 }
                 let i = k as usize;
@@ -212,7 +216,7 @@ pub fn read(bytes: &[u8]) -> Reading
 // The fields that are written, each at the front of what is left of the output.
 fn put_stations(out: &mut [u8], n: u8)
     requires { ⌜ 4 ≤ length (now out) ⌝ }
-    ensures { λ r. ⌜ now (out .exit) ≡ onto (writeField 1 (n ∷ [])) (now (out .entry)) ⌝ }
+    ensures { λ r. ⌜ now (out .exit) ≡ onto (writeField stationsTag (n ∷ [])) (now (out .entry)) ⌝ }
 {
     let value = [n];
     fields::put(out, STATIONS, &value);
@@ -228,13 +232,13 @@ fn put_link(out: &mut [u8], low: u8, high: u8)
 
 fn put_last(out: &mut [u8])
     requires { ⌜ 3 ≤ length (now out) ⌝ }
-    ensures { λ r. ⌜ now (out .exit) ≡ onto (writeField 15 []) (now (out .entry)) ⌝ }
+    ensures { λ r. ⌜ now (out .exit) ≡ onto (writeField endTag []) (now (out .entry)) ⌝ }
 {
     fields::put(out, END, b"");
 }
 
-fn put_links(out: &mut [u8], low: [u8; 64], high: [u8; 64], m: usize)
-    requires { ⌜ (m ≤ 64) × (5 * m ≤ length (now out)) ⌝ }
+fn put_links(out: &mut [u8], low: [u8; LINK_ROOM], high: [u8; LINK_ROOM], m: usize)
+    requires { ⌜ (m ≤ linkRoom) × (5 * m ≤ length (now out)) ⌝ }
     ensures { λ r. ⌜ now (out .exit) ≡ onto (writeLinks (firstEnds low high m)) (now (out .entry)) ⌝ }
 {
     for i in 0..m {

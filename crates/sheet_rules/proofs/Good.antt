@@ -16,14 +16,15 @@ use Rattle.net.specs.declared.Body.{Body}
 use Rattle.net.specs.Network.{Ends, Network, ends}
 use Rattle.net.specs.Letters.{bodyHolds}
 use Rattle.net.specs.Values.{networkOf, placeEnds, linkCount, isZero, bodyTest}
+use Rattle.net.specs.Sizes.{stationRoom, linkRoom}
 use Rattle.net.proofs.ValueLaws.{stations-of, links-of, ends-of}
 use Rattle.net.proofs.Bodies.{body-is}
 use Rattle.sheet_rules.specs.Rules.{sheetHolds}
 use Rattle.sheet_rules.specs.Values.{netHolds}
 
 pub record Holds (net : Net) : Type 0 where
-  pub few-stations : net .stations ≤ 32
-  pub few-links : net .links ≤ 64
+  pub few-stations : net .stations ≤ stationRoom
+  pub few-links : net .links ≤ linkRoom
   pub sheet : T (sheetHolds (networkOf net))
   -- the unused room
   pub low-zero : T (every isZero (drop (linkCount net) (net .low)))
@@ -33,16 +34,16 @@ module _ (net : Net) where
   pub holds-of : T (netHolds net) → Holds net
   unfolding netHolds
   holds-of t =
-      let few = leb (net .stations) 32 in
-      let sizes = few && leb (net .links) 64 in
+      let few = leb (net .stations) stationRoom in
+      let sizes = few && leb (net .links) linkRoom in
       let sheet = sheetHolds (networkOf net) in
       let lows = every isZero (drop (linkCount net) (net .low)) in
       let c = and-l (sizes && sheet && lows) _ t in
       let b = and-l (sizes && sheet) _ c in
       let a = and-l sizes _ b in
       record {
-        few-stations = leb→le (net .stations) 32 (and-l few _ a);
-        few-links = leb→le (net .links) 64 (and-r few _ a);
+        few-stations = leb→le (net .stations) stationRoom (and-l few _ a);
+        few-links = leb→le (net .links) linkRoom (and-r few _ a);
         sheet = and-r sizes _ b;
         low-zero = and-r (sizes && sheet) _ c;
         high-zero = and-r (sizes && sheet && lows) _ t;
@@ -51,20 +52,20 @@ module _ (net : Net) where
   pub of-holds : Holds net → T (netHolds net)
   unfolding netHolds
   of-holds h =
-      let few = leb (net .stations) 32 in
-      let sizes = few && leb (net .links) 64 in
+      let few = leb (net .stations) stationRoom in
+      let sizes = few && leb (net .links) linkRoom in
       let sheet = sheetHolds (networkOf net) in
       let lows = every isZero (drop (linkCount net) (net .low)) in
       and-i (sizes && sheet && lows) _
-      (and-i (sizes && sheet) _ (and-i sizes _ (and-i few _ (le→leb (net .stations) 32 (h .few-stations))
-      (le→leb (net .links) 64 (h .few-links))) (h .sheet)) (h .low-zero))
+      (and-i (sizes && sheet) _ (and-i sizes _ (and-i few _ (le→leb (net .stations) stationRoom (h .few-stations))
+      (le→leb (net .links) linkRoom (h .few-links))) (h .sheet)) (h .low-zero))
       (h .high-zero)
 
 module _ (net : Net) (t : T (netHolds net)) where
-  pub few-places : net .links ≤ 64
+  pub few-places : net .links ≤ linkRoom
   few-places = holds-of net t .few-links
 
-  pub few-stations : net .stations ≤ 32
+  pub few-stations : net .stations ≤ stationRoom
   few-stations = holds-of net t .few-stations
 
   pub sheet-good : T (sheetHolds (networkOf net))

@@ -8,6 +8,7 @@ use lib.ListN.{length}
 use Rattle.lists.proofs.Tests.{and-l, and-r, and-i}
 use Rattle.lists.proofs.Numbers.{below-at, at-below}
 use Rattle.net.specs.Network.{Ends, Network, ends}
+use Rattle.net.specs.Sizes.{stationRoom, linkRoom}
 use Rattle.sheet_rules.specs.Rules.{precedes, endsHold, linkHolds, sheetHolds}
 
 -- ---- two ends
@@ -24,8 +25,8 @@ module _ (n : ℕ) (e : Ends) where
 -- ---- the whole network
 pub record Rules (net : Network) : Type 0 where
   pub some-stations : 1 ≤ net .stations
-  pub few-stations : net .stations ≤ 32
-  pub few-links : length (net .links) ≤ 64
+  pub few-stations : net .stations ≤ stationRoom
+  pub few-links : length (net .links) ≤ linkRoom
   pub good-ends : (k : ℕ) → k < length (net .links) → T (endsHold (net .stations) (ends net k))
   pub in-order : (k : ℕ) → suc k < length (net .links) → T (precedes (ends net k) (ends net (suc k)))
 
@@ -46,13 +47,13 @@ module _ (net : Network) where
   pub rules-of : T (sheetHolds net) → Rules net
   unfolding sheetHolds
   rules-of t =
-      let sizes = and-l (leb 1 n && leb n 32 && leb m 64) _ t in
-      let count = and-l (leb 1 n && leb n 32) _ sizes in
-      let link = below-at (linkHolds net) m (and-r (leb 1 n && leb n 32 && leb m 64) _ t) in
+      let sizes = and-l (leb 1 n && leb n stationRoom && leb m linkRoom) _ t in
+      let count = and-l (leb 1 n && leb n stationRoom) _ sizes in
+      let link = below-at (linkHolds net) m (and-r (leb 1 n && leb n stationRoom && leb m linkRoom) _ t) in
       record {
         some-stations = leb→le 1 n (and-l (leb 1 n) _ count);
-        few-stations = leb→le n 32 (and-r (leb 1 n) _ count);
-        few-links = leb→le m 64 (and-r (leb 1 n && leb n 32) _ sizes);
+        few-stations = leb→le n stationRoom (and-r (leb 1 n) _ count);
+        few-links = leb→le m linkRoom (and-r (leb 1 n && leb n stationRoom) _ sizes);
         good-ends = λ k h. and-l (endsHold n (ends net k)) _ (link k h);
         in-order = λ k h. subst T (after k) (and-r (endsHold n (ends net (suc k))) _ (link (suc k) h));
       }
@@ -60,9 +61,9 @@ module _ (net : Network) where
   pub of-rules : Rules net → T (sheetHolds net)
   unfolding sheetHolds
   of-rules r =
-      and-i (leb 1 n && leb n 32 && leb m 64) _
-      (and-i (leb 1 n && leb n 32) _ (and-i (leb 1 n) _ (le→leb 1 n (r .some-stations)) (le→leb n 32 (r .few-stations)))
-      (le→leb m 64 (r .few-links)))
+      and-i (leb 1 n && leb n stationRoom && leb m linkRoom) _
+      (and-i (leb 1 n && leb n stationRoom) _ (and-i (leb 1 n) _ (le→leb 1 n (r .some-stations)) (le→leb n stationRoom (r .few-stations)))
+      (le→leb m linkRoom (r .few-links)))
       (at-below (linkHolds net) m (λ k h. one k h))
     where
       one : (k : ℕ) → k < m → T (linkHolds net k)

@@ -19,6 +19,7 @@ use Rattle.net.specs.Values.{networkOf, placeEnds, linkCount, isZero}
 use Rattle.sheet_rules.specs.Rules.{precedes, endsHold, linkHolds, sheetHolds}
 use Rattle.sheet_rules.specs.Values.{netHolds}
 use Rattle.sheet_rules.specs.Steps.{follows, placeTest}
+use Rattle.net.specs.Sizes.{stationRoom, linkRoom}
 use Rattle.net.proofs.ValueLaws.{stations-of, links-of, ends-of}
 
 -- ---- one link, in the order in which the code asks
@@ -63,7 +64,8 @@ Before net a b k = (k ≡ 0) ⊎ ((a ≡ getD (net .low) (k - 1) 0) × (b ≡ ge
 
 module _ (net : Net) where
   link-is : (k : ℕ) → k < linkCount net
-      → linkHolds (networkOf net) k ≡ follows (min (net .stations) 32) (eqb k 0) (getD (net .low) (k - 1) 0) (getD (net .high) (k - 1) 0)
+      → linkHolds (networkOf net) k
+      ≡ follows (min (net .stations) stationRoom) (eqb k 0) (getD (net .low) (k - 1) 0) (getD (net .high) (k - 1) 0)
       (getD (net .low) k 0) (getD (net .high) k 0)
   link-is k h =
       ap₂ (λ (x y : Ends). endsHold (networkOf net .stations) y && (eqb k 0 || precedes x y)) (ends-of net (k - 1) (omega arith))
@@ -76,7 +78,7 @@ module _ (net : Net) where
       if ltb k (linkCount net) then linkHolds (networkOf net) k else (isZero (getD (net .low) k 0) && isZero (getD (net .high) k 0))
 
   -- what the code's answer says of place k
-  pub place-seen : (k a b : ℕ) (r x : Bool) → net .stations ≤ 32 → net .links ≤ 64 → Before net a b k
+  pub place-seen : (k a b : ℕ) (r x : Bool) → net .stations ≤ stationRoom → net .links ≤ linkRoom → Before net a b k
       → r ≡ placeTest (net .links) (net .stations) k a b (getD (net .low) k 0) (getD (net .high) k 0) → r ≡ x → placeHolds k ≡ x
   place-seen k a b r x few small before p q = go (decLt k (net .links)) ∙ sym p ∙ q
     where
@@ -94,7 +96,7 @@ module _ (net : Net) where
       go : Dec (k < net .links) → placeHolds k ≡ placeTest (net .links) (net .stations) k a b lo hi
       go (yes h) =
           let l : k < linkCount net = omega arith in
-          let n : min (net .stations) 32 ≡ net .stations = omega arith in
+          let n : min (net .stations) stationRoom ≡ net .stations = omega arith in
           simp (lt-ltb k (linkCount net) l, lt-ltb k (net .links) h)
           (link-is k l ∙ ap (λ (m : ℕ). follows m (eqb k 0) (getD (net .low) (k - 1) 0) (getD (net .high) (k - 1) 0) lo hi) n ∙ same before)
       go (no h) =
@@ -113,36 +115,36 @@ module _ (net : Net) where
       let e : networkOf net .stations < 1 = subst (λ (n : ℕ). n < 1) (sym (stations-of net)) (omega arith) in
       simp (lt-leb 1 (networkOf net .stations) e, and-no)
 
-  pub many-stations : 32 < net .stations → false ≡ netHolds net
+  pub many-stations : stationRoom < net .stations → false ≡ netHolds net
   unfolding netHolds
-  many-stations h = simp (lt-leb (net .stations) 32 h)
+  many-stations h = simp (lt-leb (net .stations) stationRoom h)
 
-  pub many-links : 64 < net .links → false ≡ netHolds net
+  pub many-links : linkRoom < net .links → false ≡ netHolds net
   unfolding netHolds
-  many-links h = simp (lt-leb (net .links) 64 h, and-no)
+  many-links h = simp (lt-leb (net .links) linkRoom h, and-no)
 
-  rules : 1 ≤ net .stations → net .stations ≤ 32 → net .links ≤ 64
+  rules : 1 ≤ net .stations → net .stations ≤ stationRoom → net .links ≤ linkRoom
       → sheetHolds (networkOf net) ≡ every (linkHolds (networkOf net)) (below (linkCount net))
   unfolding sheetHolds
   rules l h k =
       let e = stations-of net in
       simp (
         le-leb 1 (networkOf net .stations) (omega arith),
-        le-leb (networkOf net .stations) 32 (omega arith),
+        le-leb (networkOf net .stations) stationRoom (omega arith),
         links-of net,
         le-leb
-            (linkCount net) 64 (omega arith),
+            (linkCount net) linkRoom (omega arith),
       )
 
-  rest : 1 ≤ net .stations → net .stations ≤ 32 → net .links ≤ 64
+  rest : 1 ≤ net .stations → net .stations ≤ stationRoom → net .links ≤ linkRoom
       → netHolds net ≡ (every (linkHolds (networkOf net)) (below (linkCount net)) && every isZero (drop (linkCount net) (net .low)) && every
       isZero (drop (linkCount net) (net .high)))
   unfolding netHolds
-  rest l h k = simp (le-leb (net .stations) 32 h, le-leb (net .links) 64 k, rules l h k)
+  rest l h k = simp (le-leb (net .stations) stationRoom h, le-leb (net .links) linkRoom k, rules l h k)
 
   -- once the sizes are good, every place has to hold
-  pub holds-places : 1 ≤ net .stations → net .stations ≤ 32 → net .links ≤ 64 → length (net .low) ≡ 64 → length (net .high) ≡ 64
-      → every placeHolds (below 64) ≡ netHolds net
+  pub holds-places : 1 ≤ net .stations → net .stations ≤ stationRoom → net .links ≤ linkRoom
+      → length (net .low) ≡ linkRoom → length (net .high) ≡ linkRoom → every placeHolds (below linkRoom) ≡ netHolds net
   holds-places l h k ll lh = same-test _ _ whole parts ∙ sym (rest l h k)
     where
       m : ℕ
@@ -164,31 +166,33 @@ module _ (net : Net) where
       unused : (j : ℕ) → m ≤ j → placeHolds j ≡ (isZero (getD (net .low) j 0) && isZero (getD (net .high) j 0))
       unused j g = simp (le-ltb j (linkCount net) g)
 
-      tail : (room : List ℕ) → length room ≡ 64 → ((j : ℕ) → m ≤ j → j < 64 → T (isZero (getD room j 0))) → T (every isZero (drop m room))
+      tail : (room : List ℕ) → length room ≡ linkRoom → ((j : ℕ) → m ≤ j → j < linkRoom → T (isZero (getD room j 0)))
+          → T (every isZero (drop m room))
       tail room e f =
           at-every isZero (drop m room) 0 (λ i g. subst⁻¹ (λ (x : ℕ). T (isZero x)) (getD-drop m room i 0)
           (f (m + i) (omega arith) (omega (arith, g, length-drop m room))))
 
-      whole : T (every placeHolds (below 64)) → T (links && lows && highs)
+      whole : T (every placeHolds (below linkRoom)) → T (links && lows && highs)
       whole t =
-          let at = below-at placeHolds 64 t in
+          let at = below-at placeHolds linkRoom t in
           and-i (links && lows) _
           (and-i links lows (at-below (linkHolds (networkOf net)) m (λ j g. subst T (used j g) (at j (omega arith))))
           (tail (net .low) ll (λ j g n. and-l (isZero (getD (net .low) j 0)) _ (subst T (unused j g) (at j n)))))
           (tail (net .high) lh (λ j g n. and-r (isZero (getD (net .low) j 0)) _ (subst T (unused j g) (at j n))))
 
-      back : (room : List ℕ) (j : ℕ) → length room ≡ 64 → m ≤ j → j < 64 → T (every isZero (drop m room)) → T (isZero (getD room j 0))
+      back : (room : List ℕ) (j : ℕ) → length room ≡ linkRoom → m ≤ j → j < linkRoom → T (every isZero (drop m room))
+          → T (isZero (getD room j 0))
       back room j e g n t =
           let i : ℕ = j - m in
           let z : T (isZero (getD (drop m room) i 0)) = every-at isZero (drop m room) i 0 t (omega (arith, length-drop m room)) in
           subst (λ (x : ℕ). T (isZero x)) (getD-drop m room i 0 ∙ ap (λ (x : ℕ). getD room x 0) (omega arith)) z
 
-      parts : T (links && lows && highs) → T (every placeHolds (below 64))
+      parts : T (links && lows && highs) → T (every placeHolds (below linkRoom))
       parts t =
           let u = and-l (links && lows) _ t in
-          at-below placeHolds 64 (λ j n. place j n (and-l links lows u) (and-r links lows u) (and-r (links && lows) _ t) (decLt j m))
+          at-below placeHolds linkRoom (λ j n. place j n (and-l links lows u) (and-r links lows u) (and-r (links && lows) _ t) (decLt j m))
         where
-          place : (j : ℕ) → j < 64 → T links → T lows → T highs → Dec (j < m) → T (placeHolds j)
+          place : (j : ℕ) → j < linkRoom → T links → T lows → T highs → Dec (j < m) → T (placeHolds j)
           place j n a b c (yes g) = subst⁻¹ T (used j g) (below-at (linkHolds (networkOf net)) m a j g)
           place j n a b c (no g) =
               let g′ : m ≤ j = omega arith in

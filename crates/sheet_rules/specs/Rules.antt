@@ -5,6 +5,7 @@ use lib.Dec.{eqb, leb, ltb}
 use lib.ListN.{length}
 use Rattle.lists.specs.Lists.{every}
 use Rattle.net.specs.Network.{Ends, Network, ends, linkNumbers}
+use Rattle.net.specs.Sizes.{stationRoom, linkRoom}
 
 -- by first, then second end
 abbrev pub precedes : Ends → Ends → Bool
@@ -21,4 +22,5 @@ linkHolds net k = endsHold (net .stations) (ends net k) && (eqb k 0 || precedes 
 -- 1 to 32 stations, 0 to 64 links, each of them good. Other rooms use the laws of proofs/Rules.antt, never this text.
 unfoldable pub sheetHolds : Network → Bool
 sheetHolds net =
-    leb 1 (net .stations) && leb (net .stations) 32 && leb (length (net .links)) 64 && every (linkHolds net) (linkNumbers net)
+    leb 1 (net .stations) && leb (net .stations) stationRoom && leb (length (net .links)) linkRoom
+    && every (linkHolds net) (linkNumbers net)

@@ -5,10 +5,11 @@ use lib.ListN.{drop}
 use Rattle.lists.specs.Lists.{every}
 use Rattle.net.specs.declared.Net.{Net}
 use Rattle.net.specs.Values.{networkOf, linkCount, isZero}
+use Rattle.net.specs.Sizes.{stationRoom, linkRoom}
 use Rattle.sheet_rules.specs.Rules.{sheetHolds}
 
 -- the sheet rules hold, and the unused room is zero
 unfoldable pub netHolds : Net → Bool
 netHolds net =
-    leb (net .stations) 32 && leb (net .links) 64 && sheetHolds (networkOf net)
+    leb (net .stations) stationRoom && leb (net .links) linkRoom && sheetHolds (networkOf net)
     && every isZero (drop (linkCount net) (net .low)) && every isZero (drop (linkCount net) (net .high))

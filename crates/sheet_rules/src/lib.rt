@@ -4,6 +4,8 @@
 ghost use mathlib.Core.Path.{_≡_};
 ghost use Rattle.sheet_rules.specs.Values.{netHolds};
 ghost use Rattle.sheet_rules.specs.Steps.{follows, placeTest};
+use net::MOST_LINKS;
+use net::MOST_STATIONS;
 use net::Net;
 
 // Whether the link with the ends low and high is good and comes after the one with the ends a and b, if there is one.
@@ -52,15 +54,15 @@ pub fn keeps_sheet_rules(net: Net) -> bool
     if n < 1 {
         return false;
     }
-    if 32 < n {
+    if MOST_STATIONS < n {
         return false;
     }
-    if 64 < m {
+    if MOST_LINKS < m {
         return false;
     }
     let mut a: u8 = 0;
     let mut b: u8 = 0;
-    for k in 0..64u8 {
+    for k in 0..MOST_LINKS {
         let i = k as usize;
         let low = net.low[i];
         let high = net.high[i];

@@ -16,6 +16,7 @@ use Rattle.net.specs.declared.Net.{Net}
 use Rattle.net.specs.Values.{networkOf}
 use Rattle.sheet_rules.specs.Values.{netHolds}
 use Rattle.sheet_rules.proofs.Good.{few-stations}
+use Rattle.net.specs.Sizes.{stationRoom, letterRoom}
 use Rattle.net.proofs.ValueLaws.{stations-of}
 use Rattle.station.specs.declared.Station.{Station}
 use Rattle.station.specs.Holding.{Holding}
@@ -29,7 +30,7 @@ use Rattle.state.specs.State.{stateOf}
 use Rattle.state.specs.Beginning.{unread, begunOf}
 
 module _ (net : Net) (r : Bool) (e : r ≡ netHolds net) where
-  pub good-stations : r ≡ true → net .stations ≤ 32
+  pub good-stations : r ≡ true → net .stations ≤ stationRoom
   good-stations q = few-stations net (is-T _ (sym e ∙ q))
 
   module _ (nobody : Station) (unused : Letter) (z : nobody ≡ blank) (u : unused ≡ noLetter) where
@@ -37,28 +38,29 @@ module _ (net : Net) (r : Bool) (e : r ≡ netHolds net) where
         → _≡_ {A = Begun} (record {
           answer = 11;
           state = record
-              { net = net; flying = 0; stations = replicate 32 nobody; letters = replicate 4096 unused };
+              { net = net; flying = 0; stations = replicate stationRoom nobody; letters = replicate letterRoom unused };
         }) (begunOf net)
     unfolding begunOf unread
     begun-bad q =
         ap₂ (λ (a : Station) (b : Letter). record {
           answer = 11;
           state = record
-              { net = net; flying = 0; stations = replicate 32 a; letters = replicate 4096 b };
+              { net = net; flying = 0; stations = replicate stationRoom a; letters = replicate letterRoom b };
         }) z u
         ∙ sym (ap (λ (b : Bool). if b then (record { answer = 0; state = stateOf net (fresh (networkOf net)) })
         else (record { answer = 11; state = unread net })) (sym e ∙ q))
 
     -- each of the stations is down, and the places beyond them stay as they were
-    stations-down : (down : Station) (n : ℕ) → n ≤ 32 → n ≡ networkOf net .stations
+    stations-down : (down : Station) (n : ℕ) → n ≤ stationRoom → n ≡ networkOf net .stations
         → down ≡ laid net blank (stopped (networkOf net) 0 .holding)
-        → filled (λ (t : ℕ). down) (replicate 32 nobody) n ≡ roomed 32 blank (map (laid net blank) (fresh (networkOf net) .holdings))
+        → filled (λ (t : ℕ). down) (replicate stationRoom nobody) n
+        ≡ roomed stationRoom blank (map (laid net blank) (fresh (networkOf net) .holdings))
     unfolding roomed fresh doneBy
     stations-down down n l m d =
         ap₂ (λ (xs ys : List Station). xs ++ ys)
         (ap (λ (k : ℕ). map (λ (t : ℕ). down) (below k)) m ∙ ap (λ (x : Station). map (λ (t : ℕ). x) (below (networkOf net .stations))) d
         ∙ sym (maps (below (networkOf net .stations))))
-        (drop-replicate n 32 nobody ∙ ap₂ (λ (k : ℕ) (x : Station). replicate k x) count z)
+        (drop-replicate n stationRoom nobody ∙ ap₂ (λ (k : ℕ) (x : Station). replicate k x) count z)
       where
         hold : ℕ → Holding
         hold s = stopped (networkOf net) s .holding
@@ -67,7 +69,7 @@ module _ (net : Net) (r : Bool) (e : r ≡ netHolds net) where
         maps [] = refl
         maps (k ∷ ks) = ap (λ (xs : List Station). laid net blank (stopped (networkOf net) 0 .holding) ∷ xs) (maps ks)
 
-        count : 32 - n ≡ 32 - length (map (laid net blank) (map hold (below (networkOf net .stations))))
+        count : stationRoom - n ≡ stationRoom - length (map (laid net blank) (map hold (below (networkOf net .stations))))
         count =
             omega (
               arith,
@@ -79,20 +81,20 @@ module _ (net : Net) (r : Bool) (e : r ≡ netHolds net) where
 
     pub begun-good : (down : Station) (stations : List Station) (n : ℕ) → r ≡ true → n ≡ net .stations
         → down ≡ laid net blank (stopped (networkOf net) 0 .holding)
-        → stations ≡ filled (λ (t : ℕ). down) (replicate 32 nobody) n
+        → stations ≡ filled (λ (t : ℕ). down) (replicate stationRoom nobody) n
         → _≡_ {A = Begun} (record {
           answer = 0;
           state = record
-              { net = net; flying = 0; stations = stations; letters = replicate 4096 unused };
+              { net = net; flying = 0; stations = stations; letters = replicate letterRoom unused };
         }) (begunOf net)
     unfolding begunOf stateOf roomed fresh
     begun-good down stations n q m d f =
-        let l : n ≤ 32 = omega (arith, good-stations q) in
+        let l : n ≤ stationRoom = omega (arith, good-stations q) in
         let m′ : n ≡ networkOf net .stations = omega (arith, m, l, stations-of net) in
         ap₂ (λ (a : List Station) (b : Letter). record {
           answer = 0;
           state = record
-              { net = net; flying = 0; stations = a; letters = replicate 4096 b };
+              { net = net; flying = 0; stations = a; letters = replicate letterRoom b };
         })
         (f ∙ stations-down down n l m′ d) u
         ∙ sym (ap (λ (b : Bool). if b then (record { answer = 0; state = stateOf net (fresh (networkOf net)) })

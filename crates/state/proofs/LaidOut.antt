@@ -22,6 +22,7 @@ use Rattle.net.specs.Letters.{letterHolds}
 use Rattle.net.specs.Values.{networkOf, linkCount}
 use Rattle.sheet_rules.specs.Values.{netHolds}
 use Rattle.sheet_rules.proofs.Good.{few-stations}
+use Rattle.net.specs.Sizes.{stationRoom, letterRoom}
 use Rattle.net.proofs.ValueLaws.{stations-of, links-of}
 use Rattle.station.specs.declared.Station.{Station}
 use Rattle.station.specs.Holding.{Holding, holdingHolds}
@@ -31,7 +32,8 @@ use Rattle.state_rules.specs.Formed.{stationFormed}
 use Rattle.world.specs.World.{World, nobody, noLetter, holdingAt}
 use Rattle.world.proofs.Keeps.{Formed}
 use Rattle.state.specs.declared.State.{State}
-use Rattle.state.specs.State.{beyond, stationIn, letterIn, worldOf, stateOf, isBlank, isNoLetter, stationPlace, letterPlace, stationsHold, lettersHold, stateHolds, Fits, Ends64, Sized}
+use Rattle.state.specs.State.{beyond, stationIn, letterIn, worldOf, stateOf, isBlank, isNoLetter, stationPlace}
+use Rattle.state.specs.State.{letterPlace, stationsHold, lettersHold, stateHolds, Fits, Ends64, Sized}
 use Rattle.state.proofs.StationRoom.{Spare, spare-formed, fits-laid, laid-spare, holding-laid, is-blank, fits-blank}
 
 module _ (net : Net) (w : World) (n : T (netHolds net)) (e : networkOf net ≡ w .net) (f : Formed w) where
@@ -41,7 +43,7 @@ module _ (net : Net) (w : World) (n : T (netHolds net)) (e : networkOf net ≡ w
   abbrev out : State
   out = stateOf net w
 
-  few : net .stations ≤ 32
+  few : net .stations ≤ stationRoom
   few = few-stations net n
 
   stations-are : w .net .stations ≡ net .stations
@@ -75,19 +77,19 @@ module _ (net : Net) (w : World) (n : T (netHolds net)) (e : networkOf net ≡ w
   -- ---- the places
   station-there : (i : ℕ) → i < net .stations → stationIn out i ≡ laid net blank (holdingAt w i)
   unfolding stateOf
-  station-there i h = roomed-at 32 blank laidAll i beyond (omega (arith, h, laid-count)) ∙ laid-at i h
+  station-there i h = roomed-at stationRoom blank laidAll i beyond (omega (arith, h, laid-count)) ∙ laid-at i h
 
-  station-past : (i : ℕ) → net .stations ≤ i → i < 32 → stationIn out i ≡ blank
+  station-past : (i : ℕ) → net .stations ≤ i → i < stationRoom → stationIn out i ≡ blank
   unfolding stateOf
-  station-past i h l = roomed-past 32 blank laidAll i beyond (omega (arith, h, laid-count)) l
+  station-past i h l = roomed-past stationRoom blank laidAll i beyond (omega (arith, h, laid-count)) l
 
   letter-there : (j : ℕ) → j < length (w .letters) → letterIn out j ≡ getD (w .letters) j noLetter
   unfolding stateOf
-  letter-there j h = roomed-at 4096 noLetter (w .letters) j noLetter h
+  letter-there j h = roomed-at letterRoom noLetter (w .letters) j noLetter h
 
-  letter-past : (j : ℕ) → length (w .letters) ≤ j → j < 4096 → letterIn out j ≡ noLetter
+  letter-past : (j : ℕ) → length (w .letters) ≤ j → j < letterRoom → letterIn out j ≡ noLetter
   unfolding stateOf
-  letter-past j h l = roomed-past 4096 noLetter (w .letters) j noLetter h l
+  letter-past j h l = roomed-past letterRoom noLetter (w .letters) j noLetter h l
 
   out-net : out .net ≡ net
   unfolding stateOf
@@ -102,17 +104,17 @@ module _ (net : Net) (w : World) (n : T (netHolds net)) (e : networkOf net ≡ w
   unfolding stateOf
   laid-sized d = record {
     ends = d;
-    stations = length-roomed 32 blank laidAll (omega (arith, few, laid-count));
-    letters = length-roomed 4096 noLetter (w .letters) (f .room);
+    stations = length-roomed stationRoom blank laidAll (omega (arith, few, laid-count));
+    letters = length-roomed letterRoom noLetter (w .letters) (f .room);
     each = λ i l. fits i l (decLt i (net .stations));
   }
     where
-      fits : (i : ℕ) → i < 32 → Dec (i < net .stations) → Fits (stationIn out i)
+      fits : (i : ℕ) → i < stationRoom → Dec (i < net .stations) → Fits (stationIn out i)
       fits i l (yes h) = subst⁻¹ Fits (station-there i h) (fits-laid net (holdingAt w i) (table-long i h) (marks-long i h))
       fits i l (no h) = subst⁻¹ Fits (station-past i (omega arith) l) fits-blank
 
   -- ---- well formed
-  station-place : (i : ℕ) → i < 32 → Dec (i < net .stations) → T (stationPlace net i (stationIn out i))
+  station-place : (i : ℕ) → i < stationRoom → Dec (i < net .stations) → T (stationPlace net i (stationIn out i))
   station-place i l (yes h) =
       subst⁻¹ (λ (b : Bool). T (if b then stationFormed net i (stationIn out i) else isBlank (stationIn out i)))
       (lt-ltb i (net .stations) h)
@@ -127,7 +129,7 @@ module _ (net : Net) (w : World) (n : T (netHolds net)) (e : networkOf net ≡ w
       (le-ltb i (net .stations) g)
       (subst⁻¹ (λ (x : Station). T (isBlank x)) (station-past i g l) is-blank)
 
-  letter-place : (j : ℕ) → j < 4096 → Dec (j < length (w .letters)) → T (letterPlace net (length (w .letters)) j (letterIn out j))
+  letter-place : (j : ℕ) → j < letterRoom → Dec (j < length (w .letters)) → T (letterPlace net (length (w .letters)) j (letterIn out j))
   letter-place j l (yes h) =
       subst⁻¹ (λ (b : Bool). T (if b then letterHolds (networkOf net) (letterIn out j) else isNoLetter (letterIn out j)))
       (lt-ltb j (length (w .letters)) h)
@@ -140,26 +142,27 @@ module _ (net : Net) (w : World) (n : T (netHolds net)) (e : networkOf net ≡ w
       (le-ltb j (length (w .letters)) g)
       (subst⁻¹ (λ (x : Letter). T (isNoLetter x)) (letter-past j g l) tt)
 
-  frame-laid : T (netHolds (out .net) && leb (out .flying) 4096)
+  frame-laid : T (netHolds (out .net) && leb (out .flying) letterRoom)
   unfolding stateOf
-  frame-laid = and-i (netHolds net) _ n (is-T _ (le-leb (length (w .letters)) 4096 (f .room)))
+  frame-laid = and-i (netHolds net) _ n (is-T _ (le-leb (length (w .letters)) letterRoom (f .room)))
 
   stations-laid : T (stationsHold out)
   unfolding stationsHold
   stations-laid =
-      at-below (λ i. stationPlace (out .net) i (stationIn out i)) 32
+      at-below (λ i. stationPlace (out .net) i (stationIn out i)) stationRoom
       (λ i l. subst⁻¹ (λ (x : Net). T (stationPlace x i (stationIn out i))) out-net (station-place i l (decLt i (net .stations))))
 
   letters-laid : T (lettersHold out)
   unfolding lettersHold
   letters-laid =
-      at-below (λ j. letterPlace (out .net) (out .flying) j (letterIn out j)) 4096
+      at-below (λ j. letterPlace (out .net) (out .flying) j (letterIn out j)) letterRoom
       (λ j l. subst⁻¹ (λ (x : Net). T (letterPlace x (out .flying) j (letterIn out j))) out-net
       (subst⁻¹ (λ (k : ℕ). T (letterPlace net k j (letterIn out j))) out-flying (letter-place j l (decLt j (length (w .letters))))))
 
   pub laid-holds : T (stateHolds out)
   unfolding stateHolds
-  laid-holds = and-i (netHolds (out .net) && leb (out .flying) 4096) _ frame-laid (and-i (stationsHold out) _ stations-laid letters-laid)
+  laid-holds =
+      and-i (netHolds (out .net) && leb (out .flying) letterRoom) _ frame-laid (and-i (stationsHold out) _ stations-laid letters-laid)
 
   -- ---- it means the world
   holdings-back : map (holdingOf net) laidAll ≡ w .holdings
@@ -173,10 +176,10 @@ module _ (net : Net) (w : World) (n : T (netHolds net)) (e : networkOf net ≡ w
   pub laid-means : worldOf out ≡ w
   unfolding worldOf stateOf
   laid-means =
-      let a = ap (λ (k : ℕ). map (holdingOf net) (take k (roomed 32 blank laidAll))) (stations-of net ∙ few-is)
-      ∙ ap (map (holdingOf net)) (take-roomed 32 blank laidAll) ∙ holdings-back in
-      let l = take-roomed 4096 noLetter (w .letters) in
+      let a = ap (λ (k : ℕ). map (holdingOf net) (take k (roomed stationRoom blank laidAll))) (stations-of net ∙ few-is)
+      ∙ ap (map (holdingOf net)) (take-roomed stationRoom blank laidAll) ∙ holdings-back in
+      let l = take-roomed letterRoom noLetter (w .letters) in
       λ i. record { net = e i; holdings = a i; letters = l i }
     where
-      few-is : min (net .stations) 32 ≡ length laidAll
+      few-is : min (net .stations) stationRoom ≡ length laidAll
       few-is = omega (arith, few, laid-count)

@@ -25,6 +25,7 @@ use Rattle.net.specs.Letters.{letterHolds}
 use Rattle.net.specs.Values.{networkOf, linkCount, isZero}
 use Rattle.sheet_rules.specs.Values.{netHolds}
 use Rattle.sheet_rules.proofs.Good.{few-stations, sheet-good}
+use Rattle.net.specs.Sizes.{stationRoom, letterRoom}
 use Rattle.net.proofs.ValueLaws.{stations-of, links-of}
 use Rattle.station.specs.declared.Station.{Station}
 use Rattle.station.specs.Holding.{Holding, holdingHolds}
@@ -34,8 +35,10 @@ use Rattle.state_rules.specs.Formed.{stationFormed}
 use Rattle.world.specs.World.{World, nobody, noLetter, holdingAt, wellFormed}
 use Rattle.world.proofs.Keeps.{Formed, formed, well}
 use Rattle.state.specs.declared.State.{State}
-use Rattle.state.specs.State.{beyond, stationIn, letterIn, worldOf, stateOf, isBlank, isRequest, isNoLetter, stationPlace, letterPlace, stationsHold, lettersHold, stateHolds, Fits, Sized}
-use Rattle.state.proofs.StationRoom.{Spare, own-laid, formed-holds, formed-spare, spare-formed, fits-laid, laid-spare, holding-laid, blank-is, is-blank, fits-blank}
+use Rattle.state.specs.State.{beyond, stationIn, letterIn, worldOf, stateOf, isBlank, isRequest, isNoLetter, stationPlace}
+use Rattle.state.specs.State.{letterPlace, stationsHold, lettersHold, stateHolds, Fits, Sized}
+use Rattle.state.proofs.StationRoom.{Spare, own-laid, formed-holds, formed-spare, spare-formed, fits-laid}
+use Rattle.state.proofs.StationRoom.{laid-spare, holding-laid, blank-is, is-blank, fits-blank}
 
 no-letter-is : (x : Letter) → T (isNoLetter x) → x ≡ noLetter
 no-letter-is x t =
@@ -67,29 +70,29 @@ module _ (s : State) (z : Sized s) (t : T (stateHolds s)) where
   abbrev net : Net
   net = s .net
 
-  parts : T ((netHolds net && leb (s .flying) 4096) && (stationsHold s && lettersHold s))
+  parts : T ((netHolds net && leb (s .flying) letterRoom) && (stationsHold s && lettersHold s))
   unfolding stateHolds
   parts = t
 
   pub holds-net : T (netHolds net)
-  holds-net = and-l (netHolds net) _ (and-l (netHolds net && leb (s .flying) 4096) _ parts)
+  holds-net = and-l (netHolds net) _ (and-l (netHolds net && leb (s .flying) letterRoom) _ parts)
 
-  pub holds-few : s .flying ≤ 4096
-  holds-few = leb→le (s .flying) 4096 (and-r (netHolds net) _ (and-l (netHolds net && leb (s .flying) 4096) _ parts))
+  pub holds-few : s .flying ≤ letterRoom
+  holds-few = leb→le (s .flying) letterRoom (and-r (netHolds net) _ (and-l (netHolds net && leb (s .flying) letterRoom) _ parts))
 
-  station-at : (i : ℕ) → i < 32 → T (stationPlace net i (stationIn s i))
+  station-at : (i : ℕ) → i < stationRoom → T (stationPlace net i (stationIn s i))
   unfolding stationsHold
   station-at i h =
-      below-at (λ i. stationPlace net i (stationIn s i)) 32
-      (and-l (stationsHold s) _ (and-r (netHolds net && leb (s .flying) 4096) _ parts)) i h
+      below-at (λ i. stationPlace net i (stationIn s i)) stationRoom
+      (and-l (stationsHold s) _ (and-r (netHolds net && leb (s .flying) letterRoom) _ parts)) i h
 
-  letter-at : (j : ℕ) → j < 4096 → T (letterPlace net (s .flying) j (letterIn s j))
+  letter-at : (j : ℕ) → j < letterRoom → T (letterPlace net (s .flying) j (letterIn s j))
   unfolding lettersHold
   letter-at j h =
-      below-at (λ j. letterPlace net (s .flying) j (letterIn s j)) 4096
-      (and-r (stationsHold s) _ (and-r (netHolds net && leb (s .flying) 4096) _ parts)) j h
+      below-at (λ j. letterPlace net (s .flying) j (letterIn s j)) letterRoom
+      (and-r (stationsHold s) _ (and-r (netHolds net && leb (s .flying) letterRoom) _ parts)) j h
 
-  pub few : stations ≤ 32
+  pub few : stations ≤ stationRoom
   few = few-stations net holds-net
 
   pub count-is : networkOf net .stations ≡ stations
@@ -100,7 +103,7 @@ module _ (s : State) (z : Sized s) (t : T (stateHolds s)) where
       subst (λ (b : Bool). T (if b then stationFormed net i (stationIn s i) else isBlank (stationIn s i))) (lt-ltb i stations h)
       (station-at i (omega (arith, few)))
 
-  station-blank : (i : ℕ) → stations ≤ i → i < 32 → stationIn s i ≡ blank
+  station-blank : (i : ℕ) → stations ≤ i → i < stationRoom → stationIn s i ≡ blank
   station-blank i h l =
       blank-is (stationIn s i) (z .each i l)
       (subst (λ (b : Bool). T (if b then stationFormed net i (stationIn s i) else isBlank (stationIn s i))) (le-ltb i stations h)
@@ -111,7 +114,7 @@ module _ (s : State) (z : Sized s) (t : T (stateHolds s)) where
       subst (λ (b : Bool). T (if b then letterHolds (networkOf net) (letterIn s j) else isNoLetter (letterIn s j))) (lt-ltb j (s .flying) h)
       (letter-at j (omega (arith, holds-few)))
 
-  pub letter-unused : (j : ℕ) → s .flying ≤ j → j < 4096 → letterIn s j ≡ noLetter
+  pub letter-unused : (j : ℕ) → s .flying ≤ j → j < letterRoom → letterIn s j ≡ noLetter
   letter-unused j h l =
       no-letter-is (letterIn s j)
       (subst (λ (b : Bool). T (if b then letterHolds (networkOf net) (letterIn s j) else isNoLetter (letterIn s j)))
@@ -127,13 +130,13 @@ module _ (s : State) (z : Sized s) (t : T (stateHolds s)) where
   used-are = length-take-le stations (s .stations) (omega (arith, few, z .stations))
 
   -- ---- determined by its meaning
-  letters-roomed : s .letters ≡ roomed 4096 noLetter (take (s .flying) (s .letters))
-  letters-roomed = roomed-of 4096 noLetter (s .letters) (s .flying) noLetter (z .letters) holds-few letter-unused
+  letters-roomed : s .letters ≡ roomed letterRoom noLetter (take (s .flying) (s .letters))
+  letters-roomed = roomed-of letterRoom noLetter (s .letters) (s .flying) noLetter (z .letters) holds-few letter-unused
 
-  stations-roomed : s .stations ≡ roomed 32 blank (map (laid net blank) (map (holdingOf net) (take stations (s .stations))))
+  stations-roomed : s .stations ≡ roomed stationRoom blank (map (laid net blank) (map (holdingOf net) (take stations (s .stations))))
   stations-roomed =
-      roomed-of 32 blank (s .stations) stations beyond (z .stations) few station-blank
-      ∙ ap (roomed 32 blank) (map-same (λ x. laid net blank (holdingOf net x)) (take stations (s .stations)) same
+      roomed-of stationRoom blank (s .stations) stations beyond (z .stations) few station-blank
+      ∙ ap (roomed stationRoom blank) (map-same (λ x. laid net blank (holdingOf net x)) (take stations (s .stations)) same
       ∙ sym (map-map (laid net blank) (holdingOf net) (take stations (s .stations))))
     where
       same : (i : ℕ) → i < length (take stations (s .stations))
@@ -147,7 +150,7 @@ module _ (s : State) (z : Sized s) (t : T (stateHolds s)) where
   unfolding stateOf worldOf
   determined =
       let n = sym flying-is in
-      let a = stations-roomed ∙ ap (λ (k : ℕ). roomed 32 blank (map (laid net blank) (map (holdingOf net) (take k (s .stations)))))
+      let a = stations-roomed ∙ ap (λ (k : ℕ). roomed stationRoom blank (map (laid net blank) (map (holdingOf net) (take k (s .stations)))))
       (sym count-is) in
       λ i. record { net = net; flying = n i; stations = a i; letters = letters-roomed i }
 

@@ -15,6 +15,7 @@ use Rattle.net.specs.Values.{isZero}
 use Rattle.station.specs.declared.Station.{Station}
 use Rattle.station.specs.Holding.{isDown}
 use Rattle.net.specs.declared.Net.{Net}
+use Rattle.net.specs.Sizes.{linkRoom}
 use Rattle.state_rules.specs.Formed.{stationFormed}
 use Rattle.state.specs.State.{noWord, isBlank, stationPlace, isNoLetter, letterIn}
 use Rattle.state.specs.declared.State.{State}
@@ -23,24 +24,24 @@ use Rattle.state.specs.declared.State.{State}
 abbrev pub zeroAt : List ℕ → ℕ → Bool
 zeroAt cs t = isZero (getD cs t 0)
 
-counters-zero : (cs : List ℕ) → length cs ≡ 64 → every (zeroAt cs) (below 64) ≡ every isZero cs
+counters-zero : (cs : List ℕ) → length cs ≡ linkRoom → every (zeroAt cs) (below linkRoom) ≡ every isZero cs
 counters-zero cs e =
-    same-test (every (zeroAt cs) (below 64)) (every isZero cs)
-    (λ t. at-every isZero cs 0 (λ i h. below-at (zeroAt cs) 64 t i (omega (arith, e))))
-    (λ t. at-below (zeroAt cs) 64 (λ i h. every-at isZero cs i 0 t (omega (arith, e))))
+    same-test (every (zeroAt cs) (below linkRoom)) (every isZero cs)
+    (λ t. at-every isZero cs 0 (λ i h. below-at (zeroAt cs) linkRoom t i (omega (arith, e))))
+    (λ t. at-below (zeroAt cs) linkRoom (λ i h. every-at isZero cs i 0 t (omega (arith, e))))
 
 module _ (st : Station) where
   pub blank-marked : (r : Bool) → r ≡ (isDown (st .condition) && noWord (st .marks)) → r ≡ false → false ≡ isBlank st
   blank-marked r e d = sym (ap (λ (b : Bool). b && every isZero (st .counters)) (sym e ∙ d))
 
-  pub blank-counted : (k : ℕ) → k < 64 → length (st .counters) ≡ 64 → (getD (st .counters) k 0 ≡ 0 → ⊥) → false ≡ isBlank st
+  pub blank-counted : (k : ℕ) → k < linkRoom → length (st .counters) ≡ linkRoom → (getD (st .counters) k 0 ≡ 0 → ⊥) → false ≡ isBlank st
   blank-counted k h e n =
       sym (and-no (isDown (st .condition) && noWord (st .marks)))
       ∙ ap (λ (b : Bool). (isDown (st .condition) && noWord (st .marks)) && b)
-      (sym (sym (counters-zero (st .counters) e) ∙ all-fails (zeroAt (st .counters)) 64 k h (ne-eqb (getD (st .counters) k 0) 0 n)))
+      (sym (sym (counters-zero (st .counters) e) ∙ all-fails (zeroAt (st .counters)) linkRoom k h (ne-eqb (getD (st .counters) k 0) 0 n)))
 
-  pub blank-all : (r : Bool) (k : ℕ) → r ≡ (isDown (st .condition) && noWord (st .marks)) → r ≡ true → k ≡ 64 → length (st .counters) ≡ 64
-      → every (zeroAt (st .counters)) (below k) ≡ true → true ≡ isBlank st
+  pub blank-all : (r : Bool) (k : ℕ) → r ≡ (isDown (st .condition) && noWord (st .marks)) → r ≡ true → k ≡ linkRoom
+      → length (st .counters) ≡ linkRoom → every (zeroAt (st .counters)) (below k) ≡ true → true ≡ isBlank st
   blank-all r k e d n z q =
       ap₂ (λ (a b : Bool). a && b) (sym d ∙ e) (sym q ∙ ap (λ (x : ℕ). every (zeroAt (st .counters)) (below x)) n
       ∙ counters-zero (st .counters) z)

@@ -6,7 +6,8 @@ use mathlib.Core.List.{List, [], _∷_, _++_, map}
 use native.Mathlib.Decide.{decLt}
 use native.Mathlib.Omega.{arith}
 use lib.Dec.{T, eqb→eq}
-use lib.ListN.{length, getD, take, drop, replicate, length-append, length-drop, length-map, length-replicate, List·getD-append, List·getD-map, List·getD-eq-default, getD-replicate}
+use lib.ListN.{length, getD, take, drop, replicate, length-append, length-drop, length-map, length-replicate}
+use lib.ListN.{List·getD-append, List·getD-map, List·getD-eq-default, getD-replicate}
 use lib.Seq.{ext-getD, getD-append-add, getD-drop, take-at, drop-at, length-take-le}
 use Rattle.lists.specs.Lists.{every, from, below}
 use Rattle.lists.specs.Words.{inWord, wordOf}
@@ -16,6 +17,7 @@ use Rattle.lists.proofs.Rooms.{drop-replicate}
 use Rattle.lists.proofs.Words.{in-wordOf, wordOf-lt, none-in, zero-is-out}
 use Rattle.net.specs.declared.Net.{Net}
 use Rattle.net.specs.Values.{networkOf, linkCount, isZero}
+use Rattle.net.specs.Sizes.{linkRoom}
 use Rattle.net.proofs.ValueLaws.{links-of}
 use Rattle.marks.specs.declared.Marks.{Marks}
 use Rattle.marks.specs.declared.Words.{Words}
@@ -61,12 +63,12 @@ module _ (net : Net) where
 
   -- beyond the links there is no counter and no mark
   pub record Spare (st : Station) : Type 0 where
-    pub counters : drop n (st .counters) ≡ replicate (64 - n) 0
-    pub marks : (t : ℕ) → n ≤ t → t < 64 → marksAt (st .marks) t ≡ noMarks
+    pub counters : drop n (st .counters) ≡ replicate (linkRoom - n) 0
+    pub marks : (t : ℕ) → n ≤ t → t < linkRoom → marksAt (st .marks) t ≡ noMarks
 
-  blank-counters : drop n (blank .counters) ≡ replicate (64 - n) 0
+  blank-counters : drop n (blank .counters) ≡ replicate (linkRoom - n) 0
   unfolding blank
-  blank-counters = drop-replicate n 64 0
+  blank-counters = drop-replicate n linkRoom 0
 
   -- ---- a station value without marks, and the zero one
   no-marks-at : (t : ℕ) → marksAt noWords t ≡ noMarks
@@ -78,18 +80,18 @@ module _ (net : Net) where
   spare-unmarked st s = record { counters = s .counters; marks = λ t g l. no-marks-at t }
 
   -- ---- a holding laid over spare room is laid over the zero one
-  bits-spare : (a b : ℕ) → ((t : ℕ) → n ≤ t → t < 64 → inWord a t ≡ inWord b t) → drop n (bitsOf a) ≡ drop n (bitsOf b)
+  bits-spare : (a b : ℕ) → ((t : ℕ) → n ≤ t → t < linkRoom → inWord a t ≡ inWord b t) → drop n (bitsOf a) ≡ drop n (bitsOf b)
   bits-spare a b f =
       ext-getD false (drop n (bitsOf a)) (drop n (bitsOf b)) (size a ∙ sym (size b))
-      (λ i h. let l : n + i < 64 = omega (arith, h, size a) in at a i l ∙ f (n + i) (omega arith) l ∙ sym (at b i l))
+      (λ i h. let l : n + i < linkRoom = omega (arith, h, size a) in at a i l ∙ f (n + i) (omega arith) l ∙ sym (at b i l))
     where
-      size : (w : ℕ) → length (drop n (bitsOf w)) ≡ 64 - n
-      size w = length-drop n (bitsOf w) ∙ ap (λ (k : ℕ). k - n) (length-map-below (inWord w) 64)
+      size : (w : ℕ) → length (drop n (bitsOf w)) ≡ linkRoom - n
+      size w = length-drop n (bitsOf w) ∙ ap (λ (k : ℕ). k - n) (length-map-below (inWord w) linkRoom)
 
-      at : (w i : ℕ) → n + i < 64 → getD (drop n (bitsOf w)) i false ≡ inWord w (n + i)
-      at w i l = getD-drop n (bitsOf w) i false ∙ getD-map-below (inWord w) 64 (n + i) false l
+      at : (w i : ℕ) → n + i < linkRoom → getD (drop n (bitsOf w)) i false ≡ inWord w (n + i)
+      at w i l = getD-drop n (bitsOf w) i false ∙ getD-map-below (inWord w) linkRoom (n + i) false l
 
-  words-spare : (w : Words) (ms : List Marks) → ((t : ℕ) → n ≤ t → t < 64 → marksAt w t ≡ noMarks)
+  words-spare : (w : Words) (ms : List Marks) → ((t : ℕ) → n ≤ t → t < linkRoom → marksAt w t ≡ noMarks)
       → laidWords n w ms ≡ laidWords n noWords ms
   words-spare w ms f = λ i. record {
     token = one (w .token) (map (λ m. m .token) ms) (λ t g l. ap (λ (m : Marks). m .token) (f t g l)) i;
@@ -99,7 +101,7 @@ module _ (net : Net) where
     quiet = one (w .quiet) (map (λ m. m .quiet) ms) (λ t g l. ap (λ (m : Marks). m .quiet) (f t g l)) i;
   }
     where
-      one : (a : ℕ) (bs : List Bool) → ((t : ℕ) → n ≤ t → t < 64 → inWord a t ≡ false) → laidWord n a bs ≡ laidWord n 0 bs
+      one : (a : ℕ) (bs : List Bool) → ((t : ℕ) → n ≤ t → t < linkRoom → inWord a t ≡ false) → laidWord n a bs ≡ laidWord n 0 bs
       one a bs g = ap (λ (r : List Bool). wordOf (bs ++ r)) (bits-spare a 0 (λ t h l. g t h l ∙ sym (zero-is-out 0 t (none-in t))))
 
   blank-marks : blank .marks ≡ noWords
@@ -128,7 +130,7 @@ module _ (net : Net) where
     zeroes = every isZero (drop n (st .counters))
 
     abbrev offs : Bool
-    offs = every (λ t. isOff (marksAt (st .marks) t)) (from n (64 - n))
+    offs = every (λ t. isOff (marksAt (st .marks) t)) (from n (linkRoom - n))
 
     pub formed-holds : T (stationFormed net i st) → T holds
     unfolding stationFormed
@@ -140,10 +142,10 @@ module _ (net : Net) where
       counters = zeros (drop n (st .counters)) (and-r holds zeroes (and-l (holds && zeroes) offs t)) ∙ ap (λ (k : ℕ). replicate k 0) size;
       marks =
           λ k g l. off-none (marksAt (st .marks) k) (subst (λ (x : ℕ). T (isOff (marksAt (st .marks) x))) (back k g)
-          (every-from (λ t. isOff (marksAt (st .marks) t)) (64 - n) n (and-r (holds && zeroes) offs t) (k - n) (omega arith)));
+          (every-from (λ t. isOff (marksAt (st .marks) t)) (linkRoom - n) n (and-r (holds && zeroes) offs t) (k - n) (omega arith)));
     }
       where
-        size : length (drop n (st .counters)) ≡ 64 - n
+        size : length (drop n (st .counters)) ≡ linkRoom - n
         size = length-drop n (st .counters) ∙ ap (λ (k : ℕ). k - n) (f .counters)
 
         back : (k : ℕ) → n ≤ k → n + (k - n) ≡ k
@@ -153,17 +155,17 @@ module _ (net : Net) where
     unfolding stationFormed
     spare-formed t s =
         and-i (holds && zeroes) offs (and-i holds zeroes t
-        (subst⁻¹ (λ (l : List ℕ). T (every isZero l)) (s .counters) (every-zero (64 - n))))
-        (from-every (λ t. isOff (marksAt (st .marks) t)) (64 - n) n
+        (subst⁻¹ (λ (l : List ℕ). T (every isZero l)) (s .counters) (every-zero (linkRoom - n))))
+        (from-every (λ t. isOff (marksAt (st .marks) t)) (linkRoom - n) n
         (λ k h. subst⁻¹ (λ (m : Marks). T (isOff m)) (s .marks (n + k) (omega arith) (omega arith)) tt))
 
   -- ---- a holding laid out in zero room
   module _ (h : Holding) (tl : length (h .table) ≡ n) (ml : length (h .marks) ≡ n) where
-    few : n ≤ 64
+    few : n ≤ linkRoom
     few = omega arith
 
-    rest-size : (w : ℕ) → length (drop n (bitsOf w)) ≡ 64 - n
-    rest-size w = length-drop n (bitsOf w) ∙ ap (λ (k : ℕ). k - n) (length-map-below (inWord w) 64)
+    rest-size : (w : ℕ) → length (drop n (bitsOf w)) ≡ linkRoom - n
+    rest-size w = length-drop n (bitsOf w) ∙ ap (λ (k : ℕ). k - n) (length-map-below (inWord w) linkRoom)
 
     module _ (p : Marks → Bool) (q : p noMarks ≡ false) where
       abbrev word : ℕ
@@ -178,7 +180,7 @@ module _ (net : Net) where
           ∙ List·getD-append (map p (h .marks)) (drop n (bitsOf 0)) false t (omega (arith, size))
           ∙ ap (getD (map p (h .marks)) t) (sym q) ∙ List·getD-map p (h .marks) t noMarks
 
-      word-past : (t : ℕ) → n ≤ t → t < 64 → inWord word t ≡ false
+      word-past : (t : ℕ) → n ≤ t → t < linkRoom → inWord word t ≡ false
       word-past t g l =
           let j : ℕ = t - n in
           let e : length (map p (h .marks)) + j ≡ t = omega (arith, size) in
@@ -186,7 +188,7 @@ module _ (net : Net) where
           in-wordOf (map p (h .marks) ++ drop n (bitsOf 0)) t
           ∙ subst (λ (x : ℕ). getD (map p (h .marks) ++ drop n (bitsOf 0)) x false ≡ getD (drop n (bitsOf 0)) j false) e
           (getD-append-add (map p (h .marks)) (drop n (bitsOf 0)) j false)
-          ∙ getD-drop n (bitsOf 0) j false ∙ ap (λ (x : ℕ). getD (bitsOf 0) x false) e′ ∙ getD-map-below (inWord 0) 64 t false l
+          ∙ getD-drop n (bitsOf 0) j false ∙ ap (λ (x : ℕ). getD (bitsOf 0) x false) e′ ∙ getD-map-below (inWord 0) linkRoom t false l
           ∙ zero-is-out 0 t (none-in t)
 
       word-fits : word < 2 ^ 64
@@ -194,22 +196,22 @@ module _ (net : Net) where
           subst (λ (k : ℕ). word < 2 ^ k) (length-append (map p (h .marks)) (drop n (bitsOf 0)) ∙ sum)
           (wordOf-lt (map p (h .marks) ++ drop n (bitsOf 0)))
         where
-          sum : length (map p (h .marks)) + length (drop n (bitsOf 0)) ≡ 64
+          sum : length (map p (h .marks)) + length (drop n (bitsOf 0)) ≡ linkRoom
           sum = omega (arith, size, rest-size 0, few)
 
     laid-words : laid net blank h .marks ≡ laidWords n noWords (h .marks)
     unfolding laid blank
     laid-words = refl
 
-    laid-counters : laid net blank h .counters ≡ h .table ++ replicate (64 - n) 0
+    laid-counters : laid net blank h .counters ≡ h .table ++ replicate (linkRoom - n) 0
     unfolding laid
     laid-counters = ap (λ (r : List ℕ). h .table ++ r) blank-counters
 
     pub fits-laid : Fits (laid net blank h)
     fits-laid = record {
       counters =
-          ap length laid-counters ∙ length-append (h .table) (replicate (64 - n) 0)
-          ∙ omega (arith, tl, few, length-replicate {A = ℕ} (64 - n) 0);
+          ap length laid-counters ∙ length-append (h .table) (replicate (linkRoom - n) 0)
+          ∙ omega (arith, tl, few, length-replicate {A = ℕ} (linkRoom - n) 0);
       token = subst⁻¹ (λ (w : Words). w .token < 2 ^ 64) laid-words (word-fits (λ m. m .token) refl);
       turn = subst⁻¹ (λ (w : Words). w .turn < 2 ^ 64) laid-words (word-fits (λ m. m .turn) refl);
       testing = subst⁻¹ (λ (w : Words). w .testing < 2 ^ 64) laid-words (word-fits (λ m. m .testing) refl);
@@ -219,11 +221,11 @@ module _ (net : Net) where
 
     pub laid-spare : Spare (laid net blank h)
     laid-spare = record {
-      counters = ap (drop n) laid-counters ∙ drop-at (h .table) (replicate (64 - n) 0) n tl;
+      counters = ap (drop n) laid-counters ∙ drop-at (h .table) (replicate (linkRoom - n) 0) n tl;
       marks = λ t g l. ap (λ (w : Words). marksAt w t) laid-words ∙ off t g l;
     }
       where
-        off : (t : ℕ) → n ≤ t → t < 64 → marksAt (laidWords n noWords (h .marks)) t ≡ noMarks
+        off : (t : ℕ) → n ≤ t → t < linkRoom → marksAt (laidWords n noWords (h .marks)) t ≡ noMarks
         off t g l = λ i. record {
           token = word-past (λ m. m .token) refl t g l i;
           turn = word-past (λ m. m .turn) refl t g l i;
@@ -235,7 +237,7 @@ module _ (net : Net) where
     pub holding-laid : holdingOf net (laid net blank h) ≡ h
     unfolding holdingOf
     holding-laid =
-        let t = ap (take n) laid-counters ∙ take-at (h .table) (replicate (64 - n) 0) n tl in
+        let t = ap (take n) laid-counters ∙ take-at (h .table) (replicate (linkRoom - n) 0) n tl in
         let m = ap (λ (w : Words). map (marksAt w) (below n)) laid-words ∙ same in
         λ i. record { condition = same-condition i; table = t i; marks = m i }
       where

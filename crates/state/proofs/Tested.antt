@@ -15,12 +15,14 @@ use Rattle.net.specs.declared.Letter.{Letter}
 use Rattle.net.specs.declared.Net.{Net}
 use Rattle.net.specs.Letters.{letterHolds}
 use Rattle.net.specs.Values.{networkOf, linkCount}
+use Rattle.net.specs.Sizes.{stationRoom, letterRoom}
 use Rattle.sheet_rules.specs.Values.{netHolds}
 use Rattle.sheet_rules.proofs.Good.{few-places}
 use Rattle.state_rules.specs.Carried.{letterTest}
 use Rattle.state_rules.proofs.LetterTests.{letter-is, letter-past}
 use Rattle.state.specs.declared.State.{State}
-use Rattle.state.specs.State.{stationIn, letterIn, stationPlace, letterPlace, isNoLetter, stationsHold, lettersHold, stateHolds, Fits, Ends64, Sized}
+use Rattle.state.specs.State.{stationIn, letterIn, stationPlace, letterPlace, isNoLetter, stationsHold}
+use Rattle.state.specs.State.{lettersHold, stateHolds, Fits, Ends64, Sized}
 use Rattle.state.proofs.Places.{restAt}
 
 -- what holds below i, and at i, holds below i + 1
@@ -38,12 +40,12 @@ upto-none P t h = absurd (never h)
     never h = omega arith
 
 -- ---- the frame
-module _ (net : Net) (flying : ℕ) (r : Bool) (e : r ≡ (netHolds net && leb flying 4096)) (q : r ≡ true) where
+module _ (net : Net) (flying : ℕ) (r : Bool) (e : r ≡ (netHolds net && leb flying letterRoom)) (q : r ≡ true) where
   pub frame-net : T (netHolds net)
   frame-net = and-l (netHolds net) _ (is-T _ (sym e ∙ q))
 
-  pub frame-few : flying ≤ 4096
-  frame-few = leb→le flying 4096 (and-r (netHolds net) _ (is-T _ (sym e ∙ q)))
+  pub frame-few : flying ≤ letterRoom
+  frame-few = leb→le flying letterRoom (and-r (netHolds net) _ (is-T _ (sym e ∙ q)))
 
 -- ---- a letter, by the ends of its link
 pub letter-seen : (net : Net) (x : Letter) (r : Bool) (k : ℕ) → T (netHolds net) → k ≡ min (x .link) 63
@@ -87,7 +89,7 @@ word-zero l s t b e =
 
 module _ (s : State) where
   abbrev frame : Bool
-  frame = netHolds (s .net) && leb (s .flying) 4096
+  frame = netHolds (s .net) && leb (s .flying) letterRoom
 
   abbrev pub StationSeen : ℕ → Type 0
   StationSeen t = (stationPlace (s .net) t (stationIn s t) ≡ true) × Fits (stationIn s t)
@@ -106,19 +108,20 @@ module _ (s : State) where
   unfolding stateHolds
   frame-bad r e d = sym (ap (λ (b : Bool). b && (stationsHold s && lettersHold s)) (sym e ∙ d))
 
-  pub station-bad : (i : ℕ) → i < 32 → stationPlace (s .net) i (stationIn s i) ≡ false → false ≡ stateHolds s
+  pub station-bad : (i : ℕ) → i < stationRoom → stationPlace (s .net) i (stationIn s i) ≡ false → false ≡ stateHolds s
   unfolding stateHolds stationsHold
   station-bad i h d =
-      sym (ap (λ (b : Bool). frame && (b && lettersHold s)) (all-fails (λ i. stationPlace (s .net) i (stationIn s i)) 32 i h d)
+      sym (ap (λ (b : Bool). frame && (b && lettersHold s)) (all-fails (λ i. stationPlace (s .net) i (stationIn s i)) stationRoom i h d)
       ∙ and-no frame)
 
-  letters-bad : (j : ℕ) → j < 4096 → letterPlace (s .net) (s .flying) j (letterIn s j) ≡ false → false ≡ stateHolds s
+  letters-bad : (j : ℕ) → j < letterRoom → letterPlace (s .net) (s .flying) j (letterIn s j) ≡ false → false ≡ stateHolds s
   unfolding stateHolds lettersHold
   letters-bad j h d =
-      sym (ap (λ (b : Bool). frame && (stationsHold s && b)) (all-fails (λ j. letterPlace (s .net) (s .flying) j (letterIn s j)) 4096 j h d)
+      sym (ap (λ (b : Bool). frame && (stationsHold s && b))
+      (all-fails (λ j. letterPlace (s .net) (s .flying) j (letterIn s j)) letterRoom j h d)
       ∙ ap (λ (b : Bool). frame && b) (and-no (stationsHold s)) ∙ and-no frame)
 
-  pub letter-bad : (j : ℕ) → j < s .flying → s .flying ≤ 4096 → letterHolds (networkOf (s .net)) (letterIn s j) ≡ false
+  pub letter-bad : (j : ℕ) → j < s .flying → s .flying ≤ letterRoom → letterHolds (networkOf (s .net)) (letterIn s j) ≡ false
       → false ≡ stateHolds s
   letter-bad j h few d =
       letters-bad j (omega arith) (ap (λ (b : Bool). if b then letterHolds (networkOf (s .net)) (letterIn s j) else isNoLetter
@@ -138,17 +141,17 @@ module _ (s : State) where
       ∙ sym (ap (every (restAt s (s .flying))) (below-snoc j) ∙ every-append (restAt s (s .flying)) (below j) (j ∷ []))
 
   -- ---- all is seen
-  module _ (clean : Bool) (n : T frame) (f : (t : ℕ) → t < 32 → StationSeen t) (g : (t : ℕ) → t < s .flying → LetterSeen t)
-      (e : clean ≡ every (restAt s (s .flying)) (below 4096)) where
+  module _ (clean : Bool) (n : T frame) (f : (t : ℕ) → t < stationRoom → StationSeen t) (g : (t : ℕ) → t < s .flying → LetterSeen t)
+      (e : clean ≡ every (restAt s (s .flying)) (below letterRoom)) where
     rest-is : clean ≡ lettersHold s
     unfolding lettersHold
     rest-is =
-        e ∙ same-test (every (restAt s (s .flying)) (below 4096))
-        (every (λ j. letterPlace (s .net) (s .flying) j (letterIn s j)) (below 4096))
-        (λ t. at-below (λ j. letterPlace (s .net) (s .flying) j (letterIn s j)) 4096
-        (λ k h. forth k (below-at (restAt s (s .flying)) 4096 t k h) (decLt k (s .flying))))
-        (λ t. at-below (restAt s (s .flying)) 4096 (λ k h. back k
-        (below-at (λ j. letterPlace (s .net) (s .flying) j (letterIn s j)) 4096 t k h) (decLt k (s .flying))))
+        e ∙ same-test (every (restAt s (s .flying)) (below letterRoom))
+        (every (λ j. letterPlace (s .net) (s .flying) j (letterIn s j)) (below letterRoom))
+        (λ t. at-below (λ j. letterPlace (s .net) (s .flying) j (letterIn s j)) letterRoom
+        (λ k h. forth k (below-at (restAt s (s .flying)) letterRoom t k h) (decLt k (s .flying))))
+        (λ t. at-below (restAt s (s .flying)) letterRoom (λ k h. back k
+        (below-at (λ j. letterPlace (s .net) (s .flying) j (letterIn s j)) letterRoom t k h) (decLt k (s .flying))))
       where
         forth : (k : ℕ) → T (restAt s (s .flying) k) → Dec (k < s .flying) → T (letterPlace (s .net) (s .flying) k (letterIn s k))
         forth k t (yes h) =
@@ -168,11 +171,11 @@ module _ (s : State) where
 
     stations-are : stationsHold s ≡ true
     unfolding stationsHold
-    stations-are = T-is _ (at-below (λ i. stationPlace (s .net) i (stationIn s i)) 32 (λ k h. is-T _ (f k h .0)))
+    stations-are = T-is _ (at-below (λ i. stationPlace (s .net) i (stationIn s i)) stationRoom (λ k h. is-T _ (f k h .0)))
 
     pub all-seen : clean ≡ stateHolds s
     unfolding stateHolds
     all-seen = rest-is ∙ sym (ap₂ (λ (a b : Bool). a && (b && lettersHold s)) (T-is frame n) stations-are)
 
-    pub seen-sized : Ends64 (s .net) → length (s .stations) ≡ 32 → length (s .letters) ≡ 4096 → clean ≡ true → Sized s
+    pub seen-sized : Ends64 (s .net) → length (s .stations) ≡ stationRoom → length (s .letters) ≡ letterRoom → clean ≡ true → Sized s
     seen-sized n a b q = record { ends = n; stations = a; letters = b; each = λ i h. f i h .1 }

@@ -14,6 +14,7 @@ use Rattle.net.specs.declared.Letter.{Letter}
 use Rattle.net.specs.declared.Net.{Net}
 use Rattle.net.specs.Letters.{letterHolds}
 use Rattle.net.specs.Values.{networkOf, isZero}
+use Rattle.net.specs.Sizes.{stationRoom, linkRoom, letterRoom}
 use Rattle.sheet_rules.specs.Values.{netHolds}
 use Rattle.marks.specs.declared.Words.{Words}
 use Rattle.station.specs.declared.Station.{Station}
@@ -49,8 +50,8 @@ stateOf net w =
     record {
       net = net;
       flying = length (w .letters);
-      stations = roomed 32 blank (map (laid net blank) (w .holdings));
-      letters = roomed 4096 noLetter (w .letters);
+      stations = roomed stationRoom blank (map (laid net blank) (w .holdings));
+      letters = roomed letterRoom noLetter (w .letters);
     }
 
 -- ---- well formed (11)
@@ -79,18 +80,18 @@ abbrev pub letterPlace : Net → ℕ → ℕ → Letter → Bool
 letterPlace net flying j x = if ltb j flying then letterHolds (networkOf net) x else isNoLetter x
 
 unfoldable pub stationsHold : State → Bool
-stationsHold s = every (λ i. stationPlace (s .net) i (stationIn s i)) (below 32)
+stationsHold s = every (λ i. stationPlace (s .net) i (stationIn s i)) (below stationRoom)
 
 unfoldable pub lettersHold : State → Bool
-lettersHold s = every (λ j. letterPlace (s .net) (s .flying) j (letterIn s j)) (below 4096)
+lettersHold s = every (λ j. letterPlace (s .net) (s .flying) j (letterIn s j)) (below letterRoom)
 
 -- the sheet rules hold; at most 4,096 letters; each place of the stations and of the letters holds
 unfoldable pub stateHolds : State → Bool
-stateHolds s = (netHolds (s .net) && leb (s .flying) 4096) && (stationsHold s && lettersHold s)
+stateHolds s = (netHolds (s .net) && leb (s .flying) letterRoom) && (stationsHold s && lettersHold s)
 
 -- ---- what the type itself says of a value: the arrays' sizes, and the words' widths
 pub record Fits (st : Station) : Type 0 where
-  pub counters : length (st .counters) ≡ 64
+  pub counters : length (st .counters) ≡ linkRoom
   pub token : st .marks .token < 2 ^ 64
   pub turn : st .marks .turn < 2 ^ 64
   pub testing : st .marks .testing < 2 ^ 64
@@ -98,11 +99,11 @@ pub record Fits (st : Station) : Type 0 where
   pub quiet : st .marks .quiet < 2 ^ 64
 
 pub record Ends64 (net : Net) : Type 0 where
-  pub low : length (net .low) ≡ 64
-  pub high : length (net .high) ≡ 64
+  pub low : length (net .low) ≡ linkRoom
+  pub high : length (net .high) ≡ linkRoom
 
 pub record Sized (s : State) : Type 0 where
   pub ends : Ends64 (s .net)
-  pub stations : length (s .stations) ≡ 32
-  pub letters : length (s .letters) ≡ 4096
-  pub each : (i : ℕ) → i < 32 → Fits (stationIn s i)
+  pub stations : length (s .stations) ≡ stationRoom
+  pub letters : length (s .letters) ≡ letterRoom
+  pub each : (i : ℕ) → i < stationRoom → Fits (stationIn s i)

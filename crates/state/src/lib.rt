@@ -11,13 +11,20 @@ ghost use Rattle.net.specs.Values.{networkOf};
 ghost use Rattle.station.specs.Acts.{stopAct};
 ghost use Rattle.station.specs.Done.{doneBy};
 ghost use Rattle.station.specs.Holding.{nobody};
+ghost use Rattle.net.specs.Sizes.{letterRoom};
 ghost use Rattle.station.specs.Values.{laid, blank};
 ghost use Rattle.world.specs.World.{noLetter};
 ghost use Rattle.state.specs.Beginning.{begunOf};
 use marks::Words;
 use net::Body;
+use net::LETTER_ROOM;
+use net::LINK_ROOM;
 use net::Letter;
+use net::MOST_LETTERS;
+use net::MOST_LINKS;
+use net::MOST_STATIONS;
 use net::Net;
+use net::STATION_ROOM;
 use station::Condition;
 use station::Station;
 
@@ -25,8 +32,8 @@ use station::Station;
 pub struct State {
     pub net: Net,
     pub flying: u16,
-    pub stations: [Station; 32],
-    pub letters: [Letter; 4096],
+    pub stations: [Station; STATION_ROOM],
+    pub letters: [Letter; LETTER_ROOM],
 }
 
 // ---- the test
@@ -46,7 +53,7 @@ fn is_blank(st: Station) -> bool
     if !sets::both(station::is_down(condition), no_words(st.marks)) {
         return false;
     }
-    for k in 0..64u8 {
+    for k in 0..MOST_LINKS {
         let i = k as usize;
         if st.counters[i] != 0 {
             return false;
@@ -95,9 +102,9 @@ fn in_room(link: u16) -> usize
 
 // Whether the network is good and no more letters are in flight than there is room for.
 fn frame_holds(net: Net, flying: u16) -> bool
-    ensures { λ r. ⌜ r ≡ (netHolds net && leb flying 4096) ⌝ }
+    ensures { λ r. ⌜ r ≡ (netHolds net && leb flying letterRoom) ⌝ }
 {
-    sets::both(sheet_rules::keeps_sheet_rules(net), flying <= 4096)
+    sets::both(sheet_rules::keeps_sheet_rules(net), flying <= MOST_LETTERS)
 }
 
 // Whether the state is well formed. Where not, a call that is given it refuses with 11.
@@ -111,7 +118,7 @@ pub fn well_formed(s: State) -> bool
     if !frame_holds(net, flying) {
         return false;
     }
-    for i in 0..32u8 {
+    for i in 0..MOST_STATIONS {
         let at = i as usize;
         let st = s.stations[at];
         if !station_place(net, i, st) {
@@ -127,7 +134,7 @@ pub fn well_formed(s: State) -> bool
         }
     }
     let mut rest: u64 = 0;
-    for j in flying..4096u16 {
+    for j in flying..MOST_LETTERS {
         let at = j as usize;
         let x = s.letters[at];
         rest += word_of(x);
@@ -148,7 +155,7 @@ fn no_station() -> Station
 {
     Station {
         condition: Condition::Down,
-        counters: [0u16; 64],
+        counters: [0u16; LINK_ROOM],
         marks: Words {
             token: 0,
             turn: 0,
@@ -193,9 +200,9 @@ pub fn fresh(net: Net) -> Begun
     ensures { λ r. ⌜ r ≡ begunOf net ⌝ }
 {
     let nobody = no_station();
-    let mut stations = [nobody; 32];
+    let mut stations = [nobody; STATION_ROOM];
     let unused = no_letter();
-    let letters = [unused; 4096];
+    let letters = [unused; LETTER_ROOM];
     if !sheet_rules::keeps_sheet_rules(net) {
         return Begun {
             answer: 11,

@@ -17,6 +17,7 @@ use Rattle.net.specs.declared.Net.{Net}
 use Rattle.net.specs.Network.{isEnd}
 use Rattle.net.specs.Letters.{isCounter}
 use Rattle.net.specs.Values.{networkOf, linkCount, isZero}
+use Rattle.net.specs.Sizes.{linkRoom}
 use Rattle.net.proofs.ValueLaws.{links-of}
 use Rattle.reach.specs.Reach.{counterIn}
 use Rattle.reach.proofs.Tables.{counter-of}
@@ -95,25 +96,25 @@ off-foreign x m t = and-i (together m && isOff m) _ (and-i (together m) _ (rule 
     go Live = tt
 
 -- ---- room that is zero from place n on
-module _ (room : List ℕ) (n : ℕ) (size : length room ≡ 64) where
-  room-zero : T (every isZero (drop n room)) → (j : ℕ) → n ≤ j → j < 64 → T (isZero (getD room j 0))
+module _ (room : List ℕ) (n : ℕ) (size : length room ≡ linkRoom) where
+  room-zero : T (every isZero (drop n room)) → (j : ℕ) → n ≤ j → j < linkRoom → T (isZero (getD room j 0))
   room-zero t j g l =
       let i : ℕ = j - n in
       let z : T (isZero (getD (drop n room) i 0)) = every-at isZero (drop n room) i 0 t (omega (arith, length-drop n room)) in
       subst (λ (x : ℕ). T (isZero x)) (getD-drop n room i 0 ∙ ap (λ (x : ℕ). getD room x 0) (omega arith)) z
 
-  zero-room : ((j : ℕ) → n ≤ j → j < 64 → T (isZero (getD room j 0))) → T (every isZero (drop n room))
+  zero-room : ((j : ℕ) → n ≤ j → j < linkRoom → T (isZero (getD room j 0))) → T (every isZero (drop n room))
   zero-room f =
       at-every isZero (drop n room) 0 (λ i g. subst⁻¹ (λ (x : ℕ). T (isZero x)) (getD-drop n room i 0)
       (f (n + i) (omega arith) (omega (arith, g, length-drop n room))))
 
 -- the same for a test of the places themselves
-module _ (p : ℕ → Bool) (n : ℕ) (few : n ≤ 64) where
-  rest-at : T (every p (from n (64 - n))) → (j : ℕ) → n ≤ j → j < 64 → T (p j)
-  rest-at t j g l = subst (λ (x : ℕ). T (p x)) (omega arith) (every-from p (64 - n) n t (j - n) (omega arith))
+module _ (p : ℕ → Bool) (n : ℕ) (few : n ≤ linkRoom) where
+  rest-at : T (every p (from n (linkRoom - n))) → (j : ℕ) → n ≤ j → j < linkRoom → T (p j)
+  rest-at t j g l = subst (λ (x : ℕ). T (p x)) (omega arith) (every-from p (linkRoom - n) n t (j - n) (omega arith))
 
-  at-rest : ((j : ℕ) → n ≤ j → j < 64 → T (p j)) → T (every p (from n (64 - n)))
-  at-rest f = from-every p (64 - n) n (λ k h. f (n + k) (omega arith) (omega arith))
+  at-rest : ((j : ℕ) → n ≤ j → j < linkRoom → T (p j)) → T (every p (from n (linkRoom - n)))
+  at-rest f = from-every p (linkRoom - n) n (λ k h. f (n + k) (omega arith) (omega arith))
 
 -- ---- a station
 module _ (net : Net) (s : ℕ) (st : Station) where
@@ -129,7 +130,7 @@ module _ (net : Net) (s : ℕ) (st : Station) where
   abbrev ownCounter : ℕ → Bool
   ownCounter t = counterPlace (linkCount net) (isLive (st .condition)) t
 
-  module _ (size : length (st .counters) ≡ 64) where
+  module _ (size : length (st .counters) ≡ linkRoom) where
     slot-is : (k : ℕ) → k < linkCount net
         → slotHolds (holdingOf net st .condition) (isEnd (networkOf net) k s) (counter (holdingOf net st) k) (mark (holdingOf net st) k)
         ≡ slotHolds (st .condition) (isEnd (networkOf net) k s) (getD (st .counters) k 0) (marksAt (st .marks) k)
@@ -153,14 +154,14 @@ module _ (net : Net) (s : ℕ) (st : Station) where
     counter-past : (k : ℕ) → linkCount net ≤ k → ownCounter k ≡ isZero (getD (st .counters) k 0)
     counter-past k h = ap (λ (b : Bool). counterTest b (isLive (st .condition)) (getD (st .counters) k 0)) (le-ltb k (linkCount net) h)
 
-    few : linkCount net ≤ 64
+    few : linkCount net ≤ linkRoom
     few = omega arith
 
     abbrev zeroes : Bool
     zeroes = every isZero (drop (linkCount net) (st .counters))
 
     abbrev offs : Bool
-    offs = every (λ t. isOff (marksAt (st .marks) t)) (from (linkCount net) (64 - linkCount net))
+    offs = every (λ t. isOff (marksAt (st .marks) t)) (from (linkCount net) (linkRoom - linkCount net))
 
     forth : T (everyPlace ownMarks) → T (everyPlace ownCounter) → T (stationFormed net s st)
     unfolding stationFormed
@@ -203,14 +204,14 @@ module _ (net : Net) (s : ℕ) (st : Station) where
             slot-split (isEnd (networkOf net) k s) (getD (st .counters) k 0) (marksAt (st .marks) k) (st .condition)
             (subst T (slot-is k h) (f .slots k (subst⁻¹ (λ (n : ℕ). k < n) (links-of net) h)))
 
-        marks : (k : ℕ) → k < 64 → Formed (networkOf net) s (holdingOf net st) → T offs → Dec (k < linkCount net) → T (ownMarks k)
+        marks : (k : ℕ) → k < linkRoom → Formed (networkOf net) s (holdingOf net st) → T offs → Dec (k < linkCount net) → T (ownMarks k)
         marks k l f o (yes h) = subst⁻¹ T (own-there k h) (both k h f .0)
         marks k l f o (no h) =
             let g : linkCount net ≤ k = omega arith in
             subst⁻¹ T (own-past k g) (off-foreign (st .condition) (marksAt (st .marks) k)
             (rest-at (λ t. isOff (marksAt (st .marks) t)) (linkCount net) few o k g l))
 
-        count : (k : ℕ) → k < 64 → Formed (networkOf net) s (holdingOf net st) → T zeroes → Dec (k < linkCount net) → T (ownCounter k)
+        count : (k : ℕ) → k < linkRoom → Formed (networkOf net) s (holdingOf net st) → T zeroes → Dec (k < linkCount net) → T (ownCounter k)
         count k l f z (yes h) = subst⁻¹ T (counter-there k h) (both k h f .1)
         count k l f z (no h) =
             let g : linkCount net ≤ k = omega arith in
@@ -233,18 +234,18 @@ module _ (net : Net) (s : ℕ) (st : Station) where
       mismarked q = ap (λ (b : Bool). b && everyPlace ownCounter) (sym q ∙ marks-read) ∙ parts
 
       module _ (m : ℕ) (live : Bool) (em : m ≡ linkCount net) (el : live ≡ isLive (st .condition)) where
-        pub miscounted : (k : ℕ) → k < 64 → counterPlace m live k ≡ false → false ≡ stationFormed net s st
+        pub miscounted : (k : ℕ) → k < linkRoom → counterPlace m live k ≡ false → false ≡ stationFormed net s st
         unfolding everyPlace
         miscounted k h q =
             sym (and-no (everyPlace ownMarks))
             ∙ ap (λ (b : Bool). everyPlace ownMarks && b)
-            (sym (all-fails ownCounter 64 k h (ap₂ (λ (n : ℕ) (b : Bool). counterPlace n b k) (sym em) (sym el) ∙ q)))
+            (sym (all-fails ownCounter linkRoom k h (ap₂ (λ (n : ℕ) (b : Bool). counterPlace n b k) (sym em) (sym el) ∙ q)))
             ∙ parts
 
-        pub well-formed : (k : ℕ) → k ≡ 64 → r ≡ true → every (counterPlace m live) (below k) ≡ true → true ≡ stationFormed net s st
+        pub well-formed : (k : ℕ) → k ≡ linkRoom → r ≡ true → every (counterPlace m live) (below k) ≡ true → true ≡ stationFormed net s st
         unfolding everyPlace
         well-formed k n q c =
             ap₂ (λ (a b : Bool). a && b) (sym q ∙ marks-read)
             (sym c ∙ ap (λ (x : ℕ). every (counterPlace m live) (below x)) n
-            ∙ ap₂ (λ (n : ℕ) (b : Bool). every (counterPlace n b) (below 64)) em el)
+            ∙ ap₂ (λ (n : ℕ) (b : Bool). every (counterPlace n b) (below linkRoom)) em el)
             ∙ parts

@@ -10,17 +10,18 @@ use Rattle.lists.proofs.Numbers.{below-at, at-below}
 use Rattle.lists.proofs.Words.{zero-is-out, none-in}
 use Rattle.sets.specs.Sets.{wordBy}
 use Rattle.sets.proofs.WordLaws.{in-by, by-ext}
+use Rattle.net.specs.Sizes.{linkRoom}
 use Rattle.state_rules.specs.Steps.{everyPlace}
 
-pub place-at : (p : ℕ → Bool) → T (everyPlace p) → (k : ℕ) → k < 64 → T (p k)
+pub place-at : (p : ℕ → Bool) → T (everyPlace p) → (k : ℕ) → k < linkRoom → T (p k)
 unfolding everyPlace
-place-at p t k h = below-at p 64 t k h
+place-at p t k h = below-at p linkRoom t k h
 
-pub at-place : (p : ℕ → Bool) → ((k : ℕ) → k < 64 → T (p k)) → T (everyPlace p)
+pub at-place : (p : ℕ → Bool) → ((k : ℕ) → k < linkRoom → T (p k)) → T (everyPlace p)
 unfolding everyPlace
-at-place p f = at-below p 64 f
+at-place p f = at-below p linkRoom f
 
-pub places-same : (p q : ℕ → Bool) → ((k : ℕ) → k < 64 → p k ≡ q k) → everyPlace p ≡ everyPlace q
+pub places-same : (p q : ℕ → Bool) → ((k : ℕ) → k < linkRoom → p k ≡ q k) → everyPlace p ≡ everyPlace q
 places-same p q e =
     same-test (everyPlace p) (everyPlace q) (λ t. at-place q (λ k h. subst T (e k h) (place-at p t k h)))
     (λ t. at-place p (λ k h. subst⁻¹ T (e k h) (place-at q t k h)))
@@ -53,7 +54,7 @@ same-none true = refl
 same-none false = refl
 
 -- what is in a word that a test made
-pub in-of : (w : ℕ) (f : ℕ → Bool) → w ≡ wordBy f → (t : ℕ) → t < 64 → inWord w t ≡ f t
+pub in-of : (w : ℕ) (f : ℕ → Bool) → w ≡ wordBy f → (t : ℕ) → t < linkRoom → inWord w t ≡ f t
 in-of w f e t h = ap (λ (x : ℕ). inWord x t) e ∙ in-by f t h
 
 pub word-places : (w a : ℕ) (f : ℕ → Bool) → w ≡ wordBy f → a < 2 ^ 64 → eqb w a ≡ everyPlace (λ t. same (f t) (inWord a t))

@@ -5,6 +5,7 @@ use lib.ListN.{drop}
 use Rattle.lists.specs.Lists.{every, from}
 use Rattle.net.specs.declared.Net.{Net}
 use Rattle.net.specs.Values.{networkOf, linkCount, isZero}
+use Rattle.net.specs.Sizes.{linkRoom}
 use Rattle.marks.specs.Marks.{marksAt}
 use Rattle.station.specs.declared.Station.{Station}
 use Rattle.station.specs.Holding.{holdingHolds, isOff}
@@ -15,4 +16,4 @@ unfoldable pub stationFormed : Net → ℕ → Station → Bool
 stationFormed net s st =
     holdingHolds (networkOf net) s (holdingOf net st)
     && every isZero (drop (linkCount net) (st .counters))
-    && every (λ t. isOff (marksAt (st .marks) t)) (from (linkCount net) (64 - linkCount net))
+    && every (λ t. isOff (marksAt (st .marks) t)) (from (linkCount net) (linkRoom - linkCount net))

@@ -5,6 +5,7 @@ use lib.Dec.{eqb}
 use Rattle.lists.specs.Lists.{if_then_else_, every, below}
 use Rattle.net.specs.Letters.{isCounter}
 use Rattle.net.specs.Values.{isZero}
+use Rattle.net.specs.Sizes.{linkRoom}
 use Rattle.marks.specs.declared.Marks.{Marks}
 use Rattle.station.specs.declared.Condition.{Condition}
 use Rattle.station.specs.declared.Condition.the-variants.{Down, Waiting, Live}
@@ -12,7 +13,7 @@ use Rattle.station.specs.Holding.{implies, together, isOff, isTokenAlone}
 
 -- the test passes at each of the 64 places
 unfoldable pub everyPlace : (ℕ → Bool) → Bool
-everyPlace p = every p (below 64)
+everyPlace p = every p (below linkRoom)
 
 -- a place of the counters: 1 at a station that isn't live; 0 where there is no link
 abbrev pub counterTest : Bool → Bool → ℕ → Bool

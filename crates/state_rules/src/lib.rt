@@ -14,6 +14,7 @@ ghost use Rattle.net.specs.Letters.{isCounter};
 ghost use Rattle.state_rules.specs.Carried.{letterTest};
 use marks::Words;
 use net::Letter;
+use net::MOST_LINKS;
 use net::Net;
 use station::Condition;
 use station::Station;
@@ -102,7 +103,7 @@ pub fn station_formed(net: Net, s: u8, st: Station) -> bool
     }
     let m = sets::at_most_64(net.links);
     let live = station::is_live(condition);
-    for k in 0..64u8 {
+    for k in 0..MOST_LINKS {
         let i = k as usize;
         if !counter_formed(k < m, live, st.counters[i]) {
             return false;

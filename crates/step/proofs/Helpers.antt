@@ -8,21 +8,31 @@ use borrow.Author.Tests.{eq-eqb, ne-eqb, lt-ltb, le-ltb, not-true, not-false}
 use Rattle.lists.specs.Lists.{if_then_else_}
 use Rattle.lists.proofs.Tests.{if-elim}
 use Rattle.net.specs.declared.Letter.{Letter}
+use Rattle.net.specs.Sizes.{stationRoom, letterRoom}
+use Rattle.station.specs.declared.Kind.{Kind}
 use Rattle.world.specs.World.{noLetter}
 use Rattle.sets.specs.Rooms.{inRoom}
 use Rattle.step.specs.Parts.{placeBy, fewerBy, numberBy}
 
-pub place-there : (a : ℕ) → a < 4096 → a ≡ placeBy a
-place-there a h = sym (ap (λ (b : Bool). if b then a else 0) (lt-ltb a 4096 h))
+-- what is said of the kind that the code decoded holds of the kind that it is
+pub by-kind : {A : Type 0} (f : Kind → A) {x : A} {e e′ : Kind} → x ≡ f e → e ≡ e′ → x ≡ f e′
+by-kind f p q = p ∙ ap f q
 
-pub place-past : (a : ℕ) → 4096 ≤ a → 0 ≡ placeBy a
-place-past a h = sym (ap (λ (b : Bool). if b then a else 0) (le-ltb a 4096 h))
+pub place-there : (a : ℕ) → a < letterRoom → a ≡ placeBy a
+place-there a h = sym (ap (λ (b : Bool). if b then a else 0) (lt-ltb a letterRoom h))
 
-pub place-few : (a r : ℕ) → r ≡ placeBy a → r < 4096
-place-few a r e = subst⁻¹ (λ (n : ℕ). n < 4096) e (if-elim (λ (n : ℕ). n < 4096) (ltb a 4096) (λ t. ltb→lt a 4096 t) (λ t. omega arith))
+pub place-past : (a : ℕ) → letterRoom ≤ a → 0 ≡ placeBy a
+place-past a h = sym (ap (λ (b : Bool). if b then a else 0) (le-ltb a letterRoom h))
 
-pub room-few : (n r : ℕ) → r ≡ inRoom n → r < 32
-room-few n r e = subst⁻¹ (λ (n : ℕ). n < 32) e (if-elim (λ (n : ℕ). n < 32) (ltb n 32) (λ t. ltb→lt n 32 t) (λ t. omega arith))
+pub place-few : (a r : ℕ) → r ≡ placeBy a → r < letterRoom
+place-few a r e =
+    subst⁻¹ (λ (n : ℕ). n < letterRoom) e
+    (if-elim (λ (n : ℕ). n < letterRoom) (ltb a letterRoom) (λ t. ltb→lt a letterRoom t) (λ t. omega arith))
+
+pub room-few : (n r : ℕ) → r ≡ inRoom n → r < stationRoom
+room-few n r e =
+    subst⁻¹ (λ (n : ℕ). n < stationRoom) e
+    (if-elim (λ (n : ℕ). n < stationRoom) (ltb n stationRoom) (λ t. ltb→lt n stationRoom t) (λ t. omega arith))
 
 module _ (leaves : Bool) where
   pub left-all : (n : ℕ) → leaves ≡ false → n ≡ fewerBy leaves n
@@ -36,14 +46,14 @@ module _ (leaves : Bool) where
 
 module _ (planned left count : ℕ) where
   pub number-planned : (planned ≡ 0 → ⊥) → planned ≡ numberBy planned left count
-  number-planned n = sym (ap (λ (b : Bool). if b then (if ltb 4096 (left + count) then 9 else 0) else planned) (ne-eqb planned 0 n))
+  number-planned n = sym (ap (λ (b : Bool). if b then (if ltb letterRoom (left + count) then 9 else 0) else planned) (ne-eqb planned 0 n))
 
-  pub number-nine : planned ≡ 0 → 4096 < left + count → 9 ≡ numberBy planned left count
+  pub number-nine : planned ≡ 0 → letterRoom < left + count → 9 ≡ numberBy planned left count
   number-nine e h =
-      sym (ap (λ (b : Bool). if b then (if ltb 4096 (left + count) then 9 else 0) else planned) (eq-eqb planned 0 e)
-      ∙ ap (λ (b : Bool). if b then 9 else 0) (lt-ltb 4096 (left + count) h))
+      sym (ap (λ (b : Bool). if b then (if ltb letterRoom (left + count) then 9 else 0) else planned) (eq-eqb planned 0 e)
+      ∙ ap (λ (b : Bool). if b then 9 else 0) (lt-ltb letterRoom (left + count) h))
 
-  pub number-none : planned ≡ 0 → left + count ≤ 4096 → 0 ≡ numberBy planned left count
+  pub number-none : planned ≡ 0 → left + count ≤ letterRoom → 0 ≡ numberBy planned left count
   number-none e h =
-      sym (ap (λ (b : Bool). if b then (if ltb 4096 (left + count) then 9 else 0) else planned) (eq-eqb planned 0 e)
-      ∙ ap (λ (b : Bool). if b then 9 else 0) (le-ltb 4096 (left + count) h))
+      sym (ap (λ (b : Bool). if b then (if ltb letterRoom (left + count) then 9 else 0) else planned) (eq-eqb planned 0 e)
+      ∙ ap (λ (b : Bool). if b then 9 else 0) (le-ltb letterRoom (left + count) h))

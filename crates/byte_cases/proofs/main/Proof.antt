@@ -14,39 +14,30 @@ Inv-loop buf₀ left₀ buf left = 70000 ≡ length buf
 abbrev μ-loop : tie.MeasureT-loop
 μ-loop buf₀ left₀ buf left = left
 
--- src/main.rt:310:19
 case-room-requires : tie.Need-case-room-requires Inv-loop μ-loop
 case-room-requires c κs = search needs
 
--- src/main.rt:312:5
 loop-holds : tie.Need-loop-holds Inv-loop μ-loop
 loop-holds c = search needs
 
--- src/main.rt:313:22
 slice-aggregate-run-next : tie.Need-slice-aggregate-run-next Inv-loop μ-loop
 slice-aggregate-run-next c = search needs
 
--- src/main.rt:313:13
 run-next-requires : tie.Need-run-next-requires Inv-loop μ-loop
 run-next-requires c κs = search needs
 
--- src/main.rt:314:13
 returns : tie.Need-returns Inv-loop μ-loop
 returns c = search needs
 
--- src/main.rt:316:9
 sub-left : tie.Need-sub-left Inv-loop μ-loop
 sub-left c = search needs
 
--- src/main.rt:312:5
 loop-less : tie.Need-loop-less Inv-loop μ-loop
 loop-less c = search needs
 
--- src/main.rt:312:5
 loop-again : tie.Need-loop-again Inv-loop μ-loop
 loop-again c = search needs
 
--- src/main.rt:309:1
 returns-2 : tie.Need-returns-2 Inv-loop μ-loop
 returns-2 c = search needs
 

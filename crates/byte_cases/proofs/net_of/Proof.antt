@@ -1,65 +1,53 @@
 use Prim.Native.Nat.{_≤_, _-_}
 use borrow.Author.Needs.{needs}
+use Rattle.net.specs.Sizes.{linkRoom}
 use Rattle.byte_cases.proofs.net_of.Statement.{statement}
 use Rattle.byte_cases.proofs.net_of.Tie as tie
 use Rattle.byte_cases.proofs.net_of.Reads as reads
 use Rattle.byte_cases.proofs.net_of.Lts as lts
 
 abbrev Inv-loop : tie.InvT-loop
-Inv-loop case low₀ high₀ i₀ low high i = i ≤ 64
+Inv-loop case low₀ high₀ i₀ low high i = i ≤ linkRoom
 
 abbrev μ-loop : tie.MeasureT-loop
-μ-loop case low₀ high₀ i₀ low high i = 64 - i
+μ-loop case low₀ high₀ i₀ low high i = linkRoom - i
 
--- src/main.rt:113:5
 loop-holds : tie.Need-loop-holds Inv-loop μ-loop
 loop-holds c = search needs
 
--- src/main.rt:114:23
 add-low : tie.Need-add-low Inv-loop μ-loop
 add-low c = search needs
 
--- src/main.rt:114:18
 shared-slice-read-low : tie.Need-shared-slice-read-low Inv-loop μ-loop
 shared-slice-read-low c = search needs
 
--- src/main.rt:114:9
 array-write-low : tie.Need-array-write-low Inv-loop μ-loop
 array-write-low c = search needs
 
--- src/main.rt:115:24
 add-high : tie.Need-add-high Inv-loop μ-loop
 add-high c = search needs
 
--- src/main.rt:115:19
 shared-slice-read-high : tie.Need-shared-slice-read-high Inv-loop μ-loop
 shared-slice-read-high c = search needs
 
--- src/main.rt:115:9
 array-write-high : tie.Need-array-write-high Inv-loop μ-loop
 array-write-high c = search needs
 
--- src/main.rt:113:9
 add-i : tie.Need-add-i Inv-loop μ-loop
 add-i c = search needs
 
--- src/main.rt:113:5
 loop-less : tie.Need-loop-less Inv-loop μ-loop
 loop-less c = search needs
 
--- src/main.rt:113:5
 loop-again : tie.Need-loop-again Inv-loop μ-loop
 loop-again c = search needs
 
--- src/main.rt:118:19
 shared-slice-read-t15 : tie.Need-shared-slice-read-t15 Inv-loop μ-loop
 shared-slice-read-t15 c = search needs
 
--- src/main.rt:119:16
 shared-slice-read-t17 : tie.Need-shared-slice-read-t17 Inv-loop μ-loop
 shared-slice-read-t17 c = search needs
 
--- src/main.rt:108:1
 returns : tie.Need-returns Inv-loop μ-loop
 returns c = search needs
 

@@ -1,5 +1,6 @@
 use Prim.Native.Nat.{_≤_, _-_}
 use borrow.Author.Needs.{needs}
+use Rattle.net.specs.Sizes.{linkRoom}
 use Rattle.byte_cases.proofs.print_net.Statement.{statement}
 use Rattle.byte_cases.proofs.print_net.Tie as tie
 use Rattle.byte_cases.proofs.print_net.Reads as reads
@@ -8,56 +9,44 @@ use Rattle.byte_cases.proofs.is_shown.Reads as is-shown-reads
 use Rattle.byte_cases.proofs.print_byte.Reads as print-byte-reads
 
 abbrev Inv-loop : tie.InvT-loop
-Inv-loop net i₀ i = i ≤ 64
+Inv-loop net i₀ i = i ≤ linkRoom
 
 abbrev μ-loop : tie.MeasureT-loop
-μ-loop net i₀ i = 64 - i
+μ-loop net i₀ i = linkRoom - i
 
--- src/main.rt:89:5
 print-byte-requires : tie.Need-print-byte-requires Inv-loop μ-loop
 print-byte-requires c κs = search needs
 
--- src/main.rt:90:5
 print-byte-requires-2 : tie.Need-print-byte-requires-2 Inv-loop μ-loop
 print-byte-requires-2 c κs = search needs
 
--- src/main.rt:91:5
 loop-holds : tie.Need-loop-holds Inv-loop μ-loop
 loop-holds c = search needs
 
--- src/main.rt:92:19
 element-copy-out-low : tie.Need-element-copy-out-low Inv-loop μ-loop
 element-copy-out-low c = search needs
 
--- src/main.rt:93:20
 element-copy-out-high : tie.Need-element-copy-out-high Inv-loop μ-loop
 element-copy-out-high c = search needs
 
--- src/main.rt:94:12
 is-shown-requires : tie.Need-is-shown-requires Inv-loop μ-loop
 is-shown-requires c κs = search needs
 
--- src/main.rt:95:13
 print-byte-requires-3 : tie.Need-print-byte-requires-3 Inv-loop μ-loop
 print-byte-requires-3 c κs = search needs
 
--- src/main.rt:96:13
 print-byte-requires-4 : tie.Need-print-byte-requires-4 Inv-loop μ-loop
 print-byte-requires-4 c κs = search needs
 
--- src/main.rt:91:9
 add-i : tie.Need-add-i Inv-loop μ-loop
 add-i c = search needs
 
--- src/main.rt:91:5
 loop-less : tie.Need-loop-less Inv-loop μ-loop
 loop-less c = search needs
 
--- src/main.rt:91:5
 loop-again : tie.Need-loop-again Inv-loop μ-loop
 loop-again c = search needs
 
--- src/main.rt:88:1
 returns : tie.Need-returns Inv-loop μ-loop
 returns c = search needs
 

@@ -10,77 +10,58 @@ use Rattle.byte_cases.proofs.run_in.Reads as run-in-reads
 use Rattle.byte_cases.proofs.wide.Reads as wide-reads
 use Rattle.io.proofs.read_full.Reads as read-full-reads
 
--- src/main.rt:303:25
+abbrev begun : tie.After-long → tie.Start
+begun c = c .before .before .before .before .before .before
+
 slice-aggregate-read-full : tie.Need-slice-aggregate-read-full
 slice-aggregate-read-full c = search needs
 
--- src/main.rt:303:8
 read-full-requires : tie.Need-read-full-requires
 read-full-requires c κs = search needs
 
--- src/main.rt:304:9
 returns : tie.Need-returns
 returns c = search needs
 
--- src/main.rt:306:21
 array-read-long : tie.Need-array-read-long
 array-read-long c = search needs
 
--- src/main.rt:306:30
 array-read-long-2 : tie.Need-array-read-long-2
 array-read-long-2 c = search needs
 
--- src/main.rt:306:39
 array-read-long-3 : tie.Need-array-read-long-3
 array-read-long-3 c = search needs
 
--- src/main.rt:306:9
 long-requires : tie.Need-long-requires
 long-requires c κs = search needs
 
--- src/main.rt:308:9
 returns-2 : tie.Need-returns-2
 returns-2 c = search needs
 
--- src/main.rt:310:12
 array-read-run-in : tie.Need-array-read-run-in
 array-read-run-in c = search needs
 
--- src/main.rt:310:26
 array-read-wide : tie.Need-array-read-wide
 array-read-wide c = search needs
 
--- src/main.rt:310:35
 array-read-wide-2 : tie.Need-array-read-wide-2
 array-read-wide-2 c = search needs
 
--- src/main.rt:310:21
 wide-requires : tie.Need-wide-requires
 wide-requires c κs = search needs
 
--- src/main.rt:310:45
 slice-relend-prefix-run-in : tie.Need-slice-relend-prefix-run-in
 slice-relend-prefix-run-in c = search needs
 
--- src/main.rt:310:45
 slice-aggregate-run-in : tie.Need-slice-aggregate-run-in
 slice-aggregate-run-in c =
-    omega (
-      arith,
-      length-take (c .before .before .before .long .result)
-          (c .before .before .before .before .before .before .before .before .before .args .buf .now),
-      c .before .before .if2 .left,
-    )
+    let n = c .before .before .before in omega (arith, length-take (n .long .result) (begun n .args .buf .now), c .before .before .if2 .left)
 
--- src/main.rt:310:5
 run-in-requires : tie.Need-run-in-requires
 run-in-requires c κs = search needs
 
--- src/main.rt:301:1
 same-length : tie.Need-same-length
 same-length c = search needs
 
--- src/main.rt:301:1
 returns-3 : tie.Need-returns-3
 returns-3 c = search needs
 

@@ -1,5 +1,6 @@
 use denote.Ref.{now}
-use Rattle.letters.proofs.Steps.{form-33, form-request, form-34, form-reply, form-other, form-35, form-notice}
+use Rattle.letters.proofs.Steps.{form-request-size, form-request, form-reply-size, form-reply}
+use Rattle.letters.proofs.Steps.{form-other, form-notice-size, form-notice}
 use borrow.Author.Needs.{needs}
 use Rattle.letters.proofs.form_of.Statement.{statement}
 use Rattle.letters.proofs.form_of.Tie as tie
@@ -7,9 +8,12 @@ use Rattle.letters.proofs.form_of.Reads as reads
 use Rattle.letters.proofs.form_of.Lts as lts
 use Rattle.fields.proofs.two_bytes.Reads as two-bytes-reads
 
+abbrev begun : tie.Else6 → tie.Start
+begun c = c .before .before .before .before .before
+
 returns : tie.Need-returns
 returns c =
-    let a = c .before .before .before .args in form-33 (now (a .bytes)) (a .tag) (a .n) (c .before .before .before .pre)
+    let a = c .before .before .before .args in form-request-size (now (a .bytes)) (a .tag) (a .n) (c .before .before .before .pre)
     (c .before .if1 .taken) (c .if2 .taken)
 
 returns-2 : tie.Need-returns-2
@@ -19,8 +23,8 @@ returns-2 c =
 
 returns-3 : tie.Need-returns-3
 returns-3 c =
-    let a = c .before .before .before .before .args in form-34 (now (a .bytes)) (a .tag) (a .n) (c .before .before .before .before .pre)
-    (c .before .if3 .taken) (c .if4 .taken)
+    let a = c .before .before .before .before .args in
+    form-reply-size (now (a .bytes)) (a .tag) (a .n) (c .before .before .before .before .pre) (c .before .if3 .taken) (c .if4 .taken)
 
 shared-slice-read-two-bytes : tie.Need-shared-slice-read-two-bytes
 shared-slice-read-two-bytes c = search needs
@@ -44,7 +48,7 @@ returns-5 c =
 
 returns-6 : tie.Need-returns-6
 returns-6 c =
-    let a = c .before .before .before .before .before .args in form-35 (now (a .bytes)) (a .tag) (a .n)
+    let a = c .before .before .before .before .before .args in form-notice-size (now (a .bytes)) (a .tag) (a .n)
     (c .before .before .before .before .before .pre) (c .before .before .before .if1 .left) (c .before .before .if3 .left) (c .if6 .taken)
 
 shared-slice-read-two-bytes-3 : tie.Need-shared-slice-read-two-bytes-3
@@ -61,8 +65,8 @@ shared-slice-read-t16 c = search needs
 
 returns-7 : tie.Need-returns-7
 returns-7 c =
-    let a = c .before .before .before .before .before .before .before .before .before .args in form-notice (now (a .bytes)) (a .tag) (a .n)
-    (c .before .before .before .before .before .before .before .before .before .pre) _
+    let s = begun (c .before .before .before .before) in
+    form-notice (now (s .args .bytes)) (s .args .tag) (s .args .n) (s .pre) _
     (c .before .before .before .before .before .before .before .if1 .left) (c .before .before .before .before .before .before .if3 .left)
     (c .before .before .before .before .before .if5 .left) (c .before .before .before .before .if6 .left) (c .before .two-bytes2 .ensures)
 

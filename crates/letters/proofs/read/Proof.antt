@@ -1,8 +1,12 @@
-use mathlib.Core.Path.{sym, _∙_}
+use mathlib.Core.Bool.{true}
+use mathlib.Core.Path.{_≡_, ap, sym, _∙_}
 use native.Mathlib.Omega.{arith}
 use denote.Ref.{now}
-use Rattle.fields.proofs.Seen.{short-seen, whole-seen}
-use Rattle.letters.proofs.Against.{read-bad, read-short, read-unknown, read-room, read-range, read-more, place-inside, read-good}
+use Rattle.sheet_rules.specs.Values.{netHolds}
+use Rattle.fields.proofs.Seen.{Seen, short-seen, whole-seen}
+use Rattle.letters.specs.Steps.{formIn}
+use Rattle.letters.proofs.Against.{Formed, good-seen, read-bad, read-short, read-unknown, read-room}
+use Rattle.letters.proofs.Against.{read-range, values-seen, read-more, place-inside, read-good}
 use borrow.Author.Needs.{needs}
 use Rattle.letters.proofs.read.Statement.{statement}
 use Rattle.letters.proofs.read.Tie as tie
@@ -13,6 +17,32 @@ use Rattle.letters.proofs.form_of.Reads as form-of-reads
 use Rattle.letters.proofs.sender_of.Reads as sender-of-reads
 use Rattle.letters.proofs.values_hold.Reads as values-hold-reads
 use Rattle.sheet_rules.proofs.keeps_sheet_rules.Reads as keeps-sheet-rules-reads
+
+-- ---- the facts along the function: where it began, and what is known of the bytes there
+abbrev begun : tie.After-cut-first → tie.Start
+begun c = c .before .before .before .before
+
+good : (c : tie.Else1) → netHolds (c .before .before .before .args .t1) ≡ true
+good c = good-seen _ _ (c .before .keeps-sheet-rules .ensures) (c .if1 .left)
+
+abbrev cut : tie.After-tag → tie.After-cut-first
+cut c = c .before .before
+
+front : (c : tie.After-tag) → Seen (now (begun (cut c) .args .bytes)) (c .tag .given .0 .0) (c .tag .given .0 .1 .0)
+front c = whole-seen (now (begun (cut c) .args .bytes)) _ _ (sym (c .tag .given .1) ∙ cut c .cut-first .ensures)
+
+abbrev read-tag : tie.After-form-of → tie.After-tag
+read-tag c = c .before .before
+
+formed : (c : tie.After-body)
+    → Formed (begun (cut (read-tag (c .before .before))) .args .t1) (now (begun (cut (read-tag (c .before .before))) .args .bytes))
+    (read-tag (c .before .before) .tag .given .0 .0) (read-tag (c .before .before) .tag .given .0 .1 .0) (c .body .given .0 .0)
+formed c =
+    let t = read-tag (c .before .before) in
+    record { good = good (cut t .before); cut = front t; form = sym (c .before .before .form-of .ensures) ∙ ap formIn (c .body .given .1) }
+
+abbrev said : tie.After-values-hold → tie.After-body
+said c = c .before .before .before .before
 
 keeps-sheet-rules-requires : tie.Need-keeps-sheet-rules-requires
 keeps-sheet-rules-requires c κs = search needs
@@ -32,15 +62,12 @@ enum-told c = search needs
 
 returns-2 : tie.Need-returns-2
 returns-2 c =
-    let a = c .before .before .before .before .before .before .args in
-    let b = now (a .bytes) in
-    read-short (a .t1) b _ (c .before .before .before .before .keeps-sheet-rules .ensures) (c .before .before .before .if1 .left)
+    let b = now (begun (c .before .before) .args .bytes) in
+    read-short (begun (c .before .before) .args .t1) b (good (c .before .before .before))
     (short-seen b (sym (c .enum-told .given .1) ∙ c .before .before .cut-first .ensures))
 
 form-of-requires : tie.Need-form-of-requires
-form-of-requires c κs =
-    let b = now (c .before .before .before .before .before .before .before .args .bytes) in
-    whole-seen b _ _ (sym (c .before .tag .given .1) ∙ c .before .before .before .cut-first .ensures) .fits
+form-of-requires c κs = front (c .before) .fits
 
 enum-known-body : tie.Need-enum-known-body
 enum-known-body c = search needs
@@ -50,86 +77,42 @@ enum-told-2 c = search needs
 
 returns-3 : tie.Need-returns-3
 returns-3 c =
-    let a = c .before .before .before .before .before .before .before .before .before .before .args in
-    let b = now (a .bytes) in
-    read-unknown (a .t1) b _ (c .before .before .before .before .before .before .before .before .keeps-sheet-rules .ensures)
-    (c .before .before .before .before .before .before .before .if1 .left) _ _
-    (whole-seen b _ _ (sym (c .before .before .before .before .tag .given .1)
-    ∙ c .before .before .before .before .before .before .cut-first .ensures)) _ (c .before .before .form-of .ensures)
+    let t = read-tag (c .before .before) in
+    let a = begun (cut t) .args in
+    read-unknown (a .t1) (now (a .bytes)) (good (cut t .before)) _ _ (front t) _ (c .before .before .form-of .ensures)
     (c .enum-told2 .given .1)
 
 shared-slice-read-link : tie.Need-shared-slice-read-link
-shared-slice-read-link c =
-    let a = c .before .before .before .before .before .before .before .before .before .before .before .before .args in
-    let b = now (a .bytes) in
-    omega (
-      arith,
-      read-room (a .t1) b _
-          (c .before .before .before .before .before .before .before .before .before .before .keeps-sheet-rules .ensures)
-          (c .before .before .before .before .before .before .before .before .before .if1 .left) _ _
-          (whole-seen b _ _ (sym (c .before .before .before .before .before .before .tag .given .1)
-          ∙ c .before .before .before .before .before .before .before .before .cut-first .ensures)) _
-          (c .before .before .before .before .form-of .ensures) _ (c .before .before .body .given .1),
-    )
+shared-slice-read-link c = omega (arith, read-room (formed (c .before .before)))
 
 shared-slice-read-side : tie.Need-shared-slice-read-side
-shared-slice-read-side c =
-    let a = c .before .before .before .before .before .before .before .before .before .before .before .before .before .args in
-    let b = now (a .bytes) in
-    omega (
-      arith,
-      read-room (a .t1) b _
-          (c .before .before .before .before .before .before .before .before .before .before .before .keeps-sheet-rules .ensures)
-          (c .before .before .before .before .before .before .before .before .before .before .if1 .left) _ _
-          (whole-seen b _ _ (sym (c .before .before .before .before .before .before .before .tag .given .1)
-          ∙ c .before .before .before .before .before .before .before .before .before .cut-first .ensures)) _
-          (c .before .before .before .before .before .form-of .ensures) _ (c .before .before .before .body .given .1),
-    )
+shared-slice-read-side c = omega (arith, read-room (formed (c .before .before .before)))
 
 values-hold-requires : tie.Need-values-hold-requires
 values-hold-requires c κs = search needs
 
 returns-4 : tie.Need-returns-4
-returns-4 c =
-    let a = c .before .before .before .before .before .before .before .before .before .before .before .before .before .before .before .args in
-    let b = now (a .bytes) in
-    read-range (a .t1) b _
-    (c .before .before .before .before .before .before .before .before .before .before .before .before .before .keeps-sheet-rules .ensures)
-    (c .before .before .before .before .before .before .before .before .before .before .before .before .if1 .left) _ _
-    (whole-seen b _ _ (sym (c .before .before .before .before .before .before .before .before .before .tag .given .1)
-    ∙ c .before .before .before .before .before .before .before .before .before .before .before .cut-first .ensures)) _
-    (c .before .before .before .before .before .before .before .form-of .ensures) _
-    (c .before .before .before .before .before .body .given .1) _ (c .before .values-hold .ensures) (c .if2 .taken)
+returns-4 c = read-range (formed (said (c .before))) _ (c .before .values-hold .ensures) (c .if2 .taken)
 
 add-if3 : tie.Need-add-if3
-add-if3 c =
-    let b = now (c .before .before .before .before .before .before .before .before .before .before .before .before .before .before .before .args .bytes) in
-    omega (
-      arith,
-      whole-seen b _ _ (sym (c .before .before .before .before .before .before .before .before .before .tag .given .1)
-          ∙ c .before .before .before .before .before .before .before .before .before .before .before .cut-first .ensures) .fits,
-    )
+add-if3 c = omega (arith, formed (said (c .before)) .cut .fits)
 
 returns-5 : tie.Need-returns-5
 returns-5 c =
-    let a = c .before .before .before .before .before .before .before .before .before .before .before .before .before .before .before .before .args in
-    let b = now (a .bytes) in
-    read-more (a .t1) b _ (c .before .before .before .before .before .before .before .before .before .before .before .before .before .before .keeps-sheet-rules .ensures) (c .before .before .before .before .before .before .before .before .before .before .before .before .before .if1 .left) _ _ (whole-seen b _ _ (sym (c .before .before .before .before .before .before .before .before .before .before .tag .given .1) ∙ c .before .before .before .before .before .before .before .before .before .before .before .before .cut-first .ensures)) _ (c .before .before .before .before .before .before .before .before .form-of .ensures) _ (c .before .before .before .before .before .before .body .given .1) _ (c .before .before .values-hold .ensures) (c .before .if2 .left) (c .if3 .taken)
+    read-more (values-seen (formed (said (c .before .before))) _ (c .before .before .values-hold .ensures) (c .before .if2 .left))
+    (c .if3 .taken)
 
 cast-i : tie.Need-cast-i
 cast-i c = omega (arith, c .before .before .before .before .shared-slice-known2 .given 3)
 
 element-copy-out-sender-of : tie.Need-element-copy-out-sender-of
 element-copy-out-sender-of c =
-    let a = c .before .before .before .before .before .before .before .before .before .before .before .before .before .before .before .before .args in
-    let b = now (a .bytes) in
-    place-inside (a .t1) b _ (c .before .before .before .before .before .before .before .before .before .before .before .before .before .before .keeps-sheet-rules .ensures) (c .before .before .before .before .before .before .before .before .before .before .before .before .before .if1 .left) _ _ (whole-seen b _ _ (sym (c .before .before .before .before .before .before .before .before .before .before .tag .given .1) ∙ c .before .before .before .before .before .before .before .before .before .before .before .before .cut-first .ensures)) _ (c .before .before .before .before .before .before .before .before .form-of .ensures) _ (c .before .before .before .before .before .before .body .given .1) _ (c .before .before .values-hold .ensures) (c .before .if2 .left)
+    place-inside (values-seen (formed (said (c .before .before))) _ (c .before .before .values-hold .ensures) (c .before .if2 .left))
 
 element-copy-out-sender-of-2 : tie.Need-element-copy-out-sender-of-2
 element-copy-out-sender-of-2 c =
-    let a = c .before .before .before .before .before .before .before .before .before .before .before .before .before .before .before .before .before .args in
-    let b = now (a .bytes) in
-    place-inside (a .t1) b _ (c .before .before .before .before .before .before .before .before .before .before .before .before .before .before .before .keeps-sheet-rules .ensures) (c .before .before .before .before .before .before .before .before .before .before .before .before .before .before .if1 .left) _ _ (whole-seen b _ _ (sym (c .before .before .before .before .before .before .before .before .before .before .before .tag .given .1) ∙ c .before .before .before .before .before .before .before .before .before .before .before .before .before .cut-first .ensures)) _ (c .before .before .before .before .before .before .before .before .before .form-of .ensures) _ (c .before .before .before .before .before .before .before .body .given .1) _ (c .before .before .before .values-hold .ensures) (c .before .before .if2 .left)
+    let v = c .before .before .before in
+    place-inside (values-seen (formed (said v)) _ (v .values-hold .ensures) (c .before .before .if2 .left))
 
 sender-of-requires : tie.Need-sender-of-requires
 sender-of-requires c κs = search needs
@@ -142,9 +125,9 @@ cast-t27 c = search needs
 
 returns-6 : tie.Need-returns-6
 returns-6 c =
-    let a = c .before .before .before .before .before .before .before .before .before .before .before .before .before .before .before .before .before .before .before .args in
-    let b = now (a .bytes) in
-    read-good (a .t1) b _ (c .before .before .before .before .before .before .before .before .before .before .before .before .before .before .before .before .before .keeps-sheet-rules .ensures) (c .before .before .before .before .before .before .before .before .before .before .before .before .before .before .before .before .if1 .left) _ _ (whole-seen b _ _ (sym (c .before .before .before .before .before .before .before .before .before .before .before .before .before .tag .given .1) ∙ c .before .before .before .before .before .before .before .before .before .before .before .before .before .before .before .cut-first .ensures)) _ (c .before .before .before .before .before .before .before .before .before .before .before .form-of .ensures) _ (c .before .before .before .before .before .before .before .before .before .body .given .1) _ (c .before .before .before .before .before .values-hold .ensures) (c .before .before .before .before .if2 .left) _ (c .before .before .before .if3 .left) (c .sender-of .ensures)
+    let v = c .before .before .before .before .before in
+    read-good (values-seen (formed (said v)) _ (v .values-hold .ensures) (c .before .before .before .before .if2 .left)) _
+    (c .before .before .before .if3 .left) (c .sender-of .ensures)
 
 pub read-spec : {M : Type 1} → statement M
 read-spec =

@@ -1,4 +1,4 @@
-use mathlib.Core.Bool.{true, false}
+use mathlib.Core.Bool.{Bool, true, false}
 use Prim.Native.Nat.{ℕ, _-_, _^_}
 use mathlib.Core.Path.{_≡_}
 use native.Mathlib.Omega.{arith}
@@ -23,6 +23,29 @@ Inv-grow working s net n m from w₀ w = Growing net (inWord working) s w
 
 abbrev μ-grow : tie.MeasureT-grow
 μ-grow working s net n m from w₀ w = 2 ^ 32 - w
+
+-- ---- the facts along the function: at a turn of `grow` where it began, at a link that was tried the turn's search and what the test says
+abbrev Turn : Type 0
+Turn = tie.At-grow Inv-search μ-search Inv-grow μ-grow
+
+abbrev begun : Turn → tie.Start Inv-search μ-search Inv-grow μ-grow
+begun c = c .before .before .before .before .before
+
+abbrev Tried : Type 0
+Tried = tie.After-joins Inv-search μ-search Inv-grow μ-grow
+
+abbrev searching : Tried → tie.At-search Inv-search μ-search Inv-grow μ-grow
+searching c = c .before .before .before .before .before
+
+abbrev growing : Tried → Turn
+growing c = searching c .before
+
+tried : (c : Tried) (b : Bool) → c .joins .result ≡ b
+    → test (begun (growing c) .args .t1) (inWord (begun (growing c) .args .working)) (growing c .grow .w) (searching c .search .k) ≡ b
+tried c b q =
+    let a = begun (growing c) .args in
+    test-seen (a .t1) (inWord (a .working)) (growing c .grow .w) (searching c .search .k) _ _ _ b
+    (growing c .before .before .before .before .at-most .ensures) (c .before .has .ensures) (c .joins .ensures) q
 
 at-most-requires : tie.Need-at-most-requires Inv-search μ-search Inv-grow μ-grow
 at-most-requires c κs = search needs
@@ -65,15 +88,12 @@ search-less c = omega arith
 
 search-again : tie.Need-search-again Inv-search μ-search Inv-grow μ-grow
 search-again c =
-    let a = c .before .before .before .before .before .before .before .before .before .before .before .before .args in
-    let w = c .before .before .before .before .before .before .before .grow .w in
-    let i = c .before .before .before .before .before .before .search in
+    let a = begun (growing (c .before)) .args in
+    let w = growing (c .before) .grow .w in
     record {
-      le = omega (arith, c .before .before .before .before .before .before .before .before .before .before .at-most2 .ensures);
-      none = below-more (λ (j : ℕ). test (a .t1) (inWord (a .working)) w j ≡ false) _ (i .inv .none)
-          (test-seen (a .t1) (inWord (a .working)) w (i .k) _ _ _ false
-          (c .before .before .before .before .before .before .before .before .before .before .before .at-most .ensures)
-          (c .before .before .has .ensures) (c .before .joins .ensures) (c .if2 .left));
+      le = omega (arith, growing (c .before) .before .before .before .at-most2 .ensures);
+      none = below-more (λ (j : ℕ). test (a .t1) (inWord (a .working)) w j ≡ false) _ (searching (c .before) .search .inv .none)
+          (tried (c .before) false (c .if2 .left));
     }
 
 cast-j : tie.Need-cast-j Inv-search μ-search Inv-grow μ-grow
@@ -87,35 +107,25 @@ element-copy-out-grown-2 c = omega arith
 
 grown-requires : tie.Need-grown-requires Inv-search μ-search Inv-grow μ-grow
 grown-requires c κs =
-    let a = c .before .before .before .before .before .before .before .before .before .before .before .before .before .before .args in
-    let k = c .before .before .before .before .before .before .before .before .search .k in
-    let x = crosses-true _ (getD (a .t1 .low) k 0) (getD (a .t1 .high) k 0) (inWord (a .working) k)
-    (c .before .before .before .before .before .before .before .before .before .grow .w)
-    (test-seen (a .t1) (inWord (a .working)) (c .before .before .before .before .before .before .before .before .before .grow .w) k _ _ _
-    true (c .before .before .before .before .before .before .before .before .before .before .before .before .before .at-most .ensures)
-    (c .before .before .before .before .has .ensures) (c .before .before .before .joins .ensures) (c .before .before .if2 .taken)) in
+    let t = c .before .before .before in
+    let a = begun (growing t) .args in
+    let k = searching t .search .k in
+    let x = crosses-true _ (getD (a .t1 .low) k 0) (getD (a .t1 .high) k 0) (inWord (a .working) k) (growing t .grow .w)
+    (tried t true (c .before .before .if2 .taken)) in
     (omega (arith, x .low), omega (arith, x .high), x .apart)
 
 grow-less : tie.Need-grow-less Inv-search μ-search Inv-grow μ-grow
 grow-less c =
-    omega (
-      arith,
-      c .grown .ensures .more,
-      pow-pos
-          (c .grown .ensures .new),
-      c .before .before .before .before .before .before .before .before .before .before .grow .inv .fits,
-    )
+    let t = c .before .before .before .before in
+    omega (arith, c .grown .ensures .more, pow-pos (c .grown .ensures .new), growing t .grow .inv .fits)
 
 grow-again : tie.Need-grow-again Inv-search μ-search Inv-grow μ-grow
 grow-again c =
-    let a = c .before .before .before .before .before .before .before .before .before .before .before .before .before .before .before .args in
-    turn (a .t1) (inWord (a .working)) (a .s) _ _ _ (omega (arith, c .before .before .before .before .before .before .before .before .before .before .before .before .before .at-most2 .ensures, c .before .before .before .before .before .before .before .before .search-test .left)) (c .before .before .before .before .before .before .before .before .before .before .grow .inv)
-    (test-seen (a .t1) (inWord (a .working)) (c .before .before .before .before .before .before .before .before .before .before .grow .w)
-    (c .before .before .before .before .before .before .before .before .before .search .k) _ _ _ true
-    (c .before .before .before .before .before .before .before .before .before .before .before .before .before .before .at-most .ensures)
-    (c .before .before .before .before .before .has .ensures) (c .before .before .before .before .joins .ensures)
-    (c .before .before .before .if2 .taken))
-    (c .grown .ensures)
+    let t = c .before .before .before .before in
+    let a = begun (growing t) .args in
+    let h = c .before .before .before .before .before .before .before .before .search-test .left in
+    turn (a .t1) (inWord (a .working)) (a .s) _ _ _ (omega (arith, growing t .before .before .before .at-most2 .ensures, h))
+    (growing t .grow .inv) (tried t true (c .before .before .before .if2 .taken)) (c .grown .ensures)
 
 returns-2 : tie.Need-returns-2 Inv-search μ-search Inv-grow μ-grow
 returns-2 c =

@@ -6,6 +6,7 @@ use lib.ListN.{getD}
 use Rattle.counters.specs.Counters.{even}
 use Rattle.sets.specs.Sets.{wordBy, upTo}
 use Rattle.sets.proofs.WordLaws.{upto-none, upto-more}
+use Rattle.net.specs.Sizes.{linkRoom}
 use Rattle.reach.proofs.Working.{working-made}
 use Rattle.reach.proofs.working_links.Statement.{statement}
 use Rattle.reach.proofs.working_links.Tie as tie
@@ -55,7 +56,7 @@ loop-again c =
 returns : tie.Need-returns Inv-loop μ-loop
 returns c =
     let a = c .before .before .before .args in
-    let e : c .before .loop .k ≡ min (a .links) 64 = omega (arith, c .before .before .at-most .ensures) in
+    let e : c .before .loop .k ≡ min (a .links) linkRoom = omega (arith, c .before .before .at-most .ensures) in
     c .before .loop .inv .1 ∙ ap (λ (k : ℕ). wordBy (upTo (λ j. even (getD (a .t2) j 0)) k)) e
     ∙ working-made (a .links) (a .t2) (search needs)
 

@@ -1,14 +1,15 @@
 use Prim.Native.Nat.{_≤_, _-_}
 use native.Mathlib.Omega.{arith}
 use borrow.Author.Needs.{needs}
+use Rattle.net.specs.Sizes.{linkRoom}
 use Rattle.reach_cases.proofs.counters_of.Statement.{statement}
 use Rattle.reach_cases.proofs.counters_of.Tie as tie
 
 abbrev Inv-loop : tie.InvT-loop
-Inv-loop case counters₀ i₀ counters i = i ≤ 64
+Inv-loop case counters₀ i₀ counters i = i ≤ linkRoom
 
 abbrev μ-loop : tie.MeasureT-loop
-μ-loop case counters₀ i₀ counters i = 64 - i
+μ-loop case counters₀ i₀ counters i = linkRoom - i
 
 loop-holds : tie.Need-loop-holds Inv-loop μ-loop
 loop-holds c = omega arith

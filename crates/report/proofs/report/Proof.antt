@@ -6,6 +6,20 @@ use Rattle.report.proofs.ReportsKnown.{answer-seen, output-seen}
 use Rattle.report.proofs.report.Statement.{statement}
 use Rattle.report.proofs.report.Tie as tie
 
+-- ---- what the call read, from where the number is known
+abbrev begun : tie.After-number-of → tie.Start
+begun c = c .before .before .before .before .before .before .before
+
+read : (c : tie.After-number-of)
+    → Read (begun c .args .t1) (begun c .args .a) (c .before .before .before .before .before .well-formed .result)
+    (c .before .before .before .in-room .result) (c .number-of .result)
+read c = record {
+  tested = c .before .before .before .before .before .well-formed .ensures .0;
+  sized = c .before .before .before .before .before .well-formed .ensures .1;
+  place = c .before .before .before .in-room .ensures;
+  says = c .number-of .ensures;
+}
+
 well-formed-requires : tie.Need-well-formed-requires
 well-formed-requires c κs = search needs
 
@@ -35,19 +49,10 @@ same-length c = search needs
 
 returns : tie.Need-returns
 returns c =
-    let a = c .before .before .before .before .before .before .before .before .before .before .before .before .args in
-    let r : Read (a .t1) (a .a) (c .before .before .before .before .before .before .before .before .before .before .well-formed .result)
-    (c .before .before .before .before .before .before .before .before .in-room .result)
-    (c .before .before .before .before .before .number-of .result) = record {
-      tested = c .before .before .before .before .before .before .before .before .before .before .well-formed .ensures .0;
-      sized = c .before .before .before .before .before .before .before .before .before .before .well-formed .ensures .1;
-      place = c .before .before .before .before .before .before .before .before .in-room .ensures;
-      says = c .before .before .before .before .before .number-of .ensures;
-    } in (
-      answer-seen r (now (a .out)) _ (c .before .before .before .before .working-links .ensures) _
-          (c .before .before .written .ensures .0),
-      output-seen r (now (a .out)) _ (c .before .before .before .before .working-links .ensures) _
-          (c .before .before .written .ensures .1),
+    let n = c .before .before .before .before .before in
+    let out = now (begun n .args .out) in (
+      answer-seen (read n) out _ (c .before .before .before .before .working-links .ensures) _ (c .before .before .written .ensures .0),
+      output-seen (read n) out _ (c .before .before .before .before .working-links .ensures) _ (c .before .before .written .ensures .1),
     )
 
 pub report-spec : {M : Type 1} → statement M

@@ -8,6 +8,9 @@ use Rattle.report.proofs.Output.{refused-stays, too-short, length-in, r
 use Rattle.report.proofs.written.Statement.{statement}
 use Rattle.report.proofs.written.Tie as tie
 
+abbrev begun : tie.After-reach-word → tie.Start
+begun c = c .before .before .before .before .before .before
+
 returns : tie.Need-returns
 returns c =
     let a = c .before .before .args in refused-stays (a .number) (reportIn (a .net) (inWord (a .working)) (a .me)) (now (a .out))
@@ -64,14 +67,12 @@ same-length c = search needs
 
 returns-3 : tie.Need-returns-3
 returns-3 c =
-    let a = c .before .before .before .before .before .before .before .before .before .before .before .before .before .before .args in
-    report-put (a .net) (inWord (a .working)) (a .me) _
-    (c .before .before .before .before .before .before .before .before .reach-word .ensures) _ _
-    (c .before .before .before .before .before .before .before .before .before .before .before .at-most .ensures)
-    (c .before .before .before .before .before .before .before .before .before .before .at-most2 .ensures) (now (a .out)) _ _ _
-    (c .before .before .before .before .before .before .before .before .before .if2 .left)
+    let w = c .before .before .before .before .before .before .before .before in
+    let a = begun w .args in
+    report-put (a .net) (inWord (a .working)) (a .me) _ (w .reach-word .ensures) _ _ (w .before .before .before .at-most .ensures)
+    (w .before .before .at-most2 .ensures) (now (a .out)) _ _ _ (w .before .if2 .left)
     (c .before .before .before .before .before .before .put-stations .ensures) (c .before .before .put-links .ensures) refl (a .number)
-    (c .before .before .before .before .before .before .before .before .before .before .before .before .if1 .left)
+    (w .before .before .before .before .if1 .left)
 
 pub written-spec : {M : Type 1} → statement M
 written-spec =

@@ -1,6 +1,7 @@
 use borrow.Author.Needs.{needs}
 use denote.Ref.{now}
 use Prim.Native.Nat.{_-_}
+use Rattle.net.specs.Sizes.{linkRoom}
 use Rattle.sheet.specs.Steps.{linksOf}
 use Rattle.sheet.proofs.Loop.{Standing, standing-first, standing-wrong, standing-last, standing-full, standing-link}
 use Rattle.sheet.proofs.read_links.Statement.{statement}
@@ -15,7 +16,10 @@ abbrev Inv-loop : tie.InvT-loop
 Inv-loop bytes n low₀ high₀ a₀ b₀ k₀ at₀ low high a b k at = Standing (linksOf n bytes) n bytes low high a b k at
 
 abbrev μ-loop : tie.MeasureT-loop
-μ-loop bytes n low₀ high₀ a₀ b₀ k₀ at₀ low high a b k at = 64 - k
+μ-loop bytes n low₀ high₀ a₀ b₀ k₀ at₀ low high a b k at = linkRoom - k
+
+abbrev begun : tie.At-loop Inv-loop μ-loop → tie.Start Inv-loop μ-loop
+begun c = c .before .before .before .before
 
 zeros-requires : tie.Need-zeros-requires Inv-loop μ-loop
 zeros-requires c κs = search needs
@@ -46,8 +50,9 @@ refusal-requires c κs = search needs
 
 returns : tie.Need-returns Inv-loop μ-loop
 returns c =
-    let l = c .before .before .before .before .before .before .loop in
-    let a = c .before .before .before .before .before .before .before .before .before .before .args in
+    let t = c .before .before .before .before .before .before in
+    let l = t .loop in
+    let a = begun t .args in
     standing-wrong (linksOf (a .n) (now (a .bytes))) (a .n) (now (a .bytes)) (l .low) (l .high) (l .a) (l .b) (l .k) (l .at) (l .inv) _
     (c .before .before .before .before .next-field .ensures) _ _ (c .before .before .answer .given .1) (c .refusal .ensures)
 
@@ -56,8 +61,9 @@ enum-told c = search needs
 
 returns-2 : tie.Need-returns-2 Inv-loop μ-loop
 returns-2 c =
-    let l = c .before .before .before .before .loop in
-    let a = c .before .before .before .before .before .before .before .before .args in
+    let t = c .before .before .before .before in
+    let l = t .loop in
+    let a = begun t .args in
     standing-last (linksOf (a .n) (now (a .bytes))) (a .n) (now (a .bytes)) (l .low) (l .high) (l .a) (l .b) (l .k) (l .at) (l .inv) _
     (c .before .before .next-field .ensures) (c .enum-told .given .1)
 
@@ -69,8 +75,9 @@ refusal-requires-2 c κs = search needs
 
 returns-3 : tie.Need-returns-3 Inv-loop μ-loop
 returns-3 c =
-    let l = c .before .before .before .before .before .before .before .loop in
-    let a = c .before .before .before .before .before .before .before .before .before .before .before .args in
+    let t = c .before .before .before .before .before .before .before in
+    let l = t .loop in
+    let a = begun t .args in
     standing-full (linksOf (a .n) (now (a .bytes))) (a .n) (now (a .bytes)) (l .low) (l .high) (l .a) (l .b) (l .k) (l .at) (l .inv) _
     (c .before .before .before .before .before .next-field .ensures) _ _ (c .before .before .before .l .given .1) _ (c .before .if1 .taken)
     (c .refusal2 .ensures)
@@ -95,8 +102,9 @@ loop-less c = search needs
 
 loop-again : tie.Need-loop-again Inv-loop μ-loop
 loop-again c =
-    let l = c .before .before .before .before .before .before .loop in
-    let a = c .before .before .before .before .before .before .before .before .before .before .args in
+    let t = c .before .before .before .before .before .before in
+    let l = t .loop in
+    let a = begun t .args in
     standing-link (linksOf (a .n) (now (a .bytes))) (a .n) (now (a .bytes)) (l .low) (l .high) (l .a) (l .b) (l .k) (l .at) (l .inv) _
     (c .before .before .before .before .next-field .ensures) _ _ (c .before .before .l .given .1) (c .if1 .left)
 

@@ -1,5 +1,8 @@
-use mathlib.Core.Path.{refl}
+use mathlib.Core.Bool.{true}
+use mathlib.Core.Path.{_≡_, refl, sym, _∙_}
 use denote.Ref.{now}
+use borrow.Author.Tests.{not-false}
+use Rattle.sheet_rules.specs.Values.{netHolds}
 use Rattle.sheet.proofs.Output.{few-links, write-bad, write-short, links-room, write-all}
 use borrow.Author.Needs.{needs}
 use Rattle.sheet.proofs.write.Statement.{statement}
@@ -10,6 +13,19 @@ use Rattle.sheet_rules.proofs.keeps_sheet_rules.Reads as keeps-sheet-rules-read
 use Rattle.sheet.proofs.put_last.Reads as put-last-reads
 use Rattle.sheet.proofs.put_links.Reads as put-links-reads
 use Rattle.sheet.proofs.put_stations.Reads as put-stations-reads
+
+-- ---- the facts along the function: where it began, and that the network is good
+abbrev begun : tie.Else2 → tie.Start
+begun c = c .before .before .before .before .before
+
+good : (c : tie.Else1) → netHolds (c .before .before .before .args .net) ≡ true
+good c = sym (c .before .keeps-sheet-rules .ensures) ∙ not-false _ (c .if1 .left)
+
+abbrev roomy : tie.After-put-stations → tie.Else2
+roomy c = c .before .before
+
+abbrev stations-put : tie.After-put-links → tie.After-put-stations
+stations-put c = c .before .before .before .before .before .before
 
 keeps-sheet-rules-requires : tie.Need-keeps-sheet-rules-requires
 keeps-sheet-rules-requires c κs = search needs
@@ -30,7 +46,7 @@ add-size : tie.Need-add-size
 add-size c = search needs
 
 returns-2 : tie.Need-returns-2
-returns-2 c = write-short _ _ (c .before .before .before .keeps-sheet-rules .ensures) (c .before .before .if1 .left) _ (c .if2 .taken)
+returns-2 c = write-short _ (good (c .before .before)) _ (c .if2 .taken)
 
 put-stations-requires : tie.Need-put-stations-requires
 put-stations-requires c κs = search needs
@@ -46,14 +62,10 @@ part-put-links-end c = search needs
 
 put-links-requires : tie.Need-put-links-requires
 put-links-requires c κs =
-    let a = c .before .before .before .before .before .before .before .before .before .before .before .before .args in
-    let e = c .before .before .before .before .before .before .before .before .before .before .keeps-sheet-rules .ensures in
-    let h = c .before .before .before .before .before .before .before .before .before .if1 .left in (
-      few-links (a .net) _ e h,
-      links-room (a .net) _ e h (now (a .out))
-          (c .before .before .before .before .before .before .before .if2 .left) _
-          (c .before .before .before .before .before .put-stations .ensures),
-    )
+    let p = c .before .before .before .before .before in
+    let e = roomy p in
+    let g = good (e .before .before) in
+    (few-links _ g, links-room _ g (now (begun e .args .out)) (e .if2 .left) _ (p .put-stations .ensures))
 
 sub-put-last : tie.Need-sub-put-last
 sub-put-last c = search needs
@@ -72,10 +84,11 @@ same-length c = search needs
 
 returns-3 : tie.Need-returns-3
 returns-3 c =
-    let a = c .before .before .before .before .before .before .before .before .before .before .before .before .before .before .before .before .before .before .before .args in
-    write-all (a .net) _ (c .before .before .before .before .before .before .before .before .before .before .before .before .before .before .before .before .before .keeps-sheet-rules .ensures) (c .before .before .before .before .before .before .before .before .before .before .before .before .before .before .before .before .if1 .left) (now (a .out)) (c .before .before .before .before .before .before .before .before .before .before .before .before .before .before .if2 .left)
-    _ (c .before .before .before .before .before .before .before .before .before .before .before .before .put-stations .ensures) _ _
-    (c .before .before .before .before .before .before .put-links .ensures) refl _ _ (c .before .before .put-last .ensures) refl
+    let l = c .before .before .before .before .before .before in
+    let p = stations-put l in
+    let e = roomy p in
+    write-all _ (good (e .before .before)) (now (begun e .args .out)) (e .if2 .left) _ (p .put-stations .ensures) _ _
+    (l .put-links .ensures) refl _ _ (c .before .before .put-last .ensures) refl
 
 pub write-spec : {M : Type 1} → statement M
 write-spec =

@@ -1,5 +1,5 @@
 use Prim.Native.Nat.{ℕ, _≤_, _-_}
-use mathlib.Core.Bool.{true, false}
+use mathlib.Core.Bool.{Bool, true, false}
 use mathlib.Core.Logic.{inl}
 use mathlib.Core.Path.{_≡_, refl, sym, ap, _∙_}
 use native.Mathlib.Omega.{arith}
@@ -7,15 +7,37 @@ use borrow.Author.Needs.{needs}
 use borrow.Author.Tests.{not-true, not-false}
 use Rattle.lists.specs.Lists.{every, below}
 use Rattle.lists.proofs.Numbers.{all-more, all-fails}
-use Rattle.sheet_rules.proofs.Tested.{Before, before-more, placeHolds, place-seen, holds-places, few-stations, many-stations, many-links}
+use Rattle.net.specs.Sizes.{linkRoom}
+use Rattle.sheet_rules.specs.Values.{netHolds}
+use Rattle.sheet_rules.proofs.Tested.{Before, before-more, placeHolds, place-seen, holds-places}
+use Rattle.sheet_rules.proofs.Tested.{few-stations, many-stations, many-links}
 use Rattle.sheet_rules.proofs.keeps_sheet_rules.Statement.{statement}
 use Rattle.sheet_rules.proofs.keeps_sheet_rules.Tie as tie
 
 abbrev Inv-loop : tie.InvT-loop
-Inv-loop net n m a₀ b₀ k₀ a b k = (k ≤ 64) × (every (placeHolds net) (below k) ≡ true) × Before net a b k
+Inv-loop net n m a₀ b₀ k₀ a b k = (k ≤ linkRoom) × (every (placeHolds net) (below k) ≡ true) × Before net a b k
 
 abbrev μ-loop : tie.MeasureT-loop
-μ-loop net n m a₀ b₀ k₀ a b k = 64 - k
+μ-loop net n m a₀ b₀ k₀ a b k = linkRoom - k
+
+-- ---- the facts along the function: at a turn where it began and what all places come to, at a place that was tested what the test says
+abbrev begun : tie.At-loop Inv-loop μ-loop → tie.Start Inv-loop μ-loop
+begun c = c .before .before .before .before
+
+all-places : (c : tie.At-loop Inv-loop μ-loop) → every (placeHolds (begun c .args .t1)) (below linkRoom) ≡ netHolds (begun c .args .t1)
+all-places c =
+    holds-places (begun c .args .t1) (c .before .before .before .if1 .left) (c .before .before .if2 .left) (c .before .if3 .left)
+    (search needs) (search needs)
+
+abbrev turn : tie.After-place-holds Inv-loop μ-loop → tie.At-loop Inv-loop μ-loop
+turn c = c .before .before .before .before
+
+tested : (c : tie.After-place-holds Inv-loop μ-loop) (b : Bool) → c .place-holds .result ≡ b
+    → placeHolds (begun (turn c) .args .t1) (turn c .loop .k) ≡ b
+tested c b q =
+    let l = turn c in
+    place-seen (begun l .args .t1) (l .loop .k) (l .loop .a) (l .loop .b) _ b (l .before .before .if2 .left) (l .before .if3 .left)
+    (l .loop .inv .2) (c .place-holds .ensures) q
 
 returns : tie.Need-returns Inv-loop μ-loop
 returns c = few-stations _ (c .if1 .taken)
@@ -43,15 +65,9 @@ place-holds-requires c κs = search needs
 
 returns-4 : tie.Need-returns-4 Inv-loop μ-loop
 returns-4 c =
-    let net = c .before .before .before .before .before .before .before .before .before .args .t1 in
-    let l = c .before .before .before .before .before .loop in
-    sym (all-fails (placeHolds net) 64 (l .k) (omega arith)
-    (place-seen net (l .k) (l .a) (l .b) _ false (c .before .before .before .before .before .before .before .if2 .left)
-    (c .before .before .before .before .before .before .if3 .left) (l .inv .2) (c .before .place-holds .ensures)
-    (not-true _ (c .if4 .taken))))
-    ∙ holds-places net (c .before .before .before .before .before .before .before .before .if1 .left)
-    (c .before .before .before .before .before .before .before .if2 .left) (c .before .before .before .before .before .before .if3 .left)
-    (search needs) (search needs)
+    let l = turn (c .before) in
+    sym (all-fails (placeHolds (begun l .args .t1)) linkRoom (l .loop .k) (omega arith)
+    (tested (c .before) false (not-true _ (c .if4 .taken)))) ∙ all-places l
 
 add-k : tie.Need-add-k Inv-loop μ-loop
 add-k c = omega arith
@@ -61,23 +77,17 @@ loop-less c = omega arith
 
 loop-again : tie.Need-loop-again Inv-loop μ-loop
 loop-again c =
-    let net = c .before .before .before .before .before .before .before .before .before .args .t1 in
-    let l = c .before .before .before .before .before .loop in (
+    let l = turn (c .before) in
+    let net = begun l .args .t1 in (
       omega arith,
-      all-more (placeHolds net) (l .k) (l .inv .1)
-          (place-seen net (l .k) (l .a) (l .b) _ true (c .before .before .before .before .before .before .before .if2 .left)
-          (c .before .before .before .before .before .before .if3 .left) (l .inv .2) (c .before .place-holds .ensures)
-          (not-false _ (c .if4 .left))),
-      before-more net (l .k) _ _ refl refl,
+      all-more (placeHolds net) (l .loop .k) (l .loop .inv .1) (tested (c .before) true (not-false _ (c .if4 .left))),
+      before-more net (l .loop .k) _ _ refl refl,
     )
 
 returns-5 : tie.Need-returns-5 Inv-loop μ-loop
 returns-5 c =
-    let net = c .before .before .before .before .before .args .t1 in
-    let e : c .before .loop .k ≡ 64 = omega arith in
-    sym (c .before .loop .inv .1) ∙ ap (λ (n : ℕ). every (placeHolds net) (below n)) e
-    ∙ holds-places net (c .before .before .before .before .if1 .left) (c .before .before .before .if2 .left) (c .before .before .if3 .left)
-    (search needs) (search needs)
+    let e : c .before .loop .k ≡ linkRoom = omega arith in
+    sym (c .before .loop .inv .1) ∙ ap (λ (n : ℕ). every (placeHolds (begun (c .before) .args .t1)) (below n)) e ∙ all-places (c .before)
 
 pub keeps-sheet-rules-spec : {M : Type 1} → statement M
 keeps-sheet-rules-spec =

@@ -7,6 +7,7 @@ use borrow.Author.Needs.{needs}
 use borrow.Author.Tests.{not-true, not-false}
 use Rattle.lists.specs.Lists.{filled}
 use Rattle.lists.proofs.Fill.{filled-more}
+use Rattle.net.specs.Sizes.{stationRoom}
 use Rattle.station.specs.declared.Station.{Station}
 use Rattle.state.proofs.Begin.{good-stations, begun-bad, begun-good}
 use Rattle.state.proofs.fresh.Statement.{statement}
@@ -62,14 +63,14 @@ loop-less c = omega arith
 loop-again : tie.Need-loop-again Inv-loop μ-loop
 loop-again c =
     let d : Station = c .before .before .down-station .result in
-    let old : List Station = replicate 32 (c .before .before .before .before .before .before .no-station .result) in
+    let old : List Station = replicate stationRoom (c .before .before .before .before .before .before .no-station .result) in
     let few = good-stations (c .before .before .before .before .before .before .before .args .net)
     (c .before .before .before .before .keeps-sheet-rules .result) (c .before .before .before .before .keeps-sheet-rules .ensures)
     (not-false _ (c .before .before .before .if1 .left)) in (
       omega arith,
       ap (λ (l : List Station). set l (c .before .loop .i) d) (c .before .loop .inv .1)
           ∙ filled-more (λ (t : ℕ). d) old (c .before .loop .i)
-          (omega (arith, few, length-replicate 32 (c .before .before .before .before .before .before .no-station .result))),
+          (omega (arith, few, length-replicate stationRoom (c .before .before .before .before .before .before .no-station .result))),
     )
 
 returns-2 : tie.Need-returns-2 Inv-loop μ-loop
@@ -81,7 +82,7 @@ returns-2 c =
     _ _ (c .before .before .before .before .before .before .before .args .net .stations)
     (not-false _ (c .before .before .before .if1 .left)) refl (c .before .before .down-station .ensures)
     (c .before .loop .inv .1 ∙ ap (filled (λ (t : ℕ). c .before .before .down-station .result)
-    (replicate 32 (c .before .before .before .before .before .before .no-station .result))) end)
+    (replicate stationRoom (c .before .before .before .before .before .before .no-station .result))) end)
 
 pub fresh-spec : {M : Type 1} → statement M
 fresh-spec =

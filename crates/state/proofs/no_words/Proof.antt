@@ -5,6 +5,9 @@ use borrow.Author.Needs.{needs}
 use Rattle.state.proofs.no_words.Statement.{statement}
 use Rattle.state.proofs.no_words.Tie as tie
 
+abbrev begun : tie.After-both → tie.Start
+begun c = c .before .before .before
+
 both-requires : tie.Need-both-requires
 both-requires c κs = search needs
 
@@ -19,12 +22,13 @@ both-requires-4 c κs = search needs
 
 returns : tie.Need-returns
 returns c =
-    let w = c .before .before .before .before .before .before .before .before .before .args .w in
+    let first = c .before .before .before .before .before .before in
+    let w = begun first .args .w in
     c .both4 .ensures
     ∙ ap (λ (b : Bool). b && eqb (w .quiet) 0)
     (c .before .before .both3 .ensures ∙ ap (λ (b : Bool). b && eqb (w .asked) 0)
     (c .before .before .before .before .both2 .ensures
-    ∙ ap (λ (b : Bool). b && eqb (w .testing) 0) (c .before .before .before .before .before .before .both .ensures)))
+    ∙ ap (λ (b : Bool). b && eqb (w .testing) 0) (first .both .ensures)))
 
 pub no-words-spec : {M : Type 1} → statement M
 no-words-spec =

@@ -7,7 +7,14 @@ use Rattle.state.proofs.station_place.Tie as tie
 
 fits : (c : tie.Start) → Fits (c .args .st)
 fits c =
-    record { counters = search needs; token = search needs; turn = search needs; testing = search needs; asked = search needs; quiet = search needs }
+    record {
+      counters = search needs;
+      token = search needs;
+      turn = search needs;
+      testing = search needs;
+      asked = search needs;
+      quiet = search needs;
+    }
 
 station-formed-requires : tie.Need-station-formed-requires
 station-formed-requires c κs = search needs

@@ -3,6 +3,9 @@ use borrow.Author.Needs.{needs}
 use Rattle.state_rules.proofs.live_formed.Statement.{statement}
 use Rattle.state_rules.proofs.live_formed.Tie as tie
 
+abbrev begun : tie.After-beside-token → tie.Start
+begun c = c .before .before .before .before .before .before
+
 join-requires : tie.Need-join-requires
 join-requires c κs = search needs
 
@@ -38,17 +41,15 @@ both-requires-3 c κs = search needs
 
 returns : tie.Need-returns
 returns c =
-    let a = c .before .before .before .before .before .before .before .before .before .before .before .args in
-    let e = c .before .before .before .before .before .beside-token .ensures in
+    let t = c .before .before .before .before .before in
+    let a = begun t .args in
+    let e = t .beside-token .ensures in
     live-is (a .w) (a .own) _ e _ _ _ _ _ _ _
-    (tests-apart (a .w) (a .own) _ e _ _ _
-    (c .before .before .before .before .before .before .before .before .before .before .join .ensures)
-    (c .before .before .before .before .before .before .before .before .before .join2 .ensures)
-    (c .before .before .before .before .before .before .before .before .apart .ensures))
-    (c .before .before .before .before .before .before .before .within .ensures)
-    (c .before .before .before .apart2 .ensures)
+    (tests-apart (a .w) (a .own) _ e _ _ _ (t .before .before .before .before .before .join .ensures)
+    (t .before .before .before .before .join2 .ensures) (t .before .before .before .apart .ensures))
+    (t .before .before .within .ensures) (c .before .before .before .apart2 .ensures)
     (marks-own (a .w) (a .own) _ e _ _ (c .before .before .before .before .join3 .ensures) (c .before .within2 .ensures))
-    (c .before .before .before .before .before .before .both .ensures) (c .before .before .both2 .ensures) (c .both3 .ensures)
+    (t .before .both .ensures) (c .before .before .both2 .ensures) (c .both3 .ensures)
 
 pub live-formed-spec : {M : Type 1} → statement M
 live-formed-spec =

@@ -7,6 +7,7 @@ use lib.ListN.{length, getD}
 use borrow.Author.Tests.{not-true, not-false}
 use Rattle.lists.specs.Lists.{every, below}
 use Rattle.lists.proofs.Numbers.{all-more}
+use Rattle.net.specs.Sizes.{linkRoom}
 use Rattle.state_rules.specs.Steps.{counterTest}
 use Rattle.state_rules.proofs.Parts.{mismarked, miscounted, well-formed}
 use borrow.Author.Needs.{needs}
@@ -14,13 +15,16 @@ use Rattle.state_rules.proofs.station_formed.Statement.{statement}
 use Rattle.state_rules.proofs.station_formed.Tie as tie
 
 abbrev Inv-loop : tie.InvT-loop
-Inv-loop s st own m live k₀ k = (k ≤ 64) × (every (λ t. counterTest (ltb t m) live (getD (st .counters) t 0)) (below k) ≡ true)
+Inv-loop s st own m live k₀ k = (k ≤ linkRoom) × (every (λ t. counterTest (ltb t m) live (getD (st .counters) t 0)) (below k) ≡ true)
 
 abbrev μ-loop : tie.MeasureT-loop
-μ-loop s st own m live k₀ k = 64 - k
+μ-loop s st own m live k₀ k = linkRoom - k
 
-size : (c : tie.Start Inv-loop μ-loop) → length (c .args .t3 .counters) ≡ 64
+size : (c : tie.Start Inv-loop μ-loop) → length (c .args .t3 .counters) ≡ linkRoom
 size c = search needs
+
+abbrev begun : tie.At-loop Inv-loop μ-loop → tie.Start Inv-loop μ-loop
+begun c = c .before .before .before .before .before .before .before
 
 own-links-requires : tie.Need-own-links-requires Inv-loop μ-loop
 own-links-requires c κs = search needs
@@ -57,12 +61,11 @@ counter-formed-requires c κs = search needs
 
 returns-2 : tie.Need-returns-2 Inv-loop μ-loop
 returns-2 c =
-    let a = c .before .before .before .before .before .before .before .before .before .before .before .args in
-    miscounted (a .net) (a .s) (a .t3) (size (c .before .before .before .before .before .before .before .before .before .before .before)) _
-    _ (c .before .before .before .before .before .before .before .before .before .before .own-links .ensures)
-    (c .before .before .before .before .before .before .before .before .marks-formed .ensures) _ _
-    (c .before .before .before .before .before .before .at-most-64 .ensures) (c .before .before .before .before .before .is-live .ensures)
-    (c .before .before .before .before .loop .k) (omega arith) (sym (c .before .counter-formed .ensures) ∙ not-true _ (c .if2 .taken))
+    let l = c .before .before .before .before in
+    let a = begun l .args in
+    miscounted (a .net) (a .s) (a .t3) (size (begun l)) _ _ (l .before .before .before .before .before .before .own-links .ensures)
+    (l .before .before .before .before .marks-formed .ensures) _ _ (l .before .before .at-most-64 .ensures) (l .before .is-live .ensures)
+    (l .loop .k) (omega arith) (sym (c .before .counter-formed .ensures) ∙ not-true _ (c .if2 .taken))
 
 add-k : tie.Need-add-k Inv-loop μ-loop
 add-k c = omega arith
@@ -77,12 +80,11 @@ loop-again c =
 
 returns-3 : tie.Need-returns-3 Inv-loop μ-loop
 returns-3 c =
-    let a = c .before .before .before .before .before .before .before .before .args in
-    well-formed (a .net) (a .s) (a .t3) (size (c .before .before .before .before .before .before .before .before)) _ _
-    (c .before .before .before .before .before .before .before .own-links .ensures)
-    (c .before .before .before .before .before .marks-formed .ensures) _ _ (c .before .before .before .at-most-64 .ensures)
-    (c .before .before .is-live .ensures) (c .before .loop .k) (omega arith) (not-false _ (c .before .before .before .before .if1 .left))
-    (c .before .loop .inv .1)
+    let l = c .before in
+    let a = begun l .args in
+    well-formed (a .net) (a .s) (a .t3) (size (begun l)) _ _ (l .before .before .before .before .before .before .own-links .ensures)
+    (l .before .before .before .before .marks-formed .ensures) _ _ (l .before .before .at-most-64 .ensures) (l .before .is-live .ensures)
+    (l .loop .k) (omega arith) (not-false _ (l .before .before .before .if1 .left)) (l .loop .inv .1)
 
 pub station-formed-spec : {M : Type 1} → statement M
 station-formed-spec =

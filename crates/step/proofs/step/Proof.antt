@@ -13,7 +13,9 @@ use Rattle.lists.proofs.Tests.{is-T}
 use Rattle.lists.proofs.Rooms.{closing-none, closing-more}
 use Rattle.net.specs.declared.Letter.{Letter}
 use Rattle.net.specs.Values.{networkOf}
+use Rattle.net.specs.Sizes.{stationRoom, linkRoom, letterRoom}
 use Rattle.station.specs.declared.Kind.{Kind}
+use Rattle.station.specs.declared.Station.{Station}
 use Rattle.station.specs.Events.{takesLetter, linkOf}
 use Rattle.station_plan.specs.Comes.{EventPlans}
 use Rattle.world.specs.World.{noLetter, existsAs, concernedBy}
@@ -22,96 +24,140 @@ use Rattle.state.specs.declared.State.{State}
 use Rattle.state.specs.State.{letterIn, stationIn}
 use Rattle.post.specs.Post.{posted, Going}
 use Rattle.post.proofs.PostLaws as P
-use Rattle.step.proofs.Helpers.{place-few, room-few}
-use Rattle.step.proofs.Made.{refused-bad, refused-event, posted-none, posted-more, Facts, answer-refusal, leftLetters, left-length, new-are, new-length, few-after, closed-up, closes-within, free-within, made}
+use Rattle.step.proofs.Helpers.{place-few, room-few, by-kind}
+use Rattle.step.proofs.Made.{refused-bad, refused-event, posted-none, posted-more, Facts, answer-refusal, leftLetters, left-length}
+use Rattle.step.proofs.Made.{new-are, new-length, few-after, closed-up, closes-within, free-within, made}
 use Rattle.step.proofs.Loops.{withLetters, shifted, not-shifted, other-letters}
 use Rattle.step.proofs.step.Statement.{statement}
 use Rattle.step.proofs.step.Tie as tie
 
 abbrev Inv-loop : tie.InvT-loop
 Inv-loop kind a b s₀ flying place x me named k about own who on of plan told send count leaves left answer last from i₀ s i =
-    (from ≤ i) × (i ≤ last) × (from < last → last < 4096) × (length (s₀ .letters) ≡ 4096) × (s ≡ withLetters s₀
-    (closing from (s₀ .letters) i))
+    (from ≤ i) × (i ≤ last) × (from < last → last < letterRoom) × (length (s₀ .letters) ≡ letterRoom)
+    × (s ≡ withLetters s₀ (closing from (s₀ .letters) i))
 
 abbrev μ-loop : tie.MeasureT-loop
 μ-loop kind a b s₀ flying place x me named k about own who on of plan told send count leaves left answer last from i₀ s i = last - i
 
 abbrev Inv-loop2 : tie.InvT-loop2
 Inv-loop2 kind a b s₀ flying place me named k about own who on of plan told count leaves left answer last from free post₀ i₀ s post i =
-    (i ≤ count) × (last + count ≤ 4096) × (count ≡ length (posted me told post₀)) × Going
-    post × (posted me told post ≡ drop i (posted me told post₀)) × (s ≡ withLetters s₀ (s .letters))
-    × (length told ≡ 64)
-    × ((ls : List Letter) → s₀ .letters ≡ roomed 4096 noLetter ls → length ls ≡ last
-    → s .letters ≡ roomed 4096 noLetter (ls ++ take i (posted me told post₀)))
+    (i ≤ count) × (last + count ≤ letterRoom) × (count ≡ length (posted me told post₀)) × Going post
+    × (posted me told post ≡ drop i (posted me told post₀)) × (s ≡ withLetters s₀ (s .letters)) × (length told ≡ linkRoom)
+    × ((ls : List Letter) → s₀ .letters ≡ roomed letterRoom noLetter ls → length ls ≡ last
+    → s .letters ≡ roomed letterRoom noLetter (ls ++ take i (posted me told post₀)))
 
 abbrev μ-loop2 : tie.MeasureT-loop2
 μ-loop2 kind a b s₀ flying place me named k about own who on of plan told count leaves left answer last from free post₀ i₀ s post i =
     count - i
 
 -- what is read is within its room
-place-within : (c : tie.After-place-of Inv-loop μ-loop Inv-loop2 μ-loop2) → c .place-of .result < 4096
+place-within : (c : tie.After-place-of Inv-loop μ-loop Inv-loop2 μ-loop2) → c .place-of .result < letterRoom
 place-within c = place-few (c .before .before .before .before .before .args .a) (c .place-of .result) (c .place-of .ensures)
 
-who-within : (c : tie.After-concerned Inv-loop μ-loop Inv-loop2 μ-loop2) → c .concerned .result < 32
+who-within : (c : tie.After-concerned Inv-loop μ-loop Inv-loop2 μ-loop2) → c .concerned .result < stationRoom
 who-within c =
     let a = c .before .before .before .before .before .before .before .args in
     room-few (concernedBy (c .before .before .before .kind-of .result) (networkOf (a .t1 .net)) (a .a)
     (letterIn (a .t1) (c .before .before .place-of .result))) (c .concerned .result)
     (c .concerned .ensures)
 
+-- ---- the places of the code that have names, from the answer back: the table that is told, the plan, what the event names, the station
+-- that it concerns, the beginning
+abbrev Answered : Type 0
+Answered = tie.After-number-of Inv-loop μ-loop Inv-loop2 μ-loop2
+
+abbrev toldAt : Answered → tie.After-told-table Inv-loop μ-loop Inv-loop2 μ-loop2
+toldAt c = c .before .before .before .before .before .before
+
+abbrev planAt : Answered → tie.After-plan-event Inv-loop μ-loop Inv-loop2 μ-loop2
+planAt c = toldAt c .before
+
+abbrev namesAt : Answered → tie.After-own-links Inv-loop μ-loop Inv-loop2 μ-loop2
+namesAt c = planAt c .before .before .before .before
+
+abbrev meAt : Answered → tie.After-concerned Inv-loop μ-loop Inv-loop2 μ-loop2
+meAt c = namesAt c .before .before .before .before
+
+abbrev begunAt : Answered → tie.Start Inv-loop μ-loop Inv-loop2 μ-loop2
+begunAt c = meAt c .before .before .before .before .before .before .before
+
+-- and what they are of, in the step's own words
+abbrev placeOf : Answered → ℕ
+placeOf c = meAt c .before .before .place-of .result
+
+abbrev meOf : Answered → ℕ
+meOf c = meAt c .concerned .result
+
+abbrev thereOf : Answered → Bool
+thereOf c = namesAt c .before .before .before .there .result
+
+abbrev onOf : Answered → ℕ
+onOf c = namesAt c .before .before .link-of .result
+
+abbrev aboutOf : Answered → ℕ
+aboutOf c = namesAt c .before .subject-of .result
+
+abbrev ownOf : Answered → ℕ
+ownOf c = namesAt c .own-links .result
+
+abbrev toldOf : Answered → List ℕ
+toldOf c = toldAt c .told-table .result
+
 -- what the code has seen when it has its answer
-facts : (c : tie.After-number-of Inv-loop μ-loop Inv-loop2 μ-loop2) → Facts (c .before .before .before .before .before .before .before .before .before .before .before .before .before .before .before .before .before .before .before .before .before .before .args .t1) (c .before .before .before .before .before .before .before .before .before .before .before .before .before .before .before .before .before .before .before .before .before .before .args .kind) (c .before .before .before .before .before .before .before .before .before .before .before .before .before .before .before .before .before .before .before .before .before .before .args .a) (c .before .before .before .before .before .before .before .before .before .before .before .before .before .before .before .before .before .before .before .before .before .before .args .b)
-    (c .before .before .before .before .before .before .before .before .before .before .before .before .before .before .before .before .before .place-of .result)
-    (c .before .before .before .before .before .before .before .before .before .before .before .before .before .before .before .concerned .result) (c .before .before .before .before .before .before .before .before .before .before .before .before .before .before .there .result) (c .before .before .before .before .before .before .before .before .before .before .before .before .before .link-of .result)
-    (c .before .before .before .before .before .before .before .before .before .before .before .before .subject-of .result)
-    (c .before .before .before .before .before .before .before .before .before .before .before .own-links .result)
-    (c .before .before .before .before .before .before .before .plan-event .result)
-    (c .before .before .before .before .before .before .told-table .result) (c .before .before .before .before .narrow .result)
-    (c .before .before .before .count .result)
-    (c .before .left-of .result) (c .number-of .result) (c .before .before .takes-letter .result)
+facts : (c : Answered) → Facts (begunAt c .args .t1) (begunAt c .args .kind) (begunAt c .args .a) (begunAt c .args .b) (placeOf c) (meOf c)
+    (thereOf c) (onOf c) (aboutOf c) (ownOf c) (planAt c .plan-event .result) (toldOf c) (c .before .before .before .before .narrow .result)
+    (c .before .before .before .count .result) (c .before .left-of .result) (c .number-of .result) (c .before .before .takes-letter .result)
 facts c =
-    let a = c .before .before .before .before .before .before .before .before .before .before .before .before .before .before .before .before .before .before .before .before .before .before .args in
-    let k = c .before .before .before .before .before .before .before .before .before .before .before .before .before .before .before .before .before .before .kind-of .ensures in
-    let x = letterIn (a .t1) (c .before .before .before .before .before .before .before .before .before .before .before .before .before .before .before .before .before .place-of .result) in
-    let st = stationIn (a .t1) (c .before .before .before .before .before .before .before .before .before .before .before .before .before .before .before .concerned .result) in
+    let a = begunAt c .args in
+    let good = not-false _ (meAt c .before .before .before .before .before .if1 .left) in
+    let tested = meAt c .before .before .before .before .before .before .well-formed .ensures in
+    let k = meAt c .before .before .before .kind-of .ensures in
+    let x = letterIn (a .t1) (placeOf c) in
+    let st = stationIn (a .t1) (meOf c) in
     record {
       seen = record {
-        sized = c .before .before .before .before .before .before .before .before .before .before .before .before .before .before .before .before .before .before .before .before .before .well-formed .ensures .1 (not-false _ (c .before .before .before .before .before .before .before .before .before .before .before .before .before .before .before .before .before .before .before .before .if1 .left));
-        holds = is-T _ (sym (c .before .before .before .before .before .before .before .before .before .before .before .before .before .before .before .before .before .before .before .before .before .well-formed .ensures .0) ∙ not-false _ (c .before .before .before .before .before .before .before .before .before .before .before .before .before .before .before .before .before .before .before .before .if1 .left));
-        at = c .before .before .before .before .before .before .before .before .before .before .before .before .before .before .before .before .before .place-of .ensures;
-        who = c .before .before .before .before .before .before .before .before .before .before .before .before .before .before .before .concerned .ensures ∙ ap (λ (e : Kind). inRoom (concernedBy e (networkOf (a .t1 .net)) (a .a) x)) k;
-        names = c .before .before .before .before .before .before .before .before .before .before .before .before .before .before .there .ensures ∙ ap (λ (e : Kind). existsAs e (networkOf (a .t1 .net)) (a .t1 .flying) (a .a) (a .b)) k;
-        link =
-            c .before .before .before .before .before .before .before .before .before .before .before .before .before .link-of .ensures
-            ∙ ap (λ (e : Kind). linkOf e (a .b) x % 64) k;
-        subject = c .before .before .before .before .before .before .before .before .before .before .before .before .subject-of .ensures;
-        mine = c .before .before .before .before .before .before .before .before .before .before .before .own-links .ensures;
-        plans = subst (λ (e : Kind). EventPlans (c .before .before .before .before .before .before .before .before .before .before .before .before .before .before .there .result) e (c .before .before .before .before .before .before .before .before .before .before .before .own-links .result) (c .before .before .before .before .before .before .before .before .before .before .before .before .before .before .before .concerned .result) (c .before .before .before .before .before .before .before .before .before .before .before .before .before .link-of .result) x (getD (st .counters) (c .before .before .before .before .before .before .before .before .before .before .before .before .before .link-of .result) 0) (getD (st .counters) (c .before .before .before .before .before .before .before .before .before .before .before .before .subject-of .result) 0) (st .condition) (st .marks) (c .before .before .before .before .before .before .before .plan-event .result)) k (c .before .before .before .before .before .before .before .plan-event .ensures .1);
+        sized = tested .1 good;
+        holds = is-T _ (sym (tested .0) ∙ good);
+        at = meAt c .before .before .place-of .ensures;
+        who = by-kind (λ e. inRoom (concernedBy e (networkOf (a .t1 .net)) (a .a) x)) (meAt c .concerned .ensures) k;
+        names =
+            by-kind (λ e. existsAs e (networkOf (a .t1 .net)) (a .t1 .flying) (a .a) (a .b))
+            (namesAt c .before .before .before .there .ensures) k;
+        link = by-kind (λ e. linkOf e (a .b) x % linkRoom) (namesAt c .before .before .link-of .ensures) k;
+        subject = namesAt c .before .subject-of .ensures;
+        mine = namesAt c .own-links .ensures;
+        plans =
+            subst (λ (e : Kind). EventPlans (thereOf c) e (ownOf c) (meOf c) (onOf c) x (getD (st .counters) (onOf c) 0)
+            (getD (st .counters) (aboutOf c) 0) (st .condition) (st .marks) (planAt c .plan-event .result)) k
+            (planAt c .plan-event .ensures .1);
       };
-      within = who-within (c .before .before .before .before .before .before .before .before .before .before .before .before .before .before .before);
-      tells = c .before .before .before .before .before .before .told-table .ensures;
+      within = who-within (meAt c);
+      tells = toldAt c .told-table .ensures;
       sends = c .before .before .before .before .narrow .ensures;
-      counts = c .before .before .before .count .ensures (c .before .before .before .before .before .before .before .before .before .before .before .before .before .before .before .concerned .result) (c .before .before .before .before .before .before .told-table .result);
-      goes = c .before .before .takes-letter .ensures ∙ ap takesLetter k;
+      counts = c .before .before .before .count .ensures (meOf c) (toldOf c);
+      goes = by-kind takesLetter (c .before .before .takes-letter .ensures) k;
       stays = c .before .left-of .ensures;
       says = c .number-of .ensures;
     }
 
 -- the table that is told has its room
-told-size : (c : tie.After-told-table Inv-loop μ-loop Inv-loop2 μ-loop2) → length (c .told-table .result) ≡ 64
+told-size : (c : tie.After-told-table Inv-loop μ-loop Inv-loop2 μ-loop2) → length (c .told-table .result) ≡ linkRoom
 told-size c = search needs
 
--- the state where the letters begin to close up, and where new letters begin to be put
+-- the answer, from where the letters begin to close up and from where new letters begin to be put
+abbrev closes : tie.After-pick Inv-loop μ-loop Inv-loop2 μ-loop2 → Answered
+closes c = c .before .before .before .before
+
+abbrev puts : tie.After-begun Inv-loop μ-loop Inv-loop2 μ-loop2 → tie.After-pick Inv-loop μ-loop Inv-loop2 μ-loop2
+puts c = c .before .before .before .before .before
+
+-- the state at these two
 abbrev closesFrom : tie.After-pick Inv-loop μ-loop Inv-loop2 μ-loop2 → State
 closesFrom c =
-    let a = c .before .before .before .before .before .before .before .before .before .before .before .before .before .before .before .before .before .before .before .before .before .before .before .before .before .before .args in
-    let p = c .before .before .before .before .before .before .before .before .before .before .before .plan-event .result in
-    record {
-      net = a .t1 .net;
-      flying = a .t1 .flying;
-      letters = a .t1 .letters;
-      stations = set (a .t1 .stations) (c .before .before .before .before .before .before .before .before .before .before .before .before .before .before .before .before .before .before .before .concerned .result) (record { condition = p .condition; counters = c .before .before .kept-table .result; marks = p .marks });
-    }
+    let a = begunAt (closes c) .args in
+    let p = planAt (closes c) .plan-event .result in
+    let me : Station = record { condition = p .condition; counters = c .before .before .kept-table .result; marks = p .marks } in
+    record { net = a .t1 .net; flying = a .t1 .flying; letters = a .t1 .letters; stations = set (a .t1 .stations) (meOf (closes c)) me }
 
 abbrev putsFrom : tie.After-begun Inv-loop μ-loop Inv-loop2 μ-loop2 → State
 putsFrom c =
@@ -203,19 +249,17 @@ number-of-requires c κs = search needs
 
 returns-2 : tie.Need-returns-2 Inv-loop μ-loop Inv-loop2 μ-loop2
 returns-2 c =
-    let a = c .before .before .before .before .before .before .before .before .before .before .before .before .before .before .before .before .before .before .before .before .before .before .before .args in
+    let a = begunAt (c .before) .args in
     refused-event (a .t1) (a .kind) (a .a) (a .b) (facts (c .before) .seen .holds) _ (answer-refusal (facts (c .before))) (c .if2 .taken)
 
 kept-table-requires : tie.Need-kept-table-requires Inv-loop μ-loop Inv-loop2 μ-loop2
 kept-table-requires c κs = search needs
 
 mul-t52 : tie.Need-mul-t52 Inv-loop μ-loop Inv-loop2 μ-loop2
-mul-t52 c =
-    omega (arith, who-within (c .before .before .before .before .before .before .before .before .before .before .before .before .before .before .before .before .before .before))
+mul-t52 c = omega (arith, who-within (meAt (c .before .before .before)))
 
 element-set-from-s : tie.Need-element-set-from-s Inv-loop μ-loop Inv-loop2 μ-loop2
-element-set-from-s c =
-    who-within (c .before .before .before .before .before .before .before .before .before .before .before .before .before .before .before .before .before .before)
+element-set-from-s c = who-within (meAt (c .before .before .before))
 
 cast-last : tie.Need-cast-last Inv-loop μ-loop Inv-loop2 μ-loop2
 cast-last c = omega arith
@@ -225,9 +269,9 @@ pick-requires c κs = search needs
 
 loop-holds : tie.Need-loop-holds Inv-loop μ-loop Inv-loop2 μ-loop2
 loop-holds c =
-    let f = facts (c .before .before .before .before) in
-    let r = closes-within f (c .before .before .before .if2 .left) (c .pick .result)
-    (c .before .before .before .before .before .left-of .result) refl (c .pick .ensures) in
+    let f = facts (closes c) in
+    let r = closes-within f (c .before .before .before .if2 .left) (c .pick .result) (closes c .before .left-of .result) refl
+    (c .pick .ensures) in
     (omega arith, r .0, r .1, f .seen .sized .letters, not-shifted (closesFrom c) (c .pick .result))
 
 add-j : tie.Need-add-j Inv-loop μ-loop Inv-loop2 μ-loop2
@@ -271,39 +315,34 @@ freed-requires c κs = search needs
 
 mul-unused : tie.Need-mul-unused Inv-loop μ-loop Inv-loop2 μ-loop2
 mul-unused c =
+    let p = c .before .before .before .before in
+    let left = closes p .before .left-of .result in
     omega (
       arith,
-      free-within (facts (c .before .before .before .before .before .before .before .before))
-          (c .before .before .before .before .before .before .before .if2 .left)
-          (c .before .before .before .before .before .before .before .before .before .left-of .result) (c .before .pick2 .result) refl
+      free-within (facts (closes p)) (p .before .before .before .if2 .left) left (c .before .pick2 .result) refl
           (c .before .pick2 .ensures),
     )
 
 element-set-from-unused : tie.Need-element-set-from-unused Inv-loop μ-loop Inv-loop2 μ-loop2
 element-set-from-unused c =
-    free-within (facts (c .before .before .before .before .before .before .before .before))
-    (c .before .before .before .before .before .before .before .if2 .left) _ _ refl (c .before .pick2 .ensures)
+    let p = c .before .before .before .before in
+    free-within (facts (closes p)) (p .before .before .before .if2 .left) _ _ refl (c .before .pick2 .ensures)
 
 begun-requires : tie.Need-begun-requires Inv-loop μ-loop Inv-loop2 μ-loop2
 begun-requires c κs = search needs
 
 loop2-holds : tie.Need-loop2-holds Inv-loop μ-loop Inv-loop2 μ-loop2
 loop2-holds c =
-    let f = facts (c .before .before .before .before .before .before .before .before .before) in
-    let me = c .before .before .before .before .before .before .before .before .before .before .before .before .before .before .before .before .before .before .before .before .before .before .before .before .concerned .result in
-    let told = c .before .before .before .before .before .before .before .before .before .before .before .before .before .before .before .told-table .result in
-    let g = P.start me told
-    (c .before .before .before .before .before .before .before .before .before .before .before .before .before .narrow .result) _
-    (c .begun .ensures) in (
+    let n = closes (puts c) in
+    let g = P.start (meOf n) (toldOf n) (n .before .before .before .before .narrow .result) _ (c .begun .ensures) in (
       omega arith,
-      few-after f (c .before .before .before .before .before .before .before .before .if2 .left),
-      c .before .before .before .before .before .before .before .before .before .before .before .before .count .ensures me told
-          ∙ ap length (sym (g .0)),
+      few-after (facts n) (puts c .before .before .before .if2 .left),
+      n .before .before .before .count .ensures (meOf n) (toldOf n) ∙ ap length (sym (g .0)),
       g .1,
       refl,
       refl,
-      told-size (c .before .before .before .before .before .before .before .before .before .before .before .before .before .before .before),
-      λ ls e n. e ∙ posted-none ls (posted me told (c .begun .result)),
+      told-size (toldAt n),
+      λ ls e l. e ∙ posted-none ls (posted (meOf n) (toldOf n) (c .begun .result)),
     )
 
 cast-at : tie.Need-cast-at Inv-loop μ-loop Inv-loop2 μ-loop2
@@ -345,10 +384,11 @@ loop2-less c = omega arith
 loop2-again : tie.Need-loop2-again Inv-loop μ-loop Inv-loop2 μ-loop2
 loop2-again c =
     let l = c .before .before .before .before .loop2 in
-    let me = c .before .before .before .before .before .before .before .before .before .before .before .before .before .before .before .before .before .before .before .before .before .before .before .before .before .before .before .before .before .concerned .result in
-    let told = c .before .before .before .before .before .before .before .before .before .before .before .before .before .before .before .before .before .before .before .before .told-table .result in
-    let post = c .before .before .before .before .before .begun .result in
-    let at : ℕ = c .before .before .before .before .before .before .before .before .before .before .before .before .before .before .before .left-of .result + l .i in
+    let b = c .before .before .before .before .before in
+    let me = meOf (closes (puts b)) in
+    let told = toldOf (closes (puts b)) in
+    let post = b .begun .result in
+    let at : ℕ = closes (puts b) .before .left-of .result + l .i in
     let k : l .i < length (posted me told post) = omega (arith, l .inv .2) in
     let st = P.step-seen me told (l .post) _ _ _ _ (posted me told post) (l .i) noLetter (c .before .before .subject .ensures) refl
     (c .before .first .ensures) (c .rest .ensures) (l .inv .3) (l .inv .4) k in (
@@ -357,7 +397,7 @@ loop2-again c =
       l .inv .2,
       st .2,
       st .1,
-      other-letters (putsFrom (c .before .before .before .before .before)) (l .s) (set (l .s .letters) at (c .before .first .result))
+      other-letters (putsFrom b) (l .s) (set (l .s .letters) at (c .before .first .result))
           (l .inv .5),
       l .inv .6,
       λ ls e n. ap (λ (x : List Letter). set x at (c .before .first .result)) (l .inv .7 ls e n)
@@ -370,32 +410,33 @@ add-s c = omega arith
 
 returns-3 : tie.Need-returns-3 Inv-loop μ-loop Inv-loop2 μ-loop2
 returns-3 c =
-    let a = c .before .before .before .before .before .before .before .before .before .before .before .before .before .before .before .before .before .before .before .before .before .before .before .before .before .before .before .before .before .before .before .before .before .before .args in
-    let f = facts (c .before .before .before .before .before .before .before .before .before .before .before .before) in
-    let q = c .before .before .before .before .before .before .before .before .before .before .before .if2 .left in
+    let b = c .before .before .before in
+    let n = closes (puts b) in
+    let a = begunAt n .args in
+    let f = facts n in
+    let q = puts b .before .before .before .if2 .left in
     let l = c .before .before .loop2 in
-    let m = c .before .before .before .before .before .before .before .loop in
-    let me = c .before .before .before .before .before .before .before .before .before .before .before .before .before .before .before .before .before .before .before .before .before .before .before .before .before .before .before .concerned .result in
-    let told = c .before .before .before .before .before .before .before .before .before .before .before .before .before .before .before .before .before .before .told-table .result in
-    let left = c .before .before .before .before .before .before .before .before .before .before .before .before .before .left-of .result in
-    let post = c .before .before .before .begun .result in
-    let g = P.start me told (c .before .before .before .before .before .before .before .before .before .before .before .before .before .before .before .before .narrow .result) _ (c .before .before .before .begun .ensures) in
+    let m = b .before .before .before .before .loop in
+    let me = meOf n in
+    let told = toldOf n in
+    let left = n .before .left-of .result in
+    let post = b .begun .result in
+    let g = P.start me told (n .before .before .before .before .narrow .result) _ (b .begun .ensures) in
     let new = g .0 ∙ new-are f q in
     let end : m .i ≡ left = omega arith in
     let all : l .i ≡ length (posted me told post) = omega (arith, l .inv .2) in
-    let from = c .before .before .before .before .before .before .before .before .pick .result in
-    let free = c .before .before .before .before .before .pick2 .result in
-    let unused = c .before .before .before .before .freed .result in
+    let from = puts b .pick .result in
+    let free = b .before .before .pick2 .result in
+    let unused = b .before .freed .result in
+    let kept = puts b .before .before in
     let closed = ap (λ (x : State). set (x .letters) free unused) (m .inv .4)
     ∙ ap (λ (i : ℕ). set (closing from (a .t1 .letters) i) free unused) end
-    ∙ closed-up f q from left free unused refl (c .before .before .before .before .before .before .before .before .pick .ensures)
-    (c .before .before .before .before .before .pick2 .ensures) (c .before .before .before .before .freed .ensures) in
+    ∙ closed-up f q from left free unused refl (puts b .pick .ensures) (b .before .before .pick2 .ensures) (b .before .freed .ensures) in
     let put = l .inv .7 (leftLetters f q) closed (left-length f q)
-    ∙ ap (λ (x : List Letter). roomed 4096 noLetter (leftLetters f q ++ x))
+    ∙ ap (λ (x : List Letter). roomed letterRoom noLetter (leftLetters f q ++ x))
     (ap (λ (i : ℕ). take i (posted me told post)) all ∙ take-length (posted me told post) ∙ new) in
-    made f q (l .s .net) (l .s .stations) (l .s .letters) (left + c .before .before .before .before .before .before .before .before .before .before .before .before .before .before .before .count .result) (c .before .before .before .before .before .before .before .before .before .before .kept-table .result)
-    (ap (λ (x : State). x .net) (l .inv .5) ∙ ap (λ (x : State). x .net) (m .inv .4))
-    (c .before .before .before .before .before .before .before .before .before .before .kept-table .ensures)
+    made f q (l .s .net) (l .s .stations) (l .s .letters) (left + n .before .before .before .count .result) (kept .kept-table .result)
+    (ap (λ (x : State). x .net) (l .inv .5) ∙ ap (λ (x : State). x .net) (m .inv .4)) (kept .kept-table .ensures)
     (ap (λ (x : State). x .stations) (l .inv .5) ∙ ap (λ (x : State). x .stations) (m .inv .4)) put refl
 
 pub step-spec : {M : Type 1} → statement M
