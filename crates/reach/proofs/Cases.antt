@@ -3,7 +3,7 @@ use Prim.Native.Nat.{ℕ}
 use mathlib.Core.Path.{_≡_, refl}
 use mathlib.Core.List.{List, [], _∷_, _++_, map}
 use Rattle.net.specs.Network.{Network}
-use Rattle.reach.specs.Reach.{worksIn, report}
+use Rattle.reach.specs.Reach.{worksIn, spread, within, reach, report}
 
 pub record Case : Type 0 where
   pub number : ℕ
@@ -22,5 +22,5 @@ table =
     ∷ []
 
 pub cases-hold : map (λ c. c .got) table ≡ map (λ c. c .want) table
-unfolding table
+unfolding table reach within spread
 cases-hold = refl

@@ -55,13 +55,11 @@ spread net works set = map (λ t. has set t || any (joinsTo net works set t) (li
 
 -- reached within h links: within h + 1 if within h, or joined by a working link to one that is
 unfoldable pub within : Network → (ℕ → Bool) → ℕ → ℕ → List Bool
-unfolding spread
 within net works s zero = map (λ t. eqb s t) (below (net .stations))
 within net works s (suc h) = spread net works (within net works s h)
 
 -- no way needs more links than there are stations
 unfoldable pub reach : Network → (ℕ → Bool) → ℕ → List Bool
-unfolding within
 reach net works s = within net works s (net .stations)
 
 -- how many are reached
@@ -80,7 +78,6 @@ near net member k = member (ends net k .low) || member (ends net k .high)
 
 -- in s's table every link neither of whose ends s reaches gets counter 1
 unfoldable pub purge : Network → (ℕ → Bool) → ℕ → List ℕ → List ℕ
-unfolding reach
 purge net works s table = map (λ k. if near net (has (reach net works s)) k then counterIn table k else 1) (linkNumbers net)
 
 -- a link in the report: 0 perceived unreachable, neither end reached; 1 working; 2 unresponsive
@@ -89,7 +86,6 @@ linkValue reached works = if reached then (if works then 1 else 2) else 0
 
 -- one for each station, 1 working and 0 unreachable, then one for each link
 unfoldable pub report : Network → (ℕ → Bool) → ℕ → List ℕ
-unfolding reach
 report net works s =
     map (λ t. bit (has (reach net works s) t)) (below (net .stations))
     ++ map (λ k. linkValue (near net (has (reach net works s)) k) (works k)) (linkNumbers net)

@@ -5,6 +5,7 @@ use mathlib.Core.List.{List, [], _∷_, _++_}
 use lib.Dec.{leb}
 use lib.ListN.{getD}
 use Rattle.lists.specs.Lists.{if_then_else_}
+use Rattle.lists.specs.Places.{collect}
 use Rattle.fields.specs.Fields.{Field, short, field, firstField, writeField, isField, isEmpty}
 use Rattle.net.specs.Network.{Ends, Network}
 use Rattle.net.specs.Sizes.{stationRoom, linkRoom}
@@ -88,8 +89,7 @@ abbrev pub linkBytes : Ends → List ℕ
 linkBytes e = writeField linkTag (e .low ∷ e .high ∷ [])
 
 unfoldable pub writeLinks : List Ends → List ℕ
-writeLinks [] = []
-writeLinks (e ∷ es) = linkBytes e ++ writeLinks es
+writeLinks es = collect linkBytes es
 
 unfoldable pub writeSheet : Network → List ℕ
 writeSheet net = writeField stationsTag (net .stations ∷ []) ++ writeLinks (net .links) ++ writeField endTag []

@@ -11,7 +11,7 @@ use Rattle.net.specs.declared.Letter.{Letter}
 use Rattle.net.specs.Network.{Network}
 use Rattle.net.specs.Letters.{letterHolds}
 use Rattle.counters.specs.Counters.{healed, healing}
-use Rattle.reach.specs.Reach.{purge}
+use Rattle.reach.specs.Reach.{purge, spread, within, reach}
 use Rattle.reach.proofs.Cases.{Case}
 use Rattle.sheet_rules.specs.Rules.{sheetHolds}
 use Rattle.sheet_rules.proofs.Examples.{line-of-three}
@@ -104,5 +104,5 @@ table =
 
 -- the single claim
 pub cases-hold : map (λ c. c .got) table ≡ map (λ c. c .want) table
-unfolding table
+unfolding table reach within spread
 cases-hold = rw line-of-three refl

@@ -12,7 +12,7 @@ use Rattle.net.specs.Network.{Network}
 use Rattle.sheet_rules.proofs.Examples.{line-of-four}
 use Rattle.net.specs.Letters.{letterHolds}
 use Rattle.counters.specs.Counters.{healed, healing}
-use Rattle.reach.specs.Reach.{purge}
+use Rattle.reach.specs.Reach.{purge, spread, within, reach}
 use Rattle.marks.specs.declared.Marks.{Marks}
 use Rattle.station.specs.declared.Condition.{Condition}
 use Rattle.station.specs.declared.Condition.the-variants.{Down, Waiting, Live}
@@ -193,5 +193,5 @@ traps =
     ∷ []
 
 pub traps-hold : map (λ c. c .got) traps ≡ map (λ c. c .want) traps
-unfolding traps
+unfolding traps reach within spread
 traps-hold = rw line-of-four refl

@@ -5,6 +5,7 @@ use mathlib.Core.List.{List, [], _∷_, _++_, map}
 use lib.Dec.{eqb, ltb}
 use lib.ListN.{set}
 use Rattle.lists.specs.Lists.{if_then_else_, keep}
+use Rattle.lists.specs.Places.{collect}
 use Rattle.net.specs.declared.Body.{Body}
 use Rattle.net.specs.declared.Body.the-variants.{Request, Reply, Notice}
 use Rattle.net.specs.declared.Letter.{Letter}
@@ -29,8 +30,7 @@ onEach s b ks = map (λ k. letter s k b) ks
 
 -- a notice of each subject, with its counter, on each way
 abbrev pub tell : ℕ → (ℕ → ℕ) → List ℕ → List ℕ → List Letter
-tell s c [] ways = []
-tell s c (j ∷ subjects) ways = onEach s (Notice j (c j)) ways ++ tell s c subjects ways
+tell s c subjects ways = collect (λ j. onEach s (Notice j (c j)) ways) subjects
 
 -- a list without k
 abbrev pub less : ℕ → List ℕ → List ℕ

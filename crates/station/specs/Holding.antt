@@ -72,9 +72,7 @@ implies a b = not a || b
 
 -- testing never stands with token, turn or quiet; token never with turn; asked only with testing
 abbrev pub together : Marks → Bool
-together m =
-    implies (m .testing) (not (m .token) && not (m .turn) && not (m .quiet)) && implies (m .token) (not (m .turn)) && implies (m .asked)
-    (m .testing)
+together m = not (m .testing && (m .token || m .turn || m .quiet)) && not (m .token && m .turn) && not (m .asked && not (m .testing))
 
 abbrev pub isOff : Marks → Bool
 isOff m = not (m .token || m .turn || m .testing || m .asked || m .quiet)
