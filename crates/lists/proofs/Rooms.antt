@@ -6,8 +6,10 @@ use native.Mathlib.Decide.{decLt}
 use native.Mathlib.Nat.{not-suc-le-zero, le-of-suc-le-suc}
 use native.Mathlib.Numerals.{add-one}
 use native.Mathlib.Omega.{arith}
-use lib.ListN.{length, getD, set, take, drop, replicate, length-append, length-set, length-replicate, getD-replicate, take-append-drop, List·getD-append}
-use lib.Seq.{length-take-le, take-suc, drop-cons, take-append-seam, getD-append-add, getD-take, getD-drop, set-at, take-at, drop-at, set-append-left, ext-getD}
+use lib.ListN.{length, getD, set, take, drop, replicate, length-append, length-set, length-replicate}
+use lib.ListN.{getD-replicate, take-append-drop, List·getD-append}
+use lib.Seq.{length-take-le, take-suc, drop-cons, take-append-seam, getD-append-add, getD-take}
+use lib.Seq.{getD-drop, set-at, take-at, drop-at, set-append-left, ext-getD}
 use Rattle.lists.specs.Places.{without, roomed, closing}
 use Rattle.lists.proofs.Without.{length-without}
 

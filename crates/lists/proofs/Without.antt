@@ -1,4 +1,5 @@
--- A list without one of its places: one shorter, less by what that place gives, and what all passed they pass still. Who is still in it: Places.
+-- A list without one of its places: one shorter, less by what that place gives, and what all passed they pass still.
+-- Who is still in it: Places.
 use Prim.Native.Nat.{ℕ, zero, suc, _+_, _<_}
 use mathlib.Core.Bool.{Bool}
 use mathlib.Core.Path.{_≡_}

@@ -1,5 +1,5 @@
--- A list without one of its places, a list in its room, the lists that its elements give joined to one, and the largest number that they give.
--- Their laws: proofs/Places.antt, proofs/Sums.antt, proofs/Rooms.antt.
+-- A list without one of its places, a list in its room, the lists that its elements give joined to one, and the largest number
+-- that they give. Their laws: proofs/Places.antt, proofs/Sums.antt, proofs/Rooms.antt.
 use Prim.Native.Nat.{ℕ, zero, suc, _-_, max}
 use mathlib.Core.List.{List, [], _∷_, _++_}
 use lib.ListN.{length, take, drop, replicate}

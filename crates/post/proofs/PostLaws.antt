@@ -12,6 +12,7 @@ use lib.Seq.{drop-cons}
 use Rattle.lists.specs.Lists.{if_then_else_}
 use Rattle.net.specs.declared.Body.the-variants.{Request, Reply}
 use Rattle.net.specs.declared.Letter.{Letter}
+use Rattle.net.specs.Sizes.{linkRoom}
 use Rattle.station.specs.declared.Sending.{Sending}
 use Rattle.station.specs.Done.{letter, onEach, tell}
 use Rattle.station.specs.Values.{membersOf, lettersOf}
@@ -47,8 +48,8 @@ pub start : (s : ℕ) (told : List ℕ) (x : Sending) (p : Post) → p ≡ begun
 start s told x p e = (ap (posted s told) e ∙ begun-posts s told x, subst⁻¹ Going e (begun-going x))
 
 -- the link that is told of has a place in a table
-pub subject-few : (p : Post) (j : ℕ) → j ≡ lowestIn (p .subjects) → j < 64
-subject-few p j e = subst⁻¹ (λ (x : ℕ). x < 64) e (lowest-lt (p .subjects))
+pub subject-few : (p : Post) (j : ℕ) → j ≡ lowestIn (p .subjects) → j < linkRoom
+subject-few p j e = subst⁻¹ (λ (x : ℕ). x < linkRoom) e (lowest-lt (p .subjects))
 
 -- ---- what is left, by the lists that its words mean
 module _ (s : ℕ) (told : List ℕ) where

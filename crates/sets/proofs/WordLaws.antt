@@ -13,7 +13,8 @@ use borrow.Author.Tests.{eq-eqb, ne-eqb, lt-ltb, le-ltb}
 use Rattle.lists.specs.Lists.{if_then_else_, below}
 use Rattle.lists.specs.Words.{bit, bitAt, inWord, wordOf}
 use Rattle.lists.proofs.Numbers.{getD-map-below, length-map-below}
-use Rattle.lists.proofs.Words.{in-is-one, out-is-zero, one-is-in, zero-is-out, beyond, none-in, word-ext, put-same, put-other, put-fits, off-room, off-same, off-other, not-at, and-at, or-at, wordOf-lt, in-wordOf}
+use Rattle.lists.proofs.Words.{in-is-one, out-is-zero, one-is-in, zero-is-out, beyond, none-in, word-ext, put-same, put-other}
+use Rattle.lists.proofs.Words.{put-fits, off-room, off-same, off-other, not-at, and-at, or-at, wordOf-lt, in-wordOf}
 use Rattle.sets.specs.Sets.{wordBy, upTo}
 
 module _ (f : ℕ → Bool) where

@@ -13,4 +13,8 @@ counted count n = min (count + n) largest
 -- the tally after a step that settled, raised and dropped so many
 abbrev pub tallied : Tally → Tally → Tally
 tallied t n =
-    record { settled = counted (t .settled) (n .settled); raised = counted (t .raised) (n .raised); dropped = counted (t .dropped) (n .dropped) }
+    record {
+      settled = counted (t .settled) (n .settled);
+      raised = counted (t .raised) (n .raised);
+      dropped = counted (t .dropped) (n .dropped);
+    }

@@ -54,7 +54,8 @@ slice-relend-prefix-run-in c = search needs
 
 slice-aggregate-run-in : tie.Need-slice-aggregate-run-in
 slice-aggregate-run-in c =
-    let n = c .before .before .before in omega (arith, length-take (n .long .result) (begun n .args .buf .now), c .before .before .if2 .left)
+    let n = c .before .before .before in
+    omega (arith, length-take (n .long .result) (begun n .args .buf .now), c .before .before .if2 .left)
 
 run-in-requires : tie.Need-run-in-requires
 run-in-requires c κs = search needs

@@ -18,28 +18,26 @@ use Rattle.letters.proofs.sender_of.Reads as sender-of-reads
 use Rattle.letters.proofs.values_hold.Reads as values-hold-reads
 use Rattle.sheet_rules.proofs.keeps_sheet_rules.Reads as keeps-sheet-rules-reads
 
--- ---- the facts along the function: where it began, and what is known of the bytes there
-abbrev begun : tie.After-cut-first → tie.Start
-begun c = c .before .before .before .before
+-- ---- the facts along the function: where it began, that the network is good, the field at the front of the bytes, its form
+abbrev begun : tie.After-tag → tie.Start
+begun c = c .before .before .before .before .before .before
 
 good : (c : tie.Else1) → netHolds (c .before .before .before .args .t1) ≡ true
 good c = good-seen _ _ (c .before .keeps-sheet-rules .ensures) (c .if1 .left)
 
-abbrev cut : tie.After-tag → tie.After-cut-first
-cut c = c .before .before
+front : (c : tie.After-tag) → Seen (now (begun c .args .bytes)) (c .tag .given .0 .0) (c .tag .given .0 .1 .0)
+front c = whole-seen (now (begun c .args .bytes)) _ _ (sym (c .tag .given .1) ∙ c .before .before .cut-first .ensures)
 
-front : (c : tie.After-tag) → Seen (now (begun (cut c) .args .bytes)) (c .tag .given .0 .0) (c .tag .given .0 .1 .0)
-front c = whole-seen (now (begun (cut c) .args .bytes)) _ _ (sym (c .tag .given .1) ∙ cut c .cut-first .ensures)
-
-abbrev read-tag : tie.After-form-of → tie.After-tag
-read-tag c = c .before .before
+abbrev tagged : tie.After-form-of → tie.After-tag
+tagged c = c .before .before
 
 formed : (c : tie.After-body)
-    → Formed (begun (cut (read-tag (c .before .before))) .args .t1) (now (begun (cut (read-tag (c .before .before))) .args .bytes))
-    (read-tag (c .before .before) .tag .given .0 .0) (read-tag (c .before .before) .tag .given .0 .1 .0) (c .body .given .0 .0)
+    → Formed (begun (tagged (c .before .before)) .args .t1) (now (begun (tagged (c .before .before)) .args .bytes))
+    (tagged (c .before .before) .tag .given .0 .0) (tagged (c .before .before) .tag .given .0 .1 .0) (c .body .given .0 .0)
 formed c =
-    let t = read-tag (c .before .before) in
-    record { good = good (cut t .before); cut = front t; form = sym (c .before .before .form-of .ensures) ∙ ap formIn (c .body .given .1) }
+    let t = tagged (c .before .before) in
+    let form = sym (c .before .before .form-of .ensures) ∙ ap formIn (c .body .given .1) in
+    record { good = good (t .before .before .before); cut = front t; form = form }
 
 abbrev said : tie.After-values-hold → tie.After-body
 said c = c .before .before .before .before
@@ -62,9 +60,9 @@ enum-told c = search needs
 
 returns-2 : tie.Need-returns-2
 returns-2 c =
-    let b = now (begun (c .before .before) .args .bytes) in
-    read-short (begun (c .before .before) .args .t1) b (good (c .before .before .before))
-    (short-seen b (sym (c .enum-told .given .1) ∙ c .before .before .cut-first .ensures))
+    let a = c .before .before .before .before .before .before .args in
+    read-short (a .t1) (now (a .bytes)) (good (c .before .before .before))
+    (short-seen (now (a .bytes)) (sym (c .enum-told .given .1) ∙ c .before .before .cut-first .ensures))
 
 form-of-requires : tie.Need-form-of-requires
 form-of-requires c κs = front (c .before) .fits
@@ -77,9 +75,9 @@ enum-told-2 c = search needs
 
 returns-3 : tie.Need-returns-3
 returns-3 c =
-    let t = read-tag (c .before .before) in
-    let a = begun (cut t) .args in
-    read-unknown (a .t1) (now (a .bytes)) (good (cut t .before)) _ _ (front t) _ (c .before .before .form-of .ensures)
+    let t = tagged (c .before .before) in
+    let a = begun t .args in
+    read-unknown (a .t1) (now (a .bytes)) (good (t .before .before .before)) _ _ (front t) _ (c .before .before .form-of .ensures)
     (c .enum-told2 .given .1)
 
 shared-slice-read-link : tie.Need-shared-slice-read-link

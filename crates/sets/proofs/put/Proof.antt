@@ -42,7 +42,8 @@ add-result : tie.Need-add-result
 add-result c =
     let a = c .before .before .before .before .args in
     let f = c .before .before .before .before .fits .w .fits in
-    record { fits = on-fits (a .w) (a .k) (a .on) f (c .before .before .before .if1 .left) (sym (c .before .before .has .ensures) ∙ c .before .if2 .left) }
+    let off = sym (c .before .before .has .ensures) ∙ c .before .if2 .left in
+    record { fits = on-fits (a .w) (a .k) (a .on) f (c .before .before .before .if1 .left) off }
 
 returns-4 : tie.Need-returns-4
 returns-4 c =

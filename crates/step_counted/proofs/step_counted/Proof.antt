@@ -1,5 +1,6 @@
--- `step_counted::step_counted` meets its contract: a walk of its MIR, by hand. The borrow is opened and closed as it was, to learn that the lent counts have 64 bits; the step is called;
--- then the borrow itself goes to `add` with the answer's counts, and `add` says the last value of the tally.
+-- `step_counted::step_counted` meets its contract: a walk of its MIR, by hand. The borrow is opened and closed as it was, to learn that the
+-- lent counts have 64 bits; the step is called; then the borrow itself goes to `add` with the answer's counts,
+-- and `add` says the last value of the tally.
 use mathlib.Core.Path.{_≡_, refl, sym, ap, subst}
 use Prim.Native.Nat.{ℕ, _<_, _^_}
 use mathlib.Core.List.{[], _∷_, List}
