@@ -3,7 +3,8 @@
 use Prim.Native.Nat.{ℕ, _+_}
 use mathlib.Core.Bool.{Bool, true, false}
 use mathlib.Core.List.{List, [], _∷_, _++_}
-use lib.Dec.{eqb}
+use lib.Dec.{eqb, ltb}
+use lib.ListN.{length, take}
 use Rattle.lists.specs.Lists.{if_then_else_}
 
 -- how far a line is read: the reading, the place behind it, and whether that is behind its newline
@@ -17,6 +18,14 @@ module _ {R : Type 0} (on : R → ℕ → R) where
   abbrev pub stopOf : R → List ℕ → ℕ → Stop R
   stopOf r [] at = record { reading = r; next = at; ended = false }
   stopOf r (b ∷ bytes) at = if eqb b 10 then record { reading = r; next = at + 1; ended = true } else stopOf (on r b) bytes (at + 1)
+
+-- "the last newline may be missing": where a line is begun at the end of the input, one newline more is fed
+abbrev pub closingBy : Bool → List ℕ
+closingBy begun = if begun then 10 ∷ [] else []
+
+-- a piece of the input, where n bytes were read into a room: these; none are the end of the input
+unfoldable pub pieceOf : ℕ → Bool → List ℕ → List ℕ
+pieceOf n begun room = if ltb 0 n then take n room else take (length room) (closingBy begun)
 
 -- a reading where no byte of a line is read, what a byte does to it, what it says where the line ends; what a line does to the value held,
 -- and what is printed for it
@@ -57,10 +66,9 @@ module _ {Y R A : Type 0} (fresh : R) (on : R → ℕ → R) (ends : R → A) (a
   piecesText y r [] = []
   piecesText y r (piece ∷ others) = textAfter y r piece ++ piecesText (heldAfter y r piece) (readAfter y r piece) others
 
-  -- "the last newline may be missing": where a line is begun at the end of the input, one newline more is fed
   module _ (begun : R → Bool) where
     abbrev pub closing : R → List ℕ
-    closing r = if begun r then 10 ∷ [] else []
+    closing r = closingBy (begun r)
 
     unfoldable pub wholeText : Y → List (List ℕ) → List ℕ
     wholeText y pieces =

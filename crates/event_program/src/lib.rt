@@ -8,13 +8,14 @@ ghost use Rattle.event_lines.specs.Steps.{readOn, lineEnd};
 ghost use Rattle.console.specs.Outputs.{Counts, outputBy, Put, wroteBy};
 ghost use Rattle.console.specs.Feeding.{stopOf};
 ghost use Rattle.event_program.specs.Events.{answerText};
-ghost use Rattle.event_program.specs.Runs.{deskOf, texts, enough, ranBy};
+ghost use Rattle.event_program.specs.Runs.{deskOf, texts, enough, ranBy, firstRan};
 ghost use Rattle.event_program.specs.Steps.{askedBy, stopIn};
 ghost use lib.Dec.{leb};
 ghost use Rattle.event_program.specs.Stations.{stationText, stationsText};
 use console::Wrote;
 use event_lines::Line;
 use event_lines::Reading;
+use net::Net;
 use state::State;
 use tally::Tally;
 
@@ -93,6 +94,28 @@ pub struct Ran {
     pub reading: Reading,
     pub tally: Tally,
     pub state: State,
+}
+
+// What the event program holds before its first line.
+// Promise: the fresh state of the network, no counts, and no byte of a line read.
+pub fn begin(net: Net) -> Ran
+    ensures { λ n. ⌜ n ≡ firstRan net ⌝ }
+{
+    let begun = state::fresh(net);
+    let state = begun.state;
+    let reading = event_lines::begin();
+    let tally = Tally {
+        settled: 0,
+        raised: 0,
+        dropped: 0,
+    };
+    Ran {
+        answer: begun.answer,
+        written: 0, // nothing is printed yet
+        reading,
+        tally,
+        state,
+    }
 }
 
 // Runs the event lines that end in these bytes.
