@@ -2,7 +2,8 @@
 use event_program::Ran;
 use state::State;
 
-// A file that can't be opened or read counts as empty: a read of the descriptor -1 gives nothing. The room is larger than a sheet's file may be.
+// A file that can't be opened or read counts as empty: a read of the descriptor -1 gives nothing, and closing it does nothing. The room is
+// larger than a sheet's file may be.
 fn main() {
     let mut file = io::large_buffer();
     let fd = os::open_read(b"network.sheet");

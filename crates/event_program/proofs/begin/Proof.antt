@@ -12,7 +12,8 @@ begin-requires c κs = search needs
 
 returns : tie.Need-returns
 returns c =
-    λ i. ranAs (c .before .before .fresh .ensures i .answer) 0 (c .begin .ensures i) (deskOf (c .before .before .fresh .ensures i .state) noTally)
+    let first = c .before .before .fresh .ensures in
+    λ i. ranAs (first i .answer) 0 (c .begin .ensures i) (deskOf (first i .state) noTally)
 
 pub begin-spec : {M : Type 1} → statement M
 begin-spec = tie.close (tie.spec fresh-requires begin-requires returns)
