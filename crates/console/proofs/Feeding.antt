@@ -1,6 +1,6 @@
 -- The loop over the lines that end in a piece of the input: what holds between its turns, and what it leaves. For any reading, any value
 -- that is held, and lines of at most so many bytes.
-use Prim.Native.Nat.{ℕ, _+_, _-_, _*_, _≤_, _<_}
+use Prim.Native.Nat.{ℕ, suc, _+_, _-_, _*_, _≤_, _<_}
 use mathlib.Core.Bool.{Bool, true, false}
 use mathlib.Core.Path.{_≡_, refl, sym, ap, ap₂, _∙_}
 use mathlib.Core.List.{List, [], _∷_, _++_, append-assoc, append-nil}
@@ -11,12 +11,13 @@ use lib.ListN.{length, take, drop, length-append, take-append-drop}
 use lib.Seq.{length-take-le, take-at, drop-at, drop-drop}
 use borrow.Author.Tests.{eq-eqb, ne-eqb}
 use Rattle.lists.specs.Lists.{if_then_else_}
-use Rattle.lists.specs.Words.{bit}
 use Rattle.text.specs.Text.{putAt}
 use Rattle.text.proofs.Puts.{put-fits, length-put}
 use Rattle.console.specs.Outputs.{Counts, Put}
-use Rattle.console.specs.Feeding.{Stop, stopOf, heldAfter, readAfter, textAfter}
-use Rattle.console.proofs.Reading.{drop-next, Next, next-stop}
+use Rattle.event_lines.specs.Split.{fedBy}
+use Rattle.console.specs.declared.End.{End}
+use Rattle.console.specs.Feeding.{lineSize, lineEnds, endFrom, heldAfter, readAfter, textAfter}
+use Rattle.console.proofs.Reading.{ends-is, line-is, line-whole, end-after, end-inside, end-behind}
 
 module _ {Y R A : Type 0} (fresh : R) (on : R → ℕ → R) (ends : R → A) (act : Y → A → Y) (say : Y → A → List ℕ) where
   abbrev held : Y → R → List ℕ → Y
@@ -28,168 +29,168 @@ module _ {Y R A : Type 0} (fresh : R) (on : R → ℕ → R) (ends : R → A) (a
   abbrev text : Y → R → List ℕ → List ℕ
   text = textAfter fresh on ends act say
 
-  -- what is still to come behind a stop in these bytes
-  abbrev pub restHeld : Y → Stop R → List ℕ → Y
-  restHeld y p bytes = if p .ended then held (act y (ends (p .reading))) fresh (drop (p .next) bytes) else y
+  -- ---- the line at the front of the bytes to come
+  abbrev lineAt : R → List ℕ → A
+  lineAt r later = ends (fedBy on r (take (lineSize later) later))
 
-  abbrev pub restRead : Y → Stop R → List ℕ → R
-  restRead y p bytes = if p .ended then read (act y (ends (p .reading))) fresh (drop (p .next) bytes) else p .reading
+  abbrev behind : List ℕ → List ℕ
+  behind later = drop (suc (lineSize later)) later
 
-  abbrev pub restText : Y → Stop R → List ℕ → List ℕ
-  restText y p bytes = if p .ended then say y (ends (p .reading)) ++ text (act y (ends (p .reading))) fresh (drop (p .next) bytes) else []
+  -- with its newline: it is done, and the rest is to come
+  abbrev Ended : Y → R → List ℕ → Type 0
+  Ended y r later =
+      (text y r later ≡ say y (lineAt r later) ++ text (act y (lineAt r later)) fresh (behind later))
+      × (held y r later ≡ held (act y (lineAt r later)) fresh (behind later))
+      × (read y r later ≡ read (act y (lineAt r later)) fresh (behind later))
 
-  module _ (y : Y) (bytes : List ℕ) where
-    stop-held : (later : List ℕ) (r : R) (at : ℕ) → drop at bytes ≡ later → restHeld y (stopOf on r later at) bytes ≡ held y r later
-    unfolding heldAfter
-    stop-held [] r at e = refl
-    stop-held (b ∷ later) r at e = go (ℕ-discrete b 10) (stop-held later (on r b) (at + 1) (drop-next bytes at b later e))
-      where
-        go : Dec (b ≡ 10) → restHeld y (stopOf on (on r b) later (at + 1)) bytes ≡ held y (on r b) later
-            → restHeld y (stopOf on r (b ∷ later) at) bytes ≡ held y r (b ∷ later)
-        go (yes h) p = simp (eq-eqb b 10 h) (ap (held (act y (ends r)) fresh) (drop-next bytes at b later e))
-        go (no h) p = simp (ne-eqb b 10 h) p
+  line-ended : (later : List ℕ) (y : Y) (r : R) → lineEnds later ≡ true → Ended y r later
+  unfolding heldAfter readAfter textAfter
+  line-ended [] y r e = let z : _≡_ {A = ℕ} 0 1 = cc in absurd (omega arith)
+  line-ended (b ∷ later) y r e = go (ℕ-discrete b 10) (line-ended later y (on r b)) e
+    where
+      go : Dec (b ≡ 10) → (lineEnds later ≡ true → Ended y (on r b) later) → lineEnds (b ∷ later) ≡ true → Ended y r (b ∷ later)
+      go (yes h) p = simp (eq-eqb b 10 h) (λ e. (refl, refl, refl))
+      go (no h) p = simp (ne-eqb b 10 h) p
 
-    stop-read : (later : List ℕ) (r : R) (at : ℕ) → drop at bytes ≡ later → restRead y (stopOf on r later at) bytes ≡ read y r later
-    unfolding readAfter
-    stop-read [] r at e = refl
-    stop-read (b ∷ later) r at e = go (ℕ-discrete b 10) (stop-read later (on r b) (at + 1) (drop-next bytes at b later e))
-      where
-        go : Dec (b ≡ 10) → restRead y (stopOf on (on r b) later (at + 1)) bytes ≡ read y (on r b) later
-            → restRead y (stopOf on r (b ∷ later) at) bytes ≡ read y r (b ∷ later)
-        go (yes h) p = simp (eq-eqb b 10 h) (ap (read (act y (ends r)) fresh) (drop-next bytes at b later e))
-        go (no h) p = simp (ne-eqb b 10 h) p
+  -- without: nothing is done, and it goes on
+  abbrev Open : Y → R → List ℕ → Type 0
+  Open y r later = (text y r later ≡ []) × (held y r later ≡ y) × (read y r later ≡ fedBy on r later)
 
-    stop-text : (later : List ℕ) (r : R) (at : ℕ) → drop at bytes ≡ later → restText y (stopOf on r later at) bytes ≡ text y r later
-    unfolding textAfter
-    stop-text [] r at e = refl
-    stop-text (b ∷ later) r at e = go (ℕ-discrete b 10) (stop-text later (on r b) (at + 1) (drop-next bytes at b later e))
-      where
-        go : Dec (b ≡ 10) → restText y (stopOf on (on r b) later (at + 1)) bytes ≡ text y (on r b) later
-            → restText y (stopOf on r (b ∷ later) at) bytes ≡ text y r (b ∷ later)
-        go (yes h) p =
-            simp (eq-eqb b 10 h) (ap (λ (l : List ℕ). say y (ends r) ++ text (act y (ends r)) fresh l) (drop-next bytes at b later e))
-        go (no h) p = simp (ne-eqb b 10 h) p
+  line-open : (later : List ℕ) (y : Y) (r : R) → lineEnds later ≡ false → Open y r later
+  unfolding heldAfter readAfter textAfter
+  line-open [] y r e = (refl, refl, refl)
+  line-open (b ∷ later) y r e = go (ℕ-discrete b 10) (line-open later y (on r b)) e
+    where
+      go : Dec (b ≡ 10) → (lineEnds later ≡ false → Open y (on r b) later) → lineEnds (b ∷ later) ≡ false → Open y r (b ∷ later)
+      go (yes h) p = simp (eq-eqb b 10 h) (λ e. let z : _≡_ {A = ℕ} 0 1 = cc in absurd (omega arith))
+      go (no h) p = simp (ne-eqb b 10 h) p
 
-  -- ---- between two turns: what is printed so far stands at the front of the output
-  pub record Going (most : ℕ) (bytes old : List ℕ) (y₀ : Y) (p₀ : Stop R) (out : List ℕ) (y : Y) (at : ℕ) (p : Stop R) : Type 0 where
+  -- ---- between two turns: what is printed so far stands at the front of the output, and the bytes from a place on are to come
+  pub record Going (most : ℕ) (bytes old : List ℕ) (y₀ : Y) (r₀ : R) (out : List ℕ) (y : Y) (r : R) (at from : ℕ) : Type 0 where
     pub size : length out ≡ length old
     pub tail : drop at out ≡ drop at old
-    pub text : restText y₀ p₀ bytes ≡ take at out ++ restText y p bytes
-    pub held : restHeld y₀ p₀ bytes ≡ restHeld y p bytes
-    pub read : restRead y₀ p₀ bytes ≡ restRead y p bytes
-    pub room : at + most * bit (p .ended) ≤ most * p .next
-    pub within : p .next ≤ length bytes
+    pub text : textAfter fresh on ends act say y₀ r₀ bytes ≡ take at out ++ textAfter fresh on ends act say y r (drop from bytes)
+    pub held : heldAfter fresh on ends act say y₀ r₀ bytes ≡ heldAfter fresh on ends act say y r (drop from bytes)
+    pub read : readAfter fresh on ends act say y₀ r₀ bytes ≡ readAfter fresh on ends act say y r (drop from bytes)
+    pub room : at ≤ most * from
+    pub within : from ≤ length bytes
     pub enough : most * length bytes ≤ length old
 
-  module _ (most : ℕ) (bytes old : List ℕ) (y₀ : Y) (p₀ : Stop R) where
-    pub going-begins : (r : R) → p₀ ≡ stopOf on r (drop 0 bytes) 0 → most * length bytes ≤ length old
-        → Going most bytes old y₀ p₀ old y₀ 0 p₀
-    going-begins r e h =
-        let n = next-stop on bytes 0 r p₀ (omega arith) e in
-        let room : most * bit (p₀ .ended) ≤ most * p₀ .next = mul-le-mul-left most (omega (arith, n .more)) in
-        record { size = refl; tail = refl; text = refl; held = refl; read = refl; room = omega arith; within = n .within; enough = h }
+  pub going-begins : (most : ℕ) (bytes old : List ℕ) (y₀ : Y) (r₀ : R) → most * length bytes ≤ length old
+      → Going most bytes old y₀ r₀ old y₀ r₀ 0 0
+  going-begins most bytes old y₀ r₀ h =
+      record {
+        size = refl;
+        tail = refl;
+        text = refl;
+        held = refl;
+        read = refl;
+        room = omega arith;
+        within = omega arith;
+        enough = h;
+      }
 
-    module _ (out : List ℕ) (y : Y) (at : ℕ) (p : Stop R) (g : Going most bytes old y₀ p₀ out y at p) (e : p .ended ≡ true) where
-      whole : most * bit (p .ended) ≡ most
-      whole = ap (λ (b : Bool). most * bit b) e ∙ omega arith
+  -- ---- a turn, whose line is read as far as its end
+  module _ (most : ℕ) (bytes old : List ℕ) (y₀ : Y) (r₀ : R) (out : List ℕ) (y : Y) (r : R) (at from : ℕ)
+      (g : Going most bytes old y₀ r₀ out y r at from) (end : End) (is : end ≡ endFrom bytes from) (line : R)
+      (reads : line ≡ fedBy on r (take (end .stop - from) (drop from bytes))) where
+    abbrev later : List ℕ
+    later = drop from bytes
+
+    -- the line ends here
+    module _ (e : end .ended ≡ true) where
+      said-is : ends line ≡ lineAt r later
+      said-is = ap ends (reads ∙ ap (fedBy on r) (line-is bytes from (g .within) end is))
+
+      steps : most * from + most ≤ most * (end .stop + 1)
+      steps =
+          let more : most * (from + 1) ≤ most * (end .stop + 1) =
+          mul-le-mul-left most (omega (arith, end-after bytes from (g .within) end is)) in
+          let spread : most * (from + 1) ≡ most * from + most * 1 = mul-add most from 1 in
+          omega arith
 
       pub going-room : at + most ≤ length out
-      going-room = omega (arith, whole, g .room, mul-le-mul-left most (g .within), g .enough, g .size)
+      going-room =
+          let inside : end .stop + 1 ≤ length bytes = omega (arith, end-inside bytes from (g .within) end is e) in
+          omega (arith, steps, mul-le-mul-left most inside, g .room, g .enough, g .size)
 
-      module _ (z : Y) (is : z ≡ act y (ends (p .reading))) (line : List ℕ) (same : line ≡ say y (ends (p .reading))) (r : ℕ) (new : List ℕ)
-          (w : Put line most at out r new)
-          (q : Stop R) (behind : q ≡ stopOf on fresh (drop (p .next) bytes) (p .next)) where
-        fits : at + length line ≤ length out
+      module _ (z : Y) (does : z ≡ act y (ends line)) (words : List ℕ) (says : words ≡ say y (ends line)) (n : ℕ) (new : List ℕ)
+          (w : Put words most at out n new) (start : R) (begins : start ≡ fresh) where
+        fits : at + length words ≤ length out
         fits = omega (arith, going-room, w .few)
 
-        front : length (take at out ++ line) ≡ r
-        front = length-append (take at out) line ∙ omega (arith, length-take-le at out (omega (arith, fits)), w .place)
+        front : length (take at out ++ words) ≡ n
+        front = length-append (take at out) words ∙ omega (arith, length-take-le at out (omega (arith, fits)), w .place)
 
-        new-is : new ≡ (take at out ++ line) ++ drop (at + length line) out
-        new-is = w .output ∙ put-fits line at out fits
+        new-is : new ≡ (take at out ++ words) ++ drop (at + length words) out
+        new-is = w .output ∙ put-fits words at out fits
 
-        follows : Next on bytes (p .next) q
-        follows = next-stop on bytes (p .next) fresh q (g .within) behind
+        did : Ended y r later
+        did = line-ended later y r (sym (ends-is bytes from (g .within) end is) ∙ e)
 
-        later-text : restText y p bytes ≡ line ++ restText z q bytes
-        later-text =
-            ap (λ (b : Bool). if b then say y (ends (p .reading)) ++ text (act y (ends (p .reading))) fresh (drop (p .next) bytes) else [])
-            e
-            ∙ ap₂ (λ (l : List ℕ) (v : Y). l ++ text v fresh (drop (p .next) bytes)) (sym same) (sym is)
-            ∙ ap (λ (l : List ℕ). line ++ l) (sym (stop-text z bytes (drop (p .next) bytes) fresh (p .next) refl)
-            ∙ ap (λ (v : Stop R). restText z v bytes) (sym behind))
+        -- what is to come, in the words of the turn
+        abbrev to-come : List ℕ
+        to-come = drop (end .stop + 1) bytes
 
-        later-held : restHeld y p bytes ≡ restHeld z q bytes
-        later-held =
-            ap (λ (b : Bool). if b then held (act y (ends (p .reading))) fresh (drop (p .next) bytes) else y) e
-            ∙ ap (λ (v : Y). held v fresh (drop (p .next) bytes)) (sym is)
-            ∙ sym (stop-held z bytes (drop (p .next) bytes) fresh (p .next) refl) ∙ ap (λ (v : Stop R). restHeld z v bytes) (sym behind)
+        here : z ≡ act y (lineAt r later)
+        here = does ∙ ap (act y) said-is
 
-        later-read : restRead y p bytes ≡ restRead z q bytes
-        later-read =
-            ap (λ (b : Bool). if b then read (act y (ends (p .reading))) fresh (drop (p .next) bytes) else p .reading) e
-            ∙ ap (λ (v : Y). read v fresh (drop (p .next) bytes)) (sym is)
-            ∙ sym (stop-read z bytes (drop (p .next) bytes) fresh (p .next) refl) ∙ ap (λ (v : Stop R). restRead z v bytes) (sym behind)
+        rest : behind later ≡ to-come
+        rest = sym (end-behind bytes from (g .within) end is)
 
-        more-room : r + most * bit (q .ended) ≤ most * q .next
-        more-room =
-            let steps : most * (p .next + bit (q .ended)) ≤ most * q .next = mul-le-mul-left most (follows .more) in
-            let spread : most * (p .next + bit (q .ended)) ≡ most * p .next + most * bit (q .ended) = mul-add most (p .next)
-            (bit (q .ended)) in
-            omega (arith, g .room, whole, w .place, w .few)
+        later-text : text y r later ≡ words ++ text z start to-come
+        later-text = did .0 ∙ cc (here, rest, says, said-is, begins)
 
-        pub going-more : Going most bytes old y₀ p₀ new z r q
+        later-held : held y r later ≡ held z start to-come
+        later-held = did .1 ∙ cc (here, rest, begins)
+
+        later-read : read y r later ≡ read z start to-come
+        later-read = did .2 ∙ cc (here, rest, begins)
+
+        pub going-more : Going most bytes old y₀ r₀ new z start n (end .stop + 1)
         going-more =
             record {
-              size = ap length (w .output) ∙ length-put line at out ∙ g .size;
+              size = ap length (w .output) ∙ length-put words at out ∙ g .size;
               tail =
-                  ap (drop r) new-is ∙ drop-at (take at out ++ line) (drop (at + length line) out) r front
-                  ∙ sym (drop-drop (length line) at out)
-                  ∙ ap (drop (length line)) (g .tail) ∙ drop-drop (length line) at old ∙ ap (λ (n : ℕ). drop n old) (sym (w .place));
+                  ap (drop n) new-is ∙ drop-at (take at out ++ words) (drop (at + length words) out) n front
+                  ∙ sym (drop-drop (length words) at out)
+                  ∙ ap (drop (length words)) (g .tail) ∙ drop-drop (length words) at old ∙ ap (λ (k : ℕ). drop k old) (sym (w .place));
               text =
-                  g .text ∙ ap (λ (l : List ℕ). take at out ++ l) later-text ∙ sym (append-assoc (take at out) line (restText z q bytes))
-                  ∙ ap (λ (l : List ℕ). l ++ restText z q bytes)
-                  (sym (ap (take r) new-is ∙ take-at (take at out ++ line) (drop (at + length line) out) r front));
+                  g .text ∙ ap (λ (l : List ℕ). take at out ++ l) later-text ∙ sym (append-assoc (take at out) words (text z start to-come))
+                  ∙ ap (λ (l : List ℕ). l ++ text z start to-come)
+                  (sym (ap (take n) new-is ∙ take-at (take at out ++ words) (drop (at + length words) out) n front));
               held = g .held ∙ later-held;
               read = g .read ∙ later-read;
-              room = more-room;
-              within = follows .within;
+              room = omega (arith, steps, g .room, w .place, w .few);
+              within = omega (arith, end-inside bytes from (g .within) end is e);
               enough = g .enough;
             }
 
-        pub going-less : length bytes - q .next + bit (q .ended) < length bytes - p .next + bit (p .ended)
-        going-less = omega (arith, follows .more, follows .within, ap bit e)
+        pub going-less : length bytes - (end .stop + 1) < length bytes - from
+        going-less = omega (arith, end-after bytes from (g .within) end is, end-inside bytes from (g .within) end is e)
 
-  -- ---- the end of the piece: all of it was printed
-  pub record Done (y₀ : Y) (r : R) (bytes old : List ℕ) (out : List ℕ) (y : Y) (at : ℕ) (p : Stop R) : Type 0 where
-    pub held : y ≡ heldAfter fresh on ends act say y₀ r bytes
-    pub read : p .reading ≡ readAfter fresh on ends act say y₀ r bytes
-    pub written : at ≡ length (textAfter fresh on ends act say y₀ r bytes)
-    pub output : out ≡ putAt (textAfter fresh on ends act say y₀ r bytes) 0 old
-    pub counts : Counts at out
+    -- ---- the line goes on behind these bytes: all of the piece was printed
+    pub record Done : Type 0 where
+      pub held : y ≡ heldAfter fresh on ends act say y₀ r₀ bytes
+      pub read : line ≡ readAfter fresh on ends act say y₀ r₀ bytes
+      pub written : at ≡ length (textAfter fresh on ends act say y₀ r₀ bytes)
+      pub output : out ≡ putAt (textAfter fresh on ends act say y₀ r₀ bytes) 0 old
+      pub counts : Counts at out
 
-  pub going-done : (most : ℕ) (bytes old : List ℕ) (y₀ : Y) (p₀ : Stop R) (out : List ℕ) (y : Y) (at : ℕ) (p : Stop R) (r : R)
-      → p₀ ≡ stopOf on r (drop 0 bytes) 0
-      → Going most bytes old y₀ p₀ out y at p → p .ended ≡ false → Done y₀ r bytes old out y at p
-  going-done most bytes old y₀ p₀ out y at p r e g z =
-      let within : at ≤ length out = omega (arith, g .room, mul-le-mul-left most (g .within), g .enough, g .size) in
-      let said : text y₀ r bytes ≡ take at out =
-      sym (stop-text y₀ bytes bytes r 0 refl) ∙ ap (λ (v : Stop R). restText y₀ v bytes) (sym e) ∙ g .text
-      ∙ ap (λ (b : Bool). take at out ++ (if b then say y (ends (p .reading)) ++ text (act y (ends (p .reading))) fresh
-      (drop (p .next) bytes) else [])) z
-      ∙ append-nil (take at out) in
-      let count : at ≡ length (text y₀ r bytes) = sym (ap length said ∙ length-take-le at out within) in
-      let there : at ≡ 0 + length (text y₀ r bytes) = omega arith in
-      record {
-        held =
-            sym (sym (stop-held y₀ bytes bytes r 0 refl) ∙ ap (λ (v : Stop R). restHeld y₀ v bytes) (sym e) ∙ g .held
-            ∙ ap (λ (b : Bool). if b then held (act y (ends (p .reading))) fresh (drop (p .next) bytes) else y) z);
-        read =
-            sym (sym (stop-read y₀ bytes bytes r 0 refl) ∙ ap (λ (v : Stop R). restRead y₀ v bytes) (sym e) ∙ g .read
-            ∙ ap (λ (b : Bool). if b then read (act y (ends (p .reading))) fresh (drop (p .next) bytes) else p .reading) z);
-        written = count;
-        output =
-            sym (take-append-drop at out) ∙ ap₂ (λ (a b : List ℕ). a ++ b) (sym said) (g .tail ∙ ap (λ (n : ℕ). drop n old) there)
-            ∙ sym (put-fits (text y₀ r bytes) 0 old (omega (arith, g .size)));
-        counts = (within, sym (length-take-le at out within));
-      }
+    pub going-done : end .ended ≡ false → Done
+    going-done e =
+        let left : Open y r later = line-open later y r (sym (ends-is bytes from (g .within) end is) ∙ e) in
+        let within : at ≤ length out = omega (arith, g .room, mul-le-mul-left most (g .within), g .enough, g .size) in
+        let said : text y₀ r₀ bytes ≡ take at out =
+        g .text ∙ ap (λ (l : List ℕ). take at out ++ l) (left .0) ∙ append-nil (take at out) in
+        let count : at ≡ length (text y₀ r₀ bytes) = sym (ap length said ∙ length-take-le at out within) in
+        let there : at ≡ 0 + length (text y₀ r₀ bytes) = omega arith in
+        record {
+          held = sym (g .held ∙ left .1);
+          read = reads ∙ ap (fedBy on r) (line-whole bytes from (g .within) end is e) ∙ sym (g .read ∙ left .2);
+          written = count;
+          output =
+              sym (take-append-drop at out) ∙ ap₂ (λ (a b : List ℕ). a ++ b) (sym said) (g .tail ∙ ap (λ (n : ℕ). drop n old) there)
+              ∙ sym (put-fits (text y₀ r₀ bytes) 0 old (omega (arith, g .size)));
+          counts = (within, sym (length-take-le at out within));
+        }

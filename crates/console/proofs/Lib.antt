@@ -5,3 +5,4 @@ pub mod Feeding
 pub mod Lines
 pub mod Faults
 pub mod Goods
+pub mod Pieces

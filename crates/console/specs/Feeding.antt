@@ -1,22 +1,34 @@
 -- A program that takes its input byte by byte and prints where a line ends. It holds a value of its own beside the reading of the line
 -- under way. proofs/Lines.antt: in all it prints for each line of the input, whatever the pieces that the input comes in.
-use Prim.Native.Nat.{ℕ, _+_}
+use Prim.Native.Nat.{ℕ, suc, _+_}
 use mathlib.Core.Bool.{Bool, true, false}
 use mathlib.Core.List.{List, [], _∷_, _++_}
-use lib.Dec.{eqb}
+use lib.Dec.{eqb, ltb}
+use lib.ListN.{length, take, drop}
 use Rattle.lists.specs.Lists.{if_then_else_}
+use Rattle.console.specs.declared.End.{End}
 
--- how far a line is read: the reading, the place behind it, and whether that is behind its newline
-pub record Stop (R : Type 0) : Type 0 where
-  pub reading : R
-  pub next : ℕ
-  pub ended : Bool
+-- the line at the front of the bytes to come: how many bytes it has before its newline, or as far as they go
+abbrev pub lineSize : List ℕ → ℕ
+lineSize [] = 0
+lineSize (b ∷ bytes) = if eqb b 10 then 0 else suc (lineSize bytes)
 
-module _ {R : Type 0} (on : R → ℕ → R) where
-  -- the line as far as its newline or the end of the bytes, which begin at the place `at`
-  abbrev pub stopOf : R → List ℕ → ℕ → Stop R
-  stopOf r [] at = record { reading = r; next = at; ended = false }
-  stopOf r (b ∷ bytes) at = if eqb b 10 then record { reading = r; next = at + 1; ended = true } else stopOf (on r b) bytes (at + 1)
+-- whether there is that newline
+abbrev pub lineEnds : List ℕ → Bool
+lineEnds [] = false
+lineEnds (b ∷ bytes) = if eqb b 10 then true else lineEnds bytes
+
+-- where the line ends that begins or goes on at a place
+abbrev pub endFrom : List ℕ → ℕ → End
+endFrom bytes from = record { stop = from + lineSize (drop from bytes); ended = lineEnds (drop from bytes) }
+
+-- "the last newline may be missing": where a line is begun at the end of the input, one newline more is fed
+abbrev pub closingBy : Bool → List ℕ
+closingBy begun = if begun then 10 ∷ [] else []
+
+-- a piece of the input, where n bytes were read into a room: these; none are the end of the input
+unfoldable pub pieceOf : ℕ → Bool → List ℕ → List ℕ
+pieceOf n begun room = if ltb 0 n then take n room else take (length room) (closingBy begun)
 
 -- a reading where no byte of a line is read, what a byte does to it, what it says where the line ends; what a line does to the value held,
 -- and what is printed for it
@@ -57,10 +69,9 @@ module _ {Y R A : Type 0} (fresh : R) (on : R → ℕ → R) (ends : R → A) (a
   piecesText y r [] = []
   piecesText y r (piece ∷ others) = textAfter y r piece ++ piecesText (heldAfter y r piece) (readAfter y r piece) others
 
-  -- "the last newline may be missing": where a line is begun at the end of the input, one newline more is fed
   module _ (begun : R → Bool) where
     abbrev pub closing : R → List ℕ
-    closing r = if begun r then 10 ∷ [] else []
+    closing r = closingBy (begun r)
 
     unfoldable pub wholeText : Y → List (List ℕ) → List ℕ
     wholeText y pieces =

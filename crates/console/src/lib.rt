@@ -5,7 +5,9 @@ ghost use lib.Dec.{leb};
 ghost use lib.ListN.{length};
 ghost use Rattle.sheet.specs.Values.{numberOf, zeroNet};
 ghost use Rattle.console.specs.Sheets.{fileSheet, openedBy, refusalText};
+ghost use Rattle.text.specs.Text.{putAt};
 ghost use Rattle.console.specs.Outputs.{Counts, wroteBy, outputBy};
+ghost use Rattle.console.specs.Feeding.{pieceOf, endFrom};
 use net::Net;
 
 // ---- the sheet
@@ -88,4 +90,58 @@ pub fn put_refusal(n: u8, out: &mut [u8]) -> Wrote
         answer: 0,
         written: end,
     }
+}
+
+// ---- a piece of the input, and the lines in it
+
+// Where a line ends: the place of its newline, or the end of the bytes.
+pub struct End {
+    pub stop: usize,
+    pub ended: bool,
+}
+
+// The end of the line that begins or goes on at a place.
+// Promise: the place of the first newline from there on; where there is none, the end of the bytes.
+pub fn find_end(bytes: &[u8], from: usize) -> End
+    ensures { λ r. ⌜ r ≡ endFrom (now (bytes .entry)) from ⌝ }
+{
+    let mut i = from;
+    while i < bytes.len() {
+        if bytes[i] == 10 {
+            return End {
+                stop: i,
+                ended: true,
+            };
+        }
+        i += 1;
+    }
+    End {
+        stop: i,
+        ended: false,
+    }
+}
+
+// After a read of n bytes into a room. None are the end of the input, where the last line's newline may be missing.
+// Promise: the piece of the input stands at the room's front, so many bytes of it: those that were read, or at the end one newline where
+// a line is begun.
+pub fn put_piece(n: usize, begun: bool, room: &mut [u8]) -> usize
+    ensures size { λ r. ⌜ r ≡ length (pieceOf n begun (now (room .entry))) ⌝ }
+    ensures content { λ r. ⌜ now (room .exit) ≡ putAt (pieceOf n begun (now (room .entry))) 0 (now (room .entry)) ⌝ }
+    ensures counts { λ r. ⌜ Counts r (now (room .exit)) ⌝ }
+{
+    // no read gives more than there is room for
+    if room.len() < n {
+        return room.len();
+    }
+    if 0 < n {
+        return n;
+    }
+    if room.len() == 0 {
+        return 0;
+    }
+    if begun {
+        room[0] = 10;
+        return 1;
+    }
+    0
 }

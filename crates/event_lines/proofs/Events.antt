@@ -240,8 +240,3 @@ whole ps m = rw (m .same) (simp zero-add)
 pub read-line : (bytes : List ℕ) → lineEnd (fed start bytes) ≡ eventLine bytes
 unfolding eventLine
 read-line bytes = rest bytes 0 0 0 0 0 (omega arith) (omega arith) (omega arith) ∙ whole (pieces bytes) (some bytes)
-
--- bytes that come in two parts
-pub fed-append : (xs ys : List ℕ) (r : Reading) → fed r (xs ++ ys) ≡ fed (fed r xs) ys
-fed-append [] ys r = refl
-fed-append (x ∷ xs) ys r = fed-append xs ys (readOn r x)

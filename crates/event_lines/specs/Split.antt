@@ -15,6 +15,12 @@ unfoldable pub linesOf : List ℕ → List (List ℕ)
 linesOf [] = []
 linesOf (b ∷ bytes) = if eqb b 10 then [] ∷ linesOf bytes else onLine b (linesOf bytes)
 
+-- the value that a reader has after bytes one after the other
+module _ {R : Type 0} (on : R → ℕ → R) where
+  abbrev pub fedBy : R → List ℕ → R
+  fedBy r [] = r
+  fedBy r (b ∷ bytes) = fedBy (on r b) bytes
+
 -- a reader: its value where no byte of a line is read, what a byte does to it, what it answers where the line ends
 module _ {R A : Type 0} (fresh : R) (on : R → ℕ → R) (ends : R → A) where
   -- what it answers for the bytes to come; `begun` says whether a byte of the line under way is read

@@ -8,6 +8,7 @@ use Rattle.event_lines.specs.declared.Reading.{Reading}
 use Rattle.event_lines.specs.declared.Line.{Line}
 use Rattle.event_lines.specs.declared.Line.the-variants.{Malformed, Event}
 use Rattle.event_lines.specs.Events.{isDigit}
+use Rattle.event_lines.specs.Split.{fedBy}
 
 -- no byte read
 abbrev pub start : Reading
@@ -52,5 +53,4 @@ lineNumbers (Event kind a b) = 0 ∷ kind ∷ a ∷ b ∷ []
 
 -- bytes one after the other
 abbrev pub fed : Reading → List ℕ → Reading
-fed r [] = r
-fed r (b ∷ bytes) = fed (readOn r b) bytes
+fed = fedBy readOn

@@ -2,7 +2,7 @@
 // Inner doors: the calls are in docs/CALLS.md.
 ghost use mathlib.Core.Path.{_≡_};
 ghost use Prim.Native.Nat.{_≤_};
-ghost use Rattle.event_lines.specs.Steps.{start, spoilt, withDigit, nextNumber, readOn, lineEnd, lineNumbers};
+ghost use Rattle.event_lines.specs.Steps.{start, spoilt, withDigit, nextNumber, readOn, fed, lineEnd, lineNumbers};
 ghost use Rattle.event_lines.specs.Begun.{isBegun};
 
 // How far an event line has been read.
@@ -96,10 +96,8 @@ fn next_number(r: Reading) -> Reading
     malformed()
 }
 
-// One byte more of the line; its newline is not one of them.
-// Promise: equals `Steps.readOn`: one byte more. Fed the bytes of a line one by one, the three give exactly `Events.eventLine` of the
-// whole line (`event_lines.Events.read-line`).
-pub fn read_on(r: Reading, byte: u8) -> Reading
+// One byte more of the line.
+fn read_on(r: Reading, byte: u8) -> Reading
     ensures { λ n. ⌜ n ≡ readOn r byte ⌝ }
 {
     if byte == 32 {
@@ -112,6 +110,19 @@ pub fn read_on(r: Reading, byte: u8) -> Reading
         return malformed();
     }
     with_digit(r, byte - 48)
+}
+
+// Bytes more of the line, whose newline is not one of them.
+// Promise: equals `Steps.fed`: these bytes one after the other. Of the bytes of a line from its beginning, the three give exactly
+// `Events.eventLine` of the whole line (`event_lines.Events.read-line`).
+pub fn read_bytes(r: Reading, bytes: &[u8]) -> Reading
+    ensures { λ n. ⌜ n ≡ fed r (now (bytes .entry)) ⌝ }
+{
+    let mut reading = r;
+    for i in 0..bytes.len() {
+        reading = read_on(reading, bytes[i]);
+    }
+    reading
 }
 
 // What a line says that ends here.

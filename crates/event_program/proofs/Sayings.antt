@@ -59,6 +59,6 @@ pub settled-so-far : (said : List (List ℕ)) (st : Standing) → Fits (st .tall
 settled-so-far said st f =
     ap (λ (t : Tally). t .settled) (tally-after said st ∙ tally-is-history (st .tally) (st .world) (map eventBy said) f)
 
--- the event program lends 32,768 bytes for a piece of at most 1,024: it is never refused with 10
-pub room-suffices : (bytes out : List ℕ) → length bytes ≤ 1024 → length out ≡ 32768 → enough bytes out ≡ true
+-- the event program lends 65,536 bytes for a piece of at most 1,024: it is never refused with 10
+pub room-suffices : (bytes out : List ℕ) → length bytes ≤ 1024 → length out ≡ 65536 → enough bytes out ≡ true
 room-suffices bytes out h e = le-leb (length bytes) (length out / 32) (omega arith)

@@ -10,12 +10,14 @@ use Rattle.tally.specs.declared.Tally.{Tally}
 use Rattle.tally.specs.Sums.{tallied}
 use Rattle.event_lines.specs.declared.Reading.{Reading}
 use Rattle.event_lines.specs.Steps.{start, readOn, lineEnd}
+use Rattle.net.specs.declared.Net.{Net}
 use Rattle.state.specs.declared.State.{State}
+use Rattle.state.specs.Beginning.{begunOf}
 use Rattle.step_rules.specs.declared.Stepped.{Stepped}
 use Rattle.step_rules.specs.Step.{steppedOf}
 use Rattle.console.specs.Feeding.{heldAfter, readAfter, textAfter}
 use Rattle.event_program.specs.declared.Ran.{Ran}
-use Rattle.event_program.specs.Events.{answerText}
+use Rattle.event_program.specs.Events.{noTally, answerText}
 
 -- what is held between two lines
 pub record Desk : Type 0 where
@@ -57,3 +59,7 @@ ranAs answer written r d = record { answer = answer; written = written; reading 
 
 abbrev pub ranBy : Bool → Desk → Reading → List ℕ → Ran
 ranBy enough d r bytes = if enough then ranAs 0 (length (texts d r bytes)) (lineAfter d r bytes) (deskAfter d r bytes) else ranAs 10 0 r d
+
+-- ---- before the first line: a fresh state; the number is that of `fresh`
+abbrev pub firstRan : Net → Ran
+firstRan net = ranAs (begunOf net .answer) 0 start (deskOf (begunOf net .state) noTally)

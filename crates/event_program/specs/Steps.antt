@@ -2,15 +2,8 @@
 use Prim.Native.Nat.{ℕ}
 use mathlib.Core.List.{List}
 use lib.ListN.{getD}
-use Rattle.event_lines.specs.declared.Reading.{Reading}
-use Rattle.console.specs.Feeding.{Stop}
 use Rattle.event_program.specs.declared.Asked.{Asked}
-use Rattle.event_program.specs.declared.Part.{Part}
 
 -- the numbers that a line names; a malformed one names kind 0, which there is not
 abbrev pub askedBy : List ℕ → Asked
 askedBy said = record { kind = getD said 1 0; a = getD said 2 0; b = getD said 3 0 }
-
--- a part of a line, as crate `console` has it
-abbrev pub stopIn : Part → Stop Reading
-stopIn p = record { reading = p .reading; next = p .next; ended = p .ended }

@@ -3,18 +3,18 @@
 // Inner doors: the calls are in docs/CALLS.md.
 ghost use mathlib.Core.Path.{_≡_};
 ghost use Prim.Native.Nat.{_+_, _≤_};
-ghost use lib.ListN.{length, drop, take};
-ghost use Rattle.event_lines.specs.Steps.{readOn, lineEnd};
+ghost use lib.ListN.{length, take};
+ghost use Rattle.event_lines.specs.Steps.{lineEnd};
 ghost use Rattle.console.specs.Outputs.{Counts, outputBy, Put, wroteBy};
-ghost use Rattle.console.specs.Feeding.{stopOf};
 ghost use Rattle.event_program.specs.Events.{answerText};
-ghost use Rattle.event_program.specs.Runs.{deskOf, texts, enough, ranBy};
-ghost use Rattle.event_program.specs.Steps.{askedBy, stopIn};
+ghost use Rattle.event_program.specs.Runs.{deskOf, texts, enough, ranBy, firstRan};
+ghost use Rattle.event_program.specs.Steps.{askedBy};
 ghost use lib.Dec.{leb};
 ghost use Rattle.event_program.specs.Stations.{stationText, stationsText};
 use console::Wrote;
 use event_lines::Line;
 use event_lines::Reading;
+use net::Net;
 use state::State;
 use tally::Tally;
 
@@ -38,36 +38,6 @@ fn asked_of(r: Reading) -> Asked
             b: 0,
         },
         Line::Event(kind, a, b) => Asked { kind, a, b },
-    }
-}
-
-// A line read as far as its newline or the end of the bytes, and the place behind that.
-struct Part {
-    reading: Reading,
-    next: usize,
-    ended: bool,
-}
-
-fn read_part(r: Reading, bytes: &[u8], from: usize) -> Part
-    requires { ⌜ from ≤ length (now bytes) ⌝ }
-    ensures { λ p. ⌜ stopIn p ≡ stopOf readOn r (drop from (now (bytes .entry))) from ⌝ }
-{
-    let mut reading = r;
-    for i in from..bytes.len() {
-        let byte = bytes[i];
-        if byte == 10 {
-            return Part {
-                reading,
-                next: i + 1,
-                ended: true,
-            };
-        }
-        reading = event_lines::read_on(reading, byte);
-    }
-    Part {
-        reading,
-        next: bytes.len(),
-        ended: false,
     }
 }
 
@@ -95,12 +65,35 @@ pub struct Ran {
     pub state: State,
 }
 
+// What the event program holds before its first line.
+// Promise: the fresh state of the network, no counts, and no byte of a line read.
+pub fn begin(net: Net) -> Ran
+    ensures { λ n. ⌜ n ≡ firstRan net ⌝ }
+{
+    let begun = state::fresh(net);
+    let state = begun.state;
+    let reading = event_lines::begin();
+    let tally = Tally {
+        settled: 0,
+        raised: 0,
+        dropped: 0,
+    };
+    Ran {
+        answer: begun.answer,
+        written: 0, // nothing is printed yet
+        reading,
+        tally,
+        state,
+    }
+}
+
 // Runs the event lines that end in these bytes.
 // Promise: for the lines that end in these bytes: what document 01's event program prints for each, and the state, tally and reading after
 // them.
 pub fn run_events(given: State, t: Tally, r: Reading, bytes: &[u8], out: &mut [u8]) -> Ran
     ensures answer { λ n. ⌜ n ≡ ranBy (enough (now (bytes .entry)) (now (out .entry))) (deskOf given t) r (now (bytes .entry)) ⌝ }
-    ensures output { λ n. ⌜ now (out .exit) ≡ outputBy (enough (now (bytes .entry)) (now (out .entry))) (texts (deskOf given t) r (now (bytes .entry))) (now (out .entry)) ⌝ }
+    ensures output { λ n. ⌜ now (out .exit) ≡ outputBy (enough (now (bytes .entry)) (now (out .entry)))
+        (texts (deskOf given t) r (now (bytes .entry))) (now (out .entry)) ⌝ }
     ensures room { λ n. ⌜ Counts (n .written) (now (out .exit)) ⌝ }
 {
     // no line is longer than 32 bytes, and none is without a byte of input
@@ -115,25 +108,30 @@ pub fn run_events(given: State, t: Tally, r: Reading, bytes: &[u8], out: &mut [u
     }
     let mut state = given;
     let mut tally = t;
+    let mut reading = r;
     let mut at: usize = 0;
-    let mut part = read_part(r, bytes, 0);
-    while part.ended {
-        let line = part.reading;
+    let mut from: usize = 0;
+    loop {
+        let end = console::find_end(bytes, from);
+        let stop = end.stop;
+        let line = event_lines::read_bytes(reading, &bytes[from..stop]);
+        if !end.ended {
+            return Ran {
+                answer: 0,
+                written: at,
+                reading: line,
+                tally,
+                state,
+            };
+        }
         let e = asked_of(line);
         let done = step::step(state, e.kind, e.a, e.b);
         let after = done.state;
         state = after;
         tally = tally::with_step(tally, done.counts);
         at = put_answer(out, at, done.answer, state.flying, tally.settled);
-        part = read_part(event_lines::begin(), bytes, part.next);
-    }
-    let reading = part.reading;
-    Ran {
-        answer: 0,
-        written: at,
-        reading,
-        tally,
-        state,
+        reading = event_lines::begin();
+        from = stop + 1;
     }
 }
 

@@ -155,11 +155,6 @@ pub read-hex-line : (bytes : List ℕ) → hexSays (hexEnd (fedHex hexStart byte
 unfolding hexStart hexLine given
 read-hex-line bytes = rest bytes 0 0 (hexStart .bytes) (omega arith) (omega arith) refl ∙ simp (zero-add, pairs-are)
 
--- bytes that come in two parts
-pub fed-hex-append : (xs ys : List ℕ) (r : HexReading) → fedHex r (xs ++ ys) ≡ fedHex (fedHex r xs) ys
-fed-hex-append [] ys r = refl
-fed-hex-append (x ∷ xs) ys r = fed-hex-append xs ys (readHex r x)
-
 -- the bytes of an answer stand in the room
 pub hex-size : (r : HexReading) (n : ℕ) → Bytes n ≡ hexEnd r → n ≤ 32
 unfolding hexEnd

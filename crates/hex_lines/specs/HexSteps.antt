@@ -5,6 +5,7 @@ use mathlib.Core.List.{List, [], _∷_}
 use lib.Dec.{leb, ltb}
 use lib.ListN.{take, set, replicate}
 use Rattle.lists.specs.Lists.{if_then_else_}
+use Rattle.event_lines.specs.Split.{fedBy}
 use Rattle.hex_lines.specs.declared.HexReading.{HexReading}
 use Rattle.hex_lines.specs.declared.HexLine.{HexLine}
 use Rattle.hex_lines.specs.declared.HexLine.the-variants.{NotHex, Bytes}
@@ -39,5 +40,4 @@ hexSays (Bytes n) room = octets (take n room)
 
 -- bytes one after the other
 abbrev pub fedHex : HexReading → List ℕ → HexReading
-fedHex r [] = r
-fedHex r (b ∷ bytes) = fedHex (readHex r b) bytes
+fedHex = fedBy readHex

@@ -3,7 +3,7 @@
 ghost use mathlib.Core.Path.{_≡_};
 ghost use Prim.Native.Nat.{_<_};
 ghost use Rattle.hex_lines.specs.Hex.{hexValue};
-ghost use Rattle.hex_lines.specs.HexSteps.{hexStart, notHex, withHex, readHex, hexEnd};
+ghost use Rattle.hex_lines.specs.HexSteps.{hexStart, notHex, withHex, readHex, fedHex, hexEnd};
 ghost use Rattle.hex_lines.specs.HexBegun.{isHexBegun};
 
 // How far a line of hexadecimal digits has been read.
@@ -91,10 +91,8 @@ fn with_hex(r: HexReading, digit: u8) -> HexReading
     }
 }
 
-// One byte more of a hexadecimal line; its newline is not one of them.
-// Promise: equals `HexSteps.readHex`: one byte more. Fed the bytes of a line one by one, the three give exactly the bytes that the whole line says
-// (`hex_lines.Hex.read-hex-line`).
-pub fn read_hex(r: HexReading, byte: u8) -> HexReading
+// One byte more of a hexadecimal line.
+fn read_hex(r: HexReading, byte: u8) -> HexReading
     ensures { λ n. ⌜ n ≡ readHex r byte ⌝ }
 {
     let digit = hex_value(byte);
@@ -107,8 +105,22 @@ pub fn read_hex(r: HexReading, byte: u8) -> HexReading
     with_hex(r, digit)
 }
 
+// Bytes more of a hexadecimal line, whose newline is not one of them.
+// Promise: equals `HexSteps.fedHex`: these bytes one after the other. Of the bytes of a line from its beginning, the three give exactly the
+// bytes that the whole line says (`hex_lines.Hex.read-hex-line`).
+pub fn read_hex_bytes(r: HexReading, bytes: &[u8]) -> HexReading
+    ensures { λ n. ⌜ n ≡ fedHex r (now (bytes .entry)) ⌝ }
+{
+    let mut reading = r;
+    for i in 0..bytes.len() {
+        reading = read_hex(reading, bytes[i]);
+    }
+    reading
+}
+
 // What a hexadecimal line says that ends here.
-// Promise: equals `HexSteps.hexEnd`: the bytes of the line: hexadecimal digits of either case, an even number of them, at most 64; or malformed.
+// Promise: equals `HexSteps.hexEnd`: the bytes of the line: hexadecimal digits of either case, an even number of them, at most 64; or
+// malformed.
 pub fn hex_end(r: HexReading) -> HexLine
     ensures { λ l. ⌜ l ≡ hexEnd r ⌝ }
 {

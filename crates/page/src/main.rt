@@ -1,183 +1,98 @@
 // The page program: the events of standard input are run in the same way as by `events`, and the page is printed at the end.
-ghost use Prim.Native.Nat.{_≤_};
-ghost use mathlib.Core.Path.{_≡_};
-ghost use lib.ListN.{length};
-ghost use Rattle.io.specs.Counts.{Counts};
-use event_lines::Reading;
-use net::Net;
+use event_program::Ran;
 use page_program::Answers;
 use state::State;
-use tally::Tally;
 
-fn file_room() -> [u8; 4097]
-    ensures { λ r. ⌜ 4097 ≡ length r ⌝ }
-{
-    [0u8; 4097]
-}
-
-fn input_room() -> [u8; 1024]
-    ensures { λ r. ⌜ 1024 ≡ length r ⌝ }
-{
-    [0u8; 1024]
-}
-
-// 32 bytes for each byte of the input: enough for what it prints
-fn output_room() -> [u8; 32768]
-    ensures { λ r. ⌜ 32768 ≡ length r ⌝ }
-{
-    [0u8; 32768]
-}
-
-// a station's part of the page
-fn page_room() -> [u8; 4096]
-    ensures { λ r. ⌜ 4096 ≡ length r ⌝ }
-{
-    [0u8; 4096]
-}
-
-// The file's first 4,097 bytes: enough to see whether it is above 4,096. One that can't be opened or read counts as empty.
-fn read_file(path: &[u8], room: &mut [u8]) -> usize
-    ensures { λ r. ⌜ Counts r (now (room .exit)) ⌝ }
-{
-    let fd = os::open_read(path);
-    if fd < 0 {
-        return 0;
-    }
-    let n = io::read_full(fd, room);
+// A file that can't be opened or read counts as empty, as in `events`.
+fn main() {
+    let mut file = io::large_buffer();
+    let fd = os::open_read(b"network.sheet");
+    let n = io::read_full(fd, &mut file);
     libc::close(fd);
-    n
+    make_page(&file[..n]);
 }
 
-struct Chunk {
-    size: usize,
-    more: bool,
-}
-
-// One read of standard input. At its end a newline, where the last line has none.
-fn read_chunk(reading: Reading, room: &mut [u8]) -> Chunk
-    requires { ⌜ 1 ≤ length (now room) ⌝ }
-    ensures { λ r. ⌜ Counts (r .size) (now (room .exit)) ⌝ }
-{
-    let got = libc::read(0, room);
-    let n = io::count(got, room);
-    if 0 < n {
-        return Chunk {
-            size: n,
-            more: true,
-        };
+fn make_page(file: &[u8]) {
+    let opened = console::open_sheet(file);
+    if opened.number != 0 {
+        refuse(opened.number);
+        return;
     }
-    if event_lines::is_begun(reading) {
-        room[0] = 10;
-        return Chunk {
-            size: 1,
-            more: false,
-        };
-    }
-    Chunk {
-        size: 0,
-        more: false,
-    }
-}
-
-struct Turn {
-    more: bool,
-    answers: Answers,
-    reading: Reading,
-    tally: Tally,
-    state: State,
-}
-
-// One read and its events. What `events` would print for them is counted and not written.
-fn take_turn(state: State, tally: Tally, reading: Reading, before: Answers) -> Turn {
-    let mut room = input_room();
-    let mut out = output_room();
-    let chunk = read_chunk(reading, &mut room);
-    let size = chunk.size;
-    let ran = event_program::run_events(state, tally, reading, &room[..size], &mut out);
-    let written = ran.written;
-    let answers = page_program::count_answers(&out[..written], before);
-    let after = ran.state;
-    let read = ran.reading;
-    let counts = ran.tally;
-    Turn {
-        more: chunk.more,
-        answers,
-        reading: read,
-        tally: counts,
-        state: after,
-    }
-}
-
-fn print_counts(answers: Answers) {
-    let mut out = page_room();
-    let wrote = page_program::put_counts(answers, &mut out);
-    let written = wrote.written;
-    io::write_all(1, &out[..written]);
-}
-
-fn print_station(state: State, i: u8) {
-    let mut out = page_room();
-    let wrote = page_program::put_station(state, i, &mut out);
-    let written = wrote.written;
-    io::write_all(1, &out[..written]);
-}
-
-// The page: one buffer for each station.
-fn finish(state: State, stations: u8, answers: Answers) {
-    print_counts(answers);
-    for i in 0..stations {
-        print_station(state, i);
-    }
-}
-
-fn run(net: Net) {
-    let begun = state::fresh(net);
-    let first = begun.state;
-    let mut state = first;
-    let mut tally = Tally {
-        settled: 0,
-        raised: 0,
-        dropped: 0,
-    };
-    let mut reading = event_lines::begin();
     let mut answers = Answers {
         taken: 0,
         refused: 0,
     };
+    let net = opened.net;
+    let mut ran = event_program::begin(net);
     let mut turns = u64::MAX;
     while turns > 0 {
-        let done = take_turn(state, tally, reading, answers);
-        let after = done.state;
-        let counts = done.tally;
-        let read = done.reading;
+        let done = take_turn(ran, answers);
+        let after = done.ran;
         let counted = done.answers;
-        state = after;
-        tally = counts;
-        reading = read;
+        ran = after;
         answers = counted;
         if !done.more {
             break;
         }
         turns -= 1;
     }
-    finish(state, net.stations, answers);
+    print_counts(answers);
+    let last = ran.state;
+    print_stations(last, net.stations);
 }
 
 fn refuse(number: u8) {
-    let mut out = output_room();
+    let mut out = io::buffer();
     let wrote = console::put_refusal(number, &mut out);
     let written = wrote.written;
     io::write_all(1, &out[..written]);
 }
 
-fn main() {
-    let mut file = file_room();
-    let n = read_file(b"network.sheet", &mut file);
-    let opened = console::open_sheet(&file[..n]);
-    if opened.number != 0 {
-        refuse(opened.number);
-        return;
+fn print_counts(answers: Answers) {
+    let mut out = io::buffer();
+    let wrote = page_program::put_counts(answers, &mut out);
+    let written = wrote.written;
+    io::write_all(1, &out[..written]);
+}
+
+// One buffer for each station.
+fn print_stations(state: State, stations: u8) {
+    for i in 0..stations {
+        print_station(state, i);
     }
-    let net = opened.net;
-    run(net);
+}
+
+fn print_station(state: State, i: u8) {
+    let mut out = io::buffer();
+    let wrote = page_program::put_station(state, i, &mut out);
+    let written = wrote.written;
+    io::write_all(1, &out[..written]);
+}
+
+struct Turn {
+    more: bool,
+    answers: Answers,
+    ran: Ran,
+}
+
+// One read and its events. What `events` would print for them is counted and not written.
+fn take_turn(before: Ran, counted: Answers) -> Turn {
+    let mut room = [0u8; 1024];
+    let got = libc::read(0, &mut room);
+    let n = io::count(got, &room);
+    let size = console::put_piece(n, event_lines::is_begun(before.reading), &mut room);
+    let mut out = io::large_buffer();
+    let ran = event_program::run_events(
+        before.state,
+        before.tally,
+        before.reading,
+        &room[..size],
+        &mut out,
+    );
+    let written = ran.written;
+    Turn {
+        more: 0 < n,
+        answers: page_program::count_answers(&out[..written], counted),
+        ran,
+    }
 }

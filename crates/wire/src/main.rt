@@ -1,97 +1,34 @@
 // The wire program: the sheet written back, then each line of standard input as a letter, read and written back.
-ghost use Prim.Native.Nat.{_≤_};
-ghost use mathlib.Core.Path.{_≡_};
-ghost use lib.ListN.{length};
-ghost use Rattle.io.specs.Counts.{Counts};
 use hex_lines::HexReading;
 use net::Net;
 
-fn file_room() -> [u8; 4097]
-    ensures { λ r. ⌜ 4097 ≡ length r ⌝ }
-{
-    [0u8; 4097]
-}
-
-fn input_room() -> [u8; 1024]
-    ensures { λ r. ⌜ 1024 ≡ length r ⌝ }
-{
-    [0u8; 1024]
-}
-
-// 64 bytes for each byte of the input: enough for what it prints
-fn output_room() -> [u8; 65536]
-    ensures { λ r. ⌜ 65536 ≡ length r ⌝ }
-{
-    [0u8; 65536]
-}
-
-// The file's first 4,097 bytes: enough to see whether it is above 4,096. One that can't be opened or read counts as empty.
-fn read_file(path: &[u8], room: &mut [u8]) -> usize
-    ensures { λ r. ⌜ Counts r (now (room .exit)) ⌝ }
-{
-    let fd = os::open_read(path);
-    if fd < 0 {
-        return 0;
-    }
-    let n = io::read_full(fd, room);
+// A file that can't be opened or read counts as empty, as in `events`.
+fn main() {
+    let mut file = io::large_buffer();
+    let fd = os::open_read(b"network.sheet");
+    let n = io::read_full(fd, &mut file);
     libc::close(fd);
-    n
+    write_back(&file[..n]);
 }
 
-struct Chunk {
-    size: usize,
-    more: bool,
-}
-
-// One read of standard input. At its end a newline, where the last line has none.
-fn read_chunk(reading: HexReading, room: &mut [u8]) -> Chunk
-    requires { ⌜ 1 ≤ length (now room) ⌝ }
-    ensures { λ r. ⌜ Counts (r .size) (now (room .exit)) ⌝ }
-{
-    let got = libc::read(0, room);
-    let n = io::count(got, room);
-    if 0 < n {
-        return Chunk {
-            size: n,
-            more: true,
-        };
-    }
-    if hex_lines::is_hex_begun(reading) {
-        room[0] = 10;
-        return Chunk {
-            size: 1,
-            more: false,
-        };
-    }
-    Chunk {
-        size: 0,
-        more: false,
+fn write_back(file: &[u8]) {
+    print_sheet(file);
+    let opened = console::open_sheet(file);
+    if opened.number == 0 {
+        let net = opened.net;
+        pass_letters(net);
     }
 }
 
-struct Turn {
-    more: bool,
-    reading: HexReading,
-}
-
-// One read, its letters, and what they print: written before the next read, so that a pipe stays live.
-fn take_turn(net: Net, reading: HexReading) -> Turn {
-    let mut room = input_room();
-    let mut out = output_room();
-    let chunk = read_chunk(reading, &mut room);
-    let size = chunk.size;
-    let passed = wire_program::run_letters(net, reading, &room[..size], &mut out);
-    let written = passed.written;
+fn print_sheet(file: &[u8]) {
+    let mut out = io::buffer();
+    let wrote = wire_program::put_sheet(file, &mut out);
+    let written = wrote.written;
     io::write_all(1, &out[..written]);
-    let read = passed.reading;
-    Turn {
-        more: chunk.more,
-        reading: read,
-    }
 }
 
 // A proved loop has to end, and nothing says that an input does: it counts its turns down, from a number that no run uses up.
-fn run(net: Net) {
+fn pass_letters(net: Net) {
     let mut reading = hex_lines::begin_hex();
     let mut turns = u64::MAX;
     while turns > 0 {
@@ -105,21 +42,24 @@ fn run(net: Net) {
     }
 }
 
-fn show_sheet(file: &[u8]) {
-    let mut out = output_room();
-    let wrote = wire_program::put_sheet(file, &mut out);
-    let written = wrote.written;
-    io::write_all(1, &out[..written]);
+struct Turn {
+    more: bool,
+    reading: HexReading,
 }
 
-fn main() {
-    let mut file = file_room();
-    let n = read_file(b"network.sheet", &mut file);
-    show_sheet(&file[..n]);
-    let opened = console::open_sheet(&file[..n]);
-    if opened.number != 0 {
-        return;
+// One read, its letters, and what they print: written before the next read, so that a pipe stays live.
+fn take_turn(net: Net, before: HexReading) -> Turn {
+    let mut room = [0u8; 1024];
+    let got = libc::read(0, &mut room);
+    let n = io::count(got, &room);
+    let size = console::put_piece(n, hex_lines::is_hex_begun(before), &mut room);
+    let mut out = io::large_buffer();
+    let passed = wire_program::run_letters(net, before, &room[..size], &mut out);
+    let written = passed.written;
+    io::write_all(1, &out[..written]);
+    let reading = passed.reading;
+    Turn {
+        more: 0 < n,
+        reading,
     }
-    let net = opened.net;
-    run(net);
 }

@@ -10,9 +10,8 @@ use Rattle.hex_lines.specs.declared.HexReading.{HexReading}
 use Rattle.hex_lines.specs.Hex.{HexText, malformed, octets}
 use Rattle.hex_lines.specs.HexSteps.{hexStart, readHex, hexEnd, hexSays}
 use Rattle.net.specs.declared.Net.{Net}
-use Rattle.console.specs.Feeding.{Stop, readAfter, textAfter}
+use Rattle.console.specs.Feeding.{readAfter, textAfter}
 use Rattle.wire_program.specs.LetterLineLine.{readLine}
-use Rattle.wire_program.specs.declared.Part.{Part}
 use Rattle.wire_program.specs.declared.Passed.{Passed}
 use Rattle.wire_program.specs.Wire.{malformedLine}
 
@@ -34,10 +33,6 @@ lineAfter = readAfter hexStart readHex saidBy acted spoken
 
 abbrev pub texts : Net → HexReading → List ℕ → List ℕ
 texts = textAfter hexStart readHex saidBy acted spoken
-
--- a part of a line, as crate `console` has it
-abbrev pub stopIn : Part → Stop HexReading
-stopIn p = record { reading = p .reading; next = p .next; ended = p .ended }
 
 -- ---- with lent output: 64 bytes for each byte of the input, or 10
 abbrev pub enough : List ℕ → List ℕ → Bool

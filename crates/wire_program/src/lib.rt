@@ -2,11 +2,9 @@
 // An inner door: the calls are in docs/CALLS.md.
 ghost use mathlib.Core.Path.{_≡_};
 ghost use Prim.Native.Nat.{_+_, _≤_};
-ghost use lib.ListN.{length, drop, getD};
-ghost use Rattle.hex_lines.specs.HexSteps.{readHex};
+ghost use lib.ListN.{length, getD};
 ghost use Rattle.console.specs.Outputs.{Counts, outputBy, Put, wroteBy};
-ghost use Rattle.console.specs.Feeding.{stopOf};
-ghost use Rattle.wire_program.specs.Passing.{saidBy, spoken, texts, stopIn, enough, passedBy};
+ghost use Rattle.wire_program.specs.Passing.{saidBy, spoken, texts, enough, passedBy};
 ghost use Rattle.text.specs.Text.{putAt, placeAfter};
 ghost use Rattle.wire_program.specs.Parts.{fieldText, hexText};
 ghost use lib.Dec.{T, leb};
@@ -38,36 +36,6 @@ fn put_line(out: &mut [u8], at: usize, net: Net, r: HexReading) -> usize
     }
 }
 
-// A line read as far as its newline or the end of the bytes, and the place behind that.
-struct Part {
-    reading: HexReading,
-    next: usize,
-    ended: bool,
-}
-
-fn read_part(r: HexReading, bytes: &[u8], from: usize) -> Part
-    requires { ⌜ from ≤ length (now bytes) ⌝ }
-    ensures { λ p. ⌜ stopIn p ≡ stopOf readHex r (drop from (now (bytes .entry))) from ⌝ }
-{
-    let mut reading = r;
-    for i in from..bytes.len() {
-        let byte = bytes[i];
-        if byte == 10 {
-            return Part {
-                reading,
-                next: i + 1,
-                ended: true,
-            };
-        }
-        reading = hex_lines::read_hex(reading, byte);
-    }
-    Part {
-        reading,
-        next: bytes.len(),
-        ended: false,
-    }
-}
-
 // After a piece of the input: 0 or the number that says no, how many bytes of output there are, and the reading that goes on from there.
 pub struct Passed {
     pub answer: u8,
@@ -90,18 +58,23 @@ pub fn run_letters(net: Net, r: HexReading, bytes: &[u8], out: &mut [u8]) -> Pas
             reading: r,
         };
     }
+    let mut reading = r;
     let mut at: usize = 0;
-    let mut part = read_part(r, bytes, 0);
-    while part.ended {
-        let line = part.reading;
+    let mut from: usize = 0;
+    loop {
+        let end = console::find_end(bytes, from);
+        let stop = end.stop;
+        let line = hex_lines::read_hex_bytes(reading, &bytes[from..stop]);
+        if !end.ended {
+            return Passed {
+                answer: 0,
+                written: at,
+                reading: line,
+            };
+        }
         at = put_line(out, at, net, line);
-        part = read_part(hex_lines::begin_hex(), bytes, part.next);
-    }
-    let reading = part.reading;
-    Passed {
-        answer: 0,
-        written: at,
-        reading,
+        reading = hex_lines::begin_hex();
+        from = stop + 1;
     }
 }
 

@@ -1,17 +1,14 @@
 use Prim.Native.Nat.{_≤_, _-_}
 use native.Mathlib.Omega.{arith}
 use borrow.Author.Needs.{needs}
-use Rattle.page.proofs.finish.Statement.{statement}
-use Rattle.page.proofs.finish.Tie as tie
+use Rattle.page.proofs.print_stations.Statement.{statement}
+use Rattle.page.proofs.print_stations.Tie as tie
 
 abbrev Inv-loop : tie.InvT-loop
 Inv-loop state stations i₀ i = i ≤ stations
 
 abbrev μ-loop : tie.MeasureT-loop
 μ-loop state stations i₀ i = stations - i
-
-print-counts-requires : tie.Need-print-counts-requires Inv-loop μ-loop
-print-counts-requires c κs = search needs
 
 loop-holds : tie.Need-loop-holds Inv-loop μ-loop
 loop-holds c = omega arith
@@ -31,16 +28,7 @@ loop-again c = omega arith
 returns : tie.Need-returns Inv-loop μ-loop
 returns c = search needs
 
-pub finish-spec : {M : Type 1} → statement M
-finish-spec =
+pub print-stations-spec : {M : Type 1} → statement M
+print-stations-spec =
     tie.close
-    (tie.spec
-    Inv-loop
-    μ-loop
-    print-counts-requires
-    loop-holds
-    print-station-requires
-    add-i
-    loop-less
-    loop-again
-    returns)
+    (tie.spec Inv-loop μ-loop loop-holds print-station-requires add-i loop-less loop-again returns)
