@@ -8,6 +8,7 @@ use mathlib.Core.List.{List, [], _∷_, _++_}
 use native.Mathlib.Omega.{arith}
 use lib.Dec.{T, eqb, leb, ltb, ltb→lt, lt→ltb, leb→le, le→leb, eqb→eq}
 use lib.ListN.{length, getD}
+use Rattle.net.specs.Sizes.{stationRoom, linkRoom}
 use Rattle.lists.proofs.Tests.{T-is, T-not-is, is-T, and-l, and-r, and-i, or-left, or-right, eq→eqb}
 use Rattle.fields.specs.Fields.{Field, field, firstField, writeField, isField, isEmpty, areBytes}
 use Rattle.net.specs.Network.{Ends, Network}
@@ -43,11 +44,11 @@ size-is : (tag n t : ℕ) (v : List ℕ) → isField tag n t v ≡ true → leng
 size-is tag n t v h = eqb→eq (length v) n (and-r (eqb t tag) _ (is-T (isField tag n t v) h))
 
 -- ---- the first field
-count-no : (n : ℕ) → stationsHold n ≡ false → (1 ≤ n) × (n ≤ 32) → ⊥
-count-no n e p = no-test (stationsHold n) e (and-i (leb 1 n) _ (le→leb 1 n (p .0)) (le→leb n 32 (p .1)))
+count-no : (n : ℕ) → stationsHold n ≡ false → (1 ≤ n) × (n ≤ stationRoom) → ⊥
+count-no n e p = no-test (stationsHold n) e (and-i (leb 1 n) _ (le→leb 1 n (p .0)) (le→leb n stationRoom (p .1)))
 
-no-count : (n : ℕ) → ((1 ≤ n) × (n ≤ 32) → ⊥) → stationsHold n ≡ false
-no-count n f = test-no (stationsHold n) (λ h. f (leb→le 1 n (and-l (leb 1 n) _ h), leb→le n 32 (and-r (leb 1 n) _ h)))
+no-count : (n : ℕ) → ((1 ≤ n) × (n ≤ stationRoom) → ⊥) → stationsHold n ≡ false
+no-count n f = test-no (stationsHold n) (λ h. f (leb→le 1 n (and-l (leb 1 n) _ h), leb→le n stationRoom (and-r (leb 1 n) _ h)))
 
 first-told : (bytes : List ℕ) → T (areBytes bytes) → {k : ℕ} (f : Field) → firstField bytes ≡ f → R.FirstFault f k → FirstFault bytes k
 first-told bytes b f e R.cut-off = W.one (short-ends bytes e)
@@ -165,7 +166,7 @@ module _ (net : Network) where
       W.four (linkOf v) rest (link-front bytes b t v rest e p) g (not-after-told (net .links) (linkOf v) (g .0) r)
 
   full-told : (bytes : List ℕ) → T (areBytes bytes) → (e : Ends) (more : List ℕ)
-      → judged (net .stations) prev (firstField bytes) ≡ link e more → length (net .links) ≡ 64 → LaterFault net bytes 5
+      → judged (net .stations) prev (firstField bytes) ≡ link e more → length (net .links) ≡ linkRoom → LaterFault net bytes 5
   full-told bytes b e more q l =
       let w = is-link (net .stations) prev (firstField bytes) e more q in
       let g = ends-good (net .stations) e (w .good) in

@@ -8,6 +8,7 @@ use mathlib.Core.List.{List}
 use native.Mathlib.Omega.{arith}
 use lib.Dec.{T, eqb, leb, eqb→eq}
 use borrow.Author.Tests.{ne-eqb}
+use Rattle.net.specs.Sizes.{letterRoom}
 use Rattle.lists.specs.Lists.{if_then_else_}
 use Rattle.lists.proofs.Tests.{T-is, T-not-is, is-T, if-elim}
 use Rattle.net.specs.declared.Net.{Net}
@@ -70,7 +71,7 @@ module _ (net : Net) where
     unread-bad : BadNet net → BadState (unread net)
     unfolding stateHolds unread
     unread-bad q =
-        bad (ap (λ (b : Bool). (b && leb 0 4096) && (stationsHold (unread net) && lettersHold (unread net))) (T-not-is (netHolds net) q))
+        bad (ap (λ (b : Bool). (b && leb 0 letterRoom) && (stationsHold (unread net) && lettersHold (unread net))) (T-not-is (netHolds net) q))
 
     pub fresh-none : (r .answer ≡ 0 → ⊥) → BadState (r .state)
     fresh-none h = go fresh-why (λ z. h (ap (λ (b : Begun). b .answer) p ∙ z))

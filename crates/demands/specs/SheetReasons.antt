@@ -6,6 +6,7 @@ use mathlib.Core.Path.{_≡_}
 use mathlib.Core.List.{List, [], _∷_, _++_}
 use lib.Dec.{T}
 use lib.ListN.{length, getD}
+use Rattle.net.specs.Sizes.{stationRoom, linkRoom}
 use Rattle.fields.specs.Fields.{writeField}
 use Rattle.net.specs.declared.Net.{Net}
 use Rattle.net.specs.Network.{Ends, Network}
@@ -23,7 +24,7 @@ pub data FirstFault (bytes : List ℕ) : ℕ → Type 0 where
   -- 2: another tag, or another length
   two : (tag : ℕ) (value rest : List ℕ) → Front bytes tag value rest → ((tag ≡ 1) × (length value ≡ 1) → ⊥) → FirstFault bytes 2
   -- 3: the station count is not 1 to 32
-  three : (count : ℕ) (rest : List ℕ) → Front bytes 1 (count ∷ []) rest → ((1 ≤ count) × (count ≤ 32) → ⊥) → FirstFault bytes 3
+  three : (count : ℕ) (rest : List ℕ) → Front bytes 1 (count ∷ []) rest → ((1 ≤ count) × (count ≤ stationRoom) → ⊥) → FirstFault bytes 3
 
 -- ---- a later field: tag 02 length 2, a link's two ends; or tag 0F length 0, and no byte after it
 -- two stations as ends, the lower first
@@ -59,7 +60,7 @@ pub data LaterFault (net : Network) (bytes : List ℕ) : ℕ → Type 0 where
   four : (e : Ends) (rest : List ℕ) → LinkFront bytes e rest → GoodEnds (net .stations) e → NotAfter (net .links) e → LaterFault net bytes 4
   -- 5: a 65th link
   five : (e : Ends) (rest : List ℕ) → LinkFront bytes e rest → GoodEnds (net .stations) e → After (net .links) e
-      → length (net .links) ≡ 64 → LaterFault net bytes 5
+      → length (net .links) ≡ linkRoom → LaterFault net bytes 5
 
 -- ---- A SHEET READ: each number for its reason, at the first field that is at fault; 0 for the sheet of a network that keeps the rules
 pub data SheetRead (bytes : List ℕ) : ℕ → Type 0 where

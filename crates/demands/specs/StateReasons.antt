@@ -31,10 +31,10 @@ pub data Step (s : State) (e : Event) : ℕ → Type 0 where
   six : GoodState s → T (not (exists (worldOf s) e)) → Step s e 6
   seven : GoodState s → T (exists (worldOf s) e) → T (not (rule (worldOf s) e .allowed)) → Step s e 7
   eight : GoodState s → T (exists (worldOf s) e) → T (rule (worldOf s) e .allowed) → T (rule (worldOf s) e .over) → Step s e 8
-  nine : GoodState s → T (exists (worldOf s) e) → T (rule (worldOf s) e .allowed) → T (not (rule (worldOf s) e .over)) → T (not (fits (worldOf s) e))
-      → Step s e 9
-  taken : GoodState s → T (exists (worldOf s) e) → T (rule (worldOf s) e .allowed) → T (not (rule (worldOf s) e .over)) → T (fits (worldOf s) e)
-      → Step s e 0
+  nine : GoodState s → T (exists (worldOf s) e) → T (rule (worldOf s) e .allowed) → T (not (rule (worldOf s) e .over))
+      → T (not (fits (worldOf s) e)) → Step s e 9
+  taken : GoodState s → T (exists (worldOf s) e) → T (rule (worldOf s) e .allowed) → T (not (rule (worldOf s) e .over))
+      → T (fits (worldOf s) e) → Step s e 0
 
 -- ---- THE REACH of station a: 11, 6, 7
 pub data Reach (s : State) (a : ℕ) : ℕ → Type 0 where

@@ -7,7 +7,7 @@ use native.Mathlib.Omega.{arith}
 use lib.ListN.{length}
 use borrow.Author.Tests.{le-leb}
 use Rattle.tally.specs.declared.Tally.{Tally}
-use Rattle.tally.specs.Sums.{counted}
+use Rattle.tally.specs.Sums.{added}
 use Rattle.station.specs.Events.{dueOf}
 use Rattle.world.specs.World.{World, exists, comes, refusal}
 use Rattle.world.specs.History.{run, everSettled}
@@ -55,7 +55,7 @@ tally-after (x ∷ said) st = tally-after said (done st (eventBy x))
 
 -- THE SETTLED NUMBER is the history's count of notices taken off by events 7 and 8, and stays at its largest value once there
 pub settled-so-far : (said : List (List ℕ)) (st : Standing) → Fits (st .tally)
-    → doneAll st said .tally .settled ≡ counted (st .tally .settled) (everSettled (st .world) (map eventBy said))
+    → doneAll st said .tally .settled ≡ added (st .tally .settled) (everSettled (st .world) (map eventBy said))
 settled-so-far said st f =
     ap (λ (t : Tally). t .settled) (tally-after said st ∙ tally-is-history (st .tally) (st .world) (map eventBy said) f)
 

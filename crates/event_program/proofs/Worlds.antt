@@ -13,9 +13,9 @@ use Rattle.lists.specs.Lists.{if_then_else_, below, from}
 use Rattle.lists.specs.Places.{collect}
 use Rattle.lists.proofs.Tests.{T-is}
 use Rattle.tally.specs.declared.Tally.{Tally}
-use Rattle.tally.specs.Sums.{largest, counted, tallied}
+use Rattle.tally.specs.Sums.{largest, added, tallied}
 use Rattle.tally.proofs.Plain.{noCounts}
-use Rattle.tally.proofs.Sums.{counted-fits}
+use Rattle.tally.proofs.Sums.{added-fits}
 use Rattle.event_lines.specs.Steps.{start, readOn, lineEnd}
 use Rattle.net.specs.declared.Net.{Net}
 use Rattle.net.specs.Values.{networkOf}
@@ -97,7 +97,7 @@ nothing-more t f =
           (f .dropped) i;
     }
   where
-    same : (n : ℕ) → n ≤ largest → counted n 0 ≡ n
+    same : (n : ℕ) → n ≤ largest → added n 0 ≡ n
     same n h = omega arith
 
 -- what holds after a line as before it, what the code does and prints, and what document 01 says
@@ -134,10 +134,10 @@ module _ (v : Net) (w : World) (c : Carried v w) (t : Tally) (f : Fits t) (said 
             });
         fits =
             subst⁻¹ Fits tally (record {
-              settled = counted-fits (t .settled) (settled w ev);
-              raised = counted-fits (t .raised)
+              settled = added-fits (t .settled) (settled w ev);
+              raised = added-fits (t .raised)
                   (raised w ev);
-              dropped = counted-fits (t .dropped) (dropped w ev);
+              dropped = added-fits (t .dropped) (dropped w ev);
             });
         acts =
             ap (λ (x : Stepped). deskOf (x .state) (tallied t (x .counts))) d

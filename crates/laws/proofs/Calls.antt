@@ -77,7 +77,8 @@ module _ {S : Type 0} (worldOf : S → World) (Call : S → Event → S → Tall
     calls-counts f none = refl
     calls-counts f (more {s = s} {t = t} {e = e} {es = es} {n = n} c r) =
         let p = promise s e t n f c in
-        ap₂ plus (p .counts ∙ sym (taken-is (accepted (worldOf s) e) (acceptedCounts (worldOf s) e))) (calls-counts (p .fit) r ∙ ap (λ (w : World). everCounted w es) (p .world))
+        ap₂ plus (p .counts ∙ sym (taken-is (accepted (worldOf s) e) (acceptedCounts (worldOf s) e)))
+        (calls-counts (p .fit) r ∙ ap (λ (w : World). everCounted w es) (p .world))
 
     -- and the settled ones meet the bound: demand 3 for a run of calls, at every state that it comes to
     pub record CallsDieOut {s u : S} {es : List Event} {n : Tally} (r : Calls s es n u) : Type 0 where

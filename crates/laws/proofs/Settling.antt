@@ -229,7 +229,11 @@ module _ (site : Site) where
   acted k u a y =
       let r = concernedBy k (u .net) a (letterAt u a) in
       let d = doneBy (u .net) r (holdingAt u r) y in
-      record { net = u .net; holdings = set (u .holdings) r (d .holding); letters = (if takesLetter k then without a (u .letters) else u .letters) ++ d .sent }
+      record {
+        net = u .net;
+        holdings = set (u .holdings) r (d .holding);
+        letters = (if takesLetter k then without a (u .letters) else u .letters) ++ d .sent;
+      }
 
   abbrev ruled : Kind → World → ℕ → ℕ → World
   ruled k u a b =

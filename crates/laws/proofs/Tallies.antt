@@ -6,9 +6,9 @@ use mathlib.Core.List.{List, [], _∷_}
 use native.Mathlib.Omega.{arith}
 use Rattle.lists.specs.Lists.{if_then_else_}
 use Rattle.tally.specs.declared.Tally.{Tally}
-use Rattle.tally.specs.Sums.{largest, counted, tallied}
+use Rattle.tally.specs.Sums.{largest, added, tallied}
 use Rattle.tally.proofs.Plain.{noCounts, plus}
-use Rattle.tally.proofs.Sums.{counted-fits, tallied-twice}
+use Rattle.tally.proofs.Sums.{added-fits, tallied-twice}
 use Rattle.station.specs.Events.{counting}
 use Rattle.world.specs.World.{World, Event, accepted, next}
 use Rattle.world.specs.History.{total}
@@ -29,15 +29,15 @@ nothing-more t f =
           (f .dropped) i;
     }
   where
-    same : (c : ℕ) → c ≤ largest → c ≡ counted c 0
+    same : (c : ℕ) → c ≤ largest → c ≡ added c 0
     same c h = omega arith
 
 tallied-fits : (t n : Tally) → Fits (tallied t n)
 tallied-fits t n =
     record {
-      settled = counted-fits (t .settled) (n .settled);
-      raised = counted-fits (t .raised) (n .raised);
-      dropped = counted-fits (t .dropped) (n .dropped);
+      settled = added-fits (t .settled) (n .settled);
+      raised = added-fits (t .raised) (n .raised);
+      dropped = added-fits (t .dropped) (n .dropped);
     }
 
 by-fits : (b : Bool) (t n : Tally) → Fits t → Fits (tallyBy b t n)

@@ -8,7 +8,7 @@ use lib.Dec.{eqb}
 use lib.ListN.{length, getD, drop}
 use lib.Seq.{drop-cons, drop-length}
 use borrow.Author.Tests.{eq-eqb, ne-eqb}
-use Rattle.tally.specs.Sums.{counted}
+use Rattle.tally.specs.Sums.{added}
 use Rattle.page_program.specs.declared.Answers.{Answers}
 use Rattle.page_program.specs.Counting.{byteCounted, counting}
 
@@ -17,11 +17,11 @@ module _ (begins : Bool) (b : ℕ) (a : Answers) where
   pub byte-within : begins ≡ false → a ≡ byteCounted begins b a
   byte-within e = rw e
 
-  pub byte-taken : (n : ℕ) → begins ≡ true → b ≡ 48 → n ≡ counted (a .taken) 1
+  pub byte-taken : (n : ℕ) → begins ≡ true → b ≡ 48 → n ≡ added (a .taken) 1
       → record { taken = n; refused = a .refused } ≡ byteCounted begins b a
   byte-taken n e h p = rw e (simp (eq-eqb b 48 h) (λ i. record { taken = p i; refused = a .refused }))
 
-  pub byte-refused : (n : ℕ) → begins ≡ true → (b ≡ 48 → ⊥) → n ≡ counted (a .refused) 1
+  pub byte-refused : (n : ℕ) → begins ≡ true → (b ≡ 48 → ⊥) → n ≡ added (a .refused) 1
       → record { taken = a .taken; refused = n } ≡ byteCounted begins b a
   byte-refused n e h p = rw e (simp (ne-eqb b 48 h) (λ i. record { taken = a .taken; refused = p i }))
 

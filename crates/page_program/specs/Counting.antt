@@ -4,16 +4,16 @@ use mathlib.Core.Bool.{Bool, true, false}
 use mathlib.Core.List.{List, [], _∷_, _++_}
 use lib.Dec.{eqb}
 use Rattle.lists.specs.Lists.{if_then_else_}
-use Rattle.tally.specs.Sums.{counted}
+use Rattle.tally.specs.Sums.{added}
 use Rattle.text.specs.Text.{digits}
 use Rattle.page_program.specs.Words.{eventsTaken, refusedWord}
 use Rattle.page_program.specs.declared.Answers.{Answers}
 
 abbrev pub tookOne : Answers → Answers
-tookOne a = record { taken = counted (a .taken) 1; refused = a .refused }
+tookOne a = record { taken = added (a .taken) 1; refused = a .refused }
 
 abbrev pub refusedOne : Answers → Answers
-refusedOne a = record { taken = a .taken; refused = counted (a .refused) 1 }
+refusedOne a = record { taken = a .taken; refused = added (a .refused) 1 }
 
 -- a line is counted at its first byte: only the answer 0 begins with the digit 0
 abbrev pub byteCounted : Bool → ℕ → Answers → Answers

@@ -10,7 +10,7 @@ ghost use Rattle.page_program.specs.Page.{stationPart};
 ghost use mathlib.Core.Bool.{true};
 ghost use lib.Dec.{leb};
 ghost use lib.ListN.{length};
-ghost use Rattle.tally.specs.Sums.{counted};
+ghost use Rattle.tally.specs.Sums.{added};
 ghost use Rattle.page_program.specs.Counting.{byteCounted, counting, countsText};
 use console::Wrote;
 use state::State;
@@ -57,7 +57,7 @@ pub struct Answers {
 }
 
 fn one_more(count: u64) -> u64
-    ensures { λ r. ⌜ r ≡ counted count 1 ⌝ }
+    ensures { λ r. ⌜ r ≡ added count 1 ⌝ }
 {
     if count == 18446744073709551615 {
         count

@@ -27,7 +27,8 @@ use Rattle.station.specs.Acts.{intervalTests}
 use Rattle.station.specs.Done.{Done, letter, onEach, tell, less, known, doneBy, ownLinks}
 use Rattle.station.specs.Acts.{Sends, Act}
 use Rattle.station.specs.Done.{sentOf}
-use Rattle.station.proofs.Doing.{own, openLinks, stopped, started, recovered, interval, timeout, spoken, replied, effectOn, heardOn, received}
+use Rattle.station.proofs.Doing.{own, openLinks, stopped, started, recovered, interval, timeout, spoken, replied, effectOn}
+use Rattle.station.proofs.Doing.{heardOn, received}
 use Rattle.station.proofs.Answers.{request-cases, reply-cases, notice-cases}
 use Rattle.station.proofs.HoldingLaws.{ownLink, own-kept}
 

@@ -5,6 +5,7 @@ use mathlib.Core.Path.{_≡_, refl, sym, ap, _∙_}
 use mathlib.Core.List.{_++_, map}
 use native.Mathlib.Omega.{arith}
 use lib.ListN.{drop, replicate}
+use Rattle.net.specs.Sizes.{linkRoom}
 use Rattle.lists.specs.Lists.{below}
 use Rattle.lists.proofs.Words.{zero-is-out, none-in}
 use Rattle.lists.proofs.Numbers.{getD-map-below, length-map-below}
@@ -47,4 +48,4 @@ pub stop-is : (net : Net) (s : ℕ) → downIn net ≡ laid net blank (stopped (
 unfolding doneBy blank freshTable
 stop-is net s =
     laid-is net blank (downIn net) (stopped (networkOf net) s .holding) refl
-    (ap (λ (n : ℕ). map (λ k. 1) (below n) ++ drop (linkCount net) (replicate 64 0)) (sym (links-of net))) (none-laid net)
+    (ap (λ (n : ℕ). map (λ k. 1) (below n) ++ drop (linkCount net) (replicate linkRoom 0)) (sym (links-of net))) (none-laid net)

@@ -58,7 +58,11 @@ module _ (net : Network) where
     pub marked-formed : (k : ℕ) (m : Marks) → k < length (net .links) → T (slotHolds (h .condition) (isEnd net k s) (counter h k) m)
         → Formed s (marked k m h)
     marked-formed k m l t =
-        record { table-length = f .table-length; marks-length = length-set (h .marks) k m ∙ f .marks-length; slots = λ j i. go j i (ℕ-discrete j k) }
+        record {
+          table-length = f .table-length;
+          marks-length = length-set (h .marks) k m ∙ f .marks-length;
+          slots = λ j i. go j i (ℕ-discrete j k);
+        }
       where
         go : (j : ℕ) → j < length (net .links) → Dec (j ≡ k)
             → T (slotHolds (h .condition) (isEnd net j s) (counter h j) (mark (marked k m h) j))
@@ -69,7 +73,11 @@ module _ (net : Network) where
     pub counted-formed : (k c : ℕ) → k < length (net .links) → T (slotHolds (h .condition) (isEnd net k s) c (mark h k))
         → Formed s (counted k c h)
     counted-formed k c l t =
-        record { table-length = length-set (h .table) k c ∙ f .table-length; marks-length = f .marks-length; slots = λ j i. go j i (ℕ-discrete j k) }
+        record {
+          table-length = length-set (h .table) k c ∙ f .table-length;
+          marks-length = f .marks-length;
+          slots = λ j i. go j i (ℕ-discrete j k);
+        }
       where
         go : (j : ℕ) → j < length (net .links) → Dec (j ≡ k)
             → T (slotHolds (h .condition) (isEnd net j s) (counter (counted k c h) j) (mark h j))

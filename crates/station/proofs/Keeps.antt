@@ -28,7 +28,8 @@ use Rattle.station.specs.Acts.{intervalTests, intervalMarks, testEnded, 
 use Rattle.station.specs.Done.{Done, letter, onEach, tell, less, known, doneBy}
 use Rattle.station.specs.Acts.{mayEnd, isOpen, theLink, Sends, nothing, requests, Act}
 use Rattle.station.specs.Done.{ownLinks, sentOf}
-use Rattle.station.proofs.Doing.{unchanged, marked, counted, stopped, openLinks, purged, started, recovered, interval, timeout, spoken, answer, replied}
+use Rattle.station.proofs.Doing.{unchanged, marked, counted, stopped, openLinks, purged, started, recovered, interval, timeout}
+use Rattle.station.proofs.Doing.{spoken, answer, replied}
 use Rattle.station.proofs.Doing.{effectOn, heardOn, received}
 use Rattle.station.proofs.Slots.{allMarks, rule, slot-counter, slot-together, own-slot, busy, busy-live, stopped-slot, started-slot}
 use Rattle.station.proofs.Slots.{recovered-slot, counter-next}

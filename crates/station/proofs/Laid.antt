@@ -6,9 +6,11 @@ use mathlib.Core.List.{List, _++_, map}
 use native.Mathlib.Decide.{decLt, ℕ-discrete}
 use native.Mathlib.Omega.{arith}
 use lib.Dec.{eqb}
-use lib.ListN.{length, getD, drop, set, length-append, length-drop, length-set, length-map, length-take, take-append-drop, List·getD-append, List·getD-map, List·getD-eq-default}
+use lib.ListN.{length, getD, drop, set, length-append, length-drop, length-set, length-map, length-take, take-append-drop}
+use lib.ListN.{List·getD-append, List·getD-map, List·getD-eq-default}
 use lib.Seq.{ext-getD, getD-append-add, getD-drop, getD-set-same, getD-set-other, take-set-lt, drop-set-lt, set-out}
 use borrow.Author.Tests.{eq-eqb, ne-eqb}
+use Rattle.net.specs.Sizes.{linkRoom}
 use Rattle.lists.specs.Lists.{if_then_else_, below}
 use Rattle.lists.specs.Words.{inWord, wordOf}
 use Rattle.lists.proofs.Numbers.{getD-map-below, length-map-below}
@@ -27,33 +29,33 @@ use Rattle.station.specs.Values.{holdingOf, bitsOf, laidWord, laidWords,
 
 -- ---- words
 -- a word whose bits are those of the list, and past it those of the old word
-word-laid : (n : ℕ) → n ≤ 64 → (f : ℕ → Bool) (old : ℕ) (bs : List Bool) → length bs ≡ n → ((t : ℕ) → t < n → getD bs t false ≡ f t)
-    → ((t : ℕ) → n ≤ t → t < 64 → inWord old t ≡ f t) → wordBy f ≡ laidWord n old bs
+word-laid : (n : ℕ) → n ≤ linkRoom → (f : ℕ → Bool) (old : ℕ) (bs : List Bool) → length bs ≡ n → ((t : ℕ) → t < n → getD bs t false ≡ f t)
+    → ((t : ℕ) → n ≤ t → t < linkRoom → inWord old t ≡ f t) → wordBy f ≡ laidWord n old bs
 unfolding wordBy
 word-laid n l f old bs e first rest =
-    ap wordOf (ext-getD false (map f (below 64)) (bs ++ drop n (bitsOf old)) sizes
-    (λ i h. at i (subst (λ (x : ℕ). i < x) (length-map-below f 64) h) (decLt i n)))
+    ap wordOf (ext-getD false (map f (below linkRoom)) (bs ++ drop n (bitsOf old)) sizes
+    (λ i h. at i (subst (λ (x : ℕ). i < x) (length-map-below f linkRoom) h) (decLt i n)))
   where
-    sizes : length (map f (below 64)) ≡ length (bs ++ drop n (bitsOf old))
+    sizes : length (map f (below linkRoom)) ≡ length (bs ++ drop n (bitsOf old))
     sizes =
-        length-map-below f 64 ∙ sym (length-append bs (drop n (bitsOf old))
-        ∙ omega (arith, e, length-drop n (bitsOf old), length-map-below (inWord old) 64))
+        length-map-below f linkRoom ∙ sym (length-append bs (drop n (bitsOf old))
+        ∙ omega (arith, e, length-drop n (bitsOf old), length-map-below (inWord old) linkRoom))
 
-    at : (i : ℕ) → i < 64 → Dec (i < n) → getD (map f (below 64)) i false ≡ getD (bs ++ drop n (bitsOf old)) i false
-    at i h (yes m) = getD-map-below f 64 i false h ∙ sym (List·getD-append bs (drop n (bitsOf old)) false i (omega (arith, e)) ∙ first i m)
+    at : (i : ℕ) → i < linkRoom → Dec (i < n) → getD (map f (below linkRoom)) i false ≡ getD (bs ++ drop n (bitsOf old)) i false
+    at i h (yes m) = getD-map-below f linkRoom i false h ∙ sym (List·getD-append bs (drop n (bitsOf old)) false i (omega (arith, e)) ∙ first i m)
     at i h (no m) =
         let j : ℕ = i - n in
         let q : length bs + j ≡ i = omega (arith, e) in
         let q′ : n + j ≡ i = omega arith in
-        getD-map-below f 64 i false h
+        getD-map-below f linkRoom i false h
         ∙ sym (subst (λ (x : ℕ). getD (bs ++ drop n (bitsOf old)) x false ≡ getD (drop n (bitsOf old)) j false) q
         (getD-append-add bs (drop n (bitsOf old)) j false)
-        ∙ getD-drop n (bitsOf old) j false ∙ ap (λ (x : ℕ). getD (bitsOf old) x false) q′ ∙ getD-map-below (inWord old) 64 i false h
+        ∙ getD-drop n (bitsOf old) j false ∙ ap (λ (x : ℕ). getD (bitsOf old) x false) q′ ∙ getD-map-below (inWord old) linkRoom i false h
         ∙ rest i (omega arith) h)
 
-pub words-laid : (n : ℕ) → n ≤ 64 → (g : ℕ → Marks) (old : Words) (ms : List Marks) → length ms ≡ n
+pub words-laid : (n : ℕ) → n ≤ linkRoom → (g : ℕ → Marks) (old : Words) (ms : List Marks) → length ms ≡ n
     → ((t : ℕ) → t < n → getD ms t noMarks ≡ g t)
-    → ((t : ℕ) → n ≤ t → t < 64 → marksAt old t ≡ g t) → wordsBy g ≡ laidWords n old ms
+    → ((t : ℕ) → n ≤ t → t < linkRoom → marksAt old t ≡ g t) → wordsBy g ≡ laidWords n old ms
 words-laid n l g old ms e first rest = λ i. record {
   token = one (λ m. m .token) refl (old .token) (λ t. refl) i;
   turn = one (λ m. m .turn) refl (old .turn) (λ t. refl) i;
@@ -203,7 +205,7 @@ module _ (net : Net) (st : Station) where
       List·getD-eq-default (map (marksAt (st .marks)) (below (linkCount net))) noMarks {n = k}
       (omega (arith, length-map-below (marksAt (st .marks)) (linkCount net)))
 
-  pub counter-past : (k : ℕ) → length (st .counters) ≡ 64 → linkCount net ≤ k → counter (holdingOf net st) k ≡ 1
+  pub counter-past : (k : ℕ) → length (st .counters) ≡ linkRoom → linkCount net ≤ k → counter (holdingOf net st) k ≡ 1
   unfolding holdingOf
   counter-past k e h =
       List·getD-eq-default (tableOf net (st .counters)) 1 {n = k} (omega (arith, length-take (linkCount net) (st .counters)))

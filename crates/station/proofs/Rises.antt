@@ -21,7 +21,8 @@ use Rattle.station.specs.declared.Heard.{Heard}
 use Rattle.station.specs.declared.Heard.the-variants.{Gone, Nothing, Overflows, Does}
 use Rattle.station.specs.Holding.{Holding, counter, mark, holdingHolds}
 use Rattle.station.specs.Done.{Done, doneBy}
-use Rattle.station.proofs.Doing.{unchanged, stopped, purged, started, recovered, interval, timeout, spoken, answer, effectOn, heardOn}
+use Rattle.station.proofs.Doing.{unchanged, stopped, purged, started, recovered, interval, timeout, spoken, answer, effectOn}
+use Rattle.station.proofs.Doing.{heardOn}
 use Rattle.station.proofs.Doing.{received}
 use Rattle.station.proofs.Slots.{slot-counter, counter-range, healed-above, healed-works, healed-equal}
 use Rattle.station.proofs.Purges.{Lowered, lowered-le, purged-lowers, purged-own}

@@ -29,7 +29,8 @@ use Rattle.station.specs.declared.Kind.{Kind}
 use Rattle.station.specs.declared.Kind.the-variants.{NoSuch, Start, Stop, Recovery, IntervalEnd, TimeoutEnd, QuietEnd, Delivery, Loss}
 use Rattle.station.specs.Holding.{Holding, counter, mark, higher, holdingHolds}
 use Rattle.station.specs.Done.{Done}
-use Rattle.station.proofs.Doing.{unchanged, delivery-act, stopped, started, recovered, interval, timeout, spoken, answer, effectOn, heardOn, received}
+use Rattle.station.proofs.Doing.{unchanged, delivery-act, stopped, started, recovered, interval, timeout, spoken, answer, effectOn}
+use Rattle.station.proofs.Doing.{heardOn, received}
 use Rattle.station.specs.Events.{raisedEffect, isNotice, heardRule, Rule, ruleAt, Due, refusing, dueOf}
 use Rattle.station.specs.Acts.{Act, idle}
 use Rattle.station.specs.Done.{doneBy}

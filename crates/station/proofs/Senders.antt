@@ -21,7 +21,8 @@ use Rattle.station.specs.declared.Kind.the-variants.{NoSuch, Start, Stop
 use Rattle.station.specs.Holding.{Holding, counter, mark}
 use Rattle.station.specs.Acts.{intervalTests}
 use Rattle.station.specs.Done.{Done, letter, onEach, tell, less, known, doneBy}
-use Rattle.station.proofs.Doing.{delivery-act, openLinks, stopped, started, recovered, interval, timeout, spoken, answer, replied, effectOn, heardOn}
+use Rattle.station.proofs.Doing.{delivery-act, openLinks, stopped, started, recovered, interval, timeout, spoken, answer, replied}
+use Rattle.station.proofs.Doing.{effectOn, heardOn}
 use Rattle.station.proofs.Doing.{received}
 use Rattle.station.specs.Events.{ruleAt}
 use Rattle.station.specs.Acts.{Sends, Act}

@@ -8,6 +8,7 @@ use native.Mathlib.Omega.{arith}
 use lib.Dec.{eqb}
 use lib.ListN.{getD}
 use borrow.Author.Tests.{eq-eqb, ne-eqb, lt-ltb, le-ltb}
+use Rattle.net.specs.Sizes.{linkRoom}
 use Rattle.lists.specs.Lists.{if_then_else_, keep, from, below}
 use Rattle.lists.specs.Words.{inWord}
 use Rattle.net.specs.declared.Body.the-variants.{Request, Reply, Notice}
@@ -53,15 +54,15 @@ keep-upto q m (suc n) i h l = go (decLt i m) (λ a b. keep-upto q m n (suc i) a 
         ∙ ap (λ (x : ℕ). keep q (from i x)) e
 
 -- the members of a word made by a test, all of them below m
-pub members-upto : (q : ℕ → Bool) (m : ℕ) → m ≤ 64 → membersOf (wordBy (upTo q m)) ≡ keep q (below m)
+pub members-upto : (q : ℕ → Bool) (m : ℕ) → m ≤ linkRoom → membersOf (wordBy (upTo q m)) ≡ keep q (below m)
 unfolding membersOf
 members-upto q m h =
     let e : m - 0 ≡ m = omega arith in
-    keep-same (inWord (wordBy (upTo q m))) (upTo q m) 64 (λ t l. in-by (upTo q m) t l) ∙ keep-upto q m 64 0 (omega arith) (omega arith)
+    keep-same (inWord (wordBy (upTo q m))) (upTo q m) linkRoom (λ t l. in-by (upTo q m) t l) ∙ keep-upto q m linkRoom 0 (omega arith) (omega arith)
     ∙ ap (λ (x : ℕ). keep q (from 0 x)) e
 
 -- the same for a word known by its bits
-pub members-by : (f q : ℕ → Bool) (m : ℕ) → m ≤ 64 → ((t : ℕ) → t < 64 → f t ≡ upTo q m t) → membersOf (wordBy f) ≡ keep q (below m)
+pub members-by : (f q : ℕ → Bool) (m : ℕ) → m ≤ linkRoom → ((t : ℕ) → t < linkRoom → f t ≡ upTo q m t) → membersOf (wordBy f) ≡ keep q (below m)
 members-by f q m h e = ap membersOf (by-same f (upTo q m) e) ∙ members-upto q m h
 
 pub members-none : membersOf 0 ≡ []
@@ -92,10 +93,10 @@ one-from k (suc n) i a b = go (ℕ-discrete i k) (λ x y. one-from k n (suc i) x
         ap (λ (b : Bool). if b then (i ∷ keep (oneAt k) (from (suc i) n)) else keep (oneAt k) (from (suc i) n)) (one-off k i c)
         ∙ more (omega arith) (omega arith)
 
-pub members-one : (k : ℕ) → k < 64 → membersOf (wordBy (λ t. if eqb t k then true else inWord 0 t)) ≡ k ∷ []
+pub members-one : (k : ℕ) → k < linkRoom → membersOf (wordBy (λ t. if eqb t k then true else inWord 0 t)) ≡ k ∷ []
 unfolding oneAt membersOf
 members-one k h =
-    keep-same (inWord (wordBy (oneAt k))) (oneAt k) 64 (λ t l. in-by (oneAt k) t l) ∙ one-from k 64 0 (omega arith) (omega arith)
+    keep-same (inWord (wordBy (oneAt k))) (oneAt k) linkRoom (λ t l. in-by (oneAt k) t l) ∙ one-from k linkRoom 0 (omega arith) (omega arith)
 
 -- ---- notices depend only on the counters of their subjects
 tell-from : (s : ℕ) (c d : ℕ → ℕ) (p : ℕ → Bool) (ways : List ℕ) (n i : ℕ) → ((j : ℕ) → i ≤ j → j < i + n → c j ≡ d j)

@@ -12,7 +12,8 @@ use Rattle.counters.specs.Counters.{even, odd, healed}
 use Rattle.marks.specs.declared.Marks.{Marks}
 use Rattle.station.specs.declared.Condition.{Condition}
 use Rattle.station.specs.declared.Condition.the-variants.{Down, Waiting, Live}
-use Rattle.station.specs.Holding.{noMarks, isLive, isWaiting, isDown, setToken, implies, together, isOff, isTokenAlone, conditionHolds, slotHolds}
+use Rattle.station.specs.Holding.{noMarks, isLive, isWaiting, isDown, setToken, implies, together, isOff, isTokenAlone}
+use Rattle.station.specs.Holding.{conditionHolds, slotHolds}
 use Rattle.station.specs.Acts.{intervalMarks}
 
 -- ---- a test that passes at all 32 marks passes at each

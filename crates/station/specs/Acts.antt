@@ -120,7 +120,8 @@ module _ (x : Condition) (k : ℕ) where
     -- purged
     abbrev pub timeoutAct : Act
     timeoutAct =
-        if even c then act x (onLink k (λ m. setQuiet true (testEnded m))) (sets k (timedOut c) true) (notices k (timedOut c) (otherOwn k isOpen))
+        if even c then act x (onLink k (λ m. setQuiet true (testEnded m))) (sets k (timedOut c) true)
+        (notices k (timedOut c) (otherOwn k isOpen))
         else act x (onLink k testEnded) kept nothing
 
     -- ---- 7. A letter that is heard, by what it does. A request: the higher-numbered of two testers only marks it; else all that is known

@@ -127,6 +127,4 @@ abbrev pub linkOf : Kind → ℕ → Letter → ℕ
 linkOf e b l = if takesLetter e then l .link else b
 
 abbrev pub ruleAt : ℕ → Kind → ℕ → Letter → Holding → Rule
-ruleAt s e b l h =
-    let k = linkOf e b l in
-    ruleOf s k l (h .condition) (mark h k) (counter h k) (counter h (subjectOf (l .body))) e
+ruleAt s e b l h = let k = linkOf e b l in ruleOf s k l (h .condition) (mark h k) (counter h k) (counter h (subjectOf (l .body))) e

@@ -3,6 +3,7 @@ use Prim.Native.Nat.{ℕ}
 use mathlib.Core.Bool.{Bool}
 use mathlib.Core.List.{List, [], _∷_, _++_, map}
 use lib.ListN.{getD, drop, replicate}
+use Rattle.net.specs.Sizes.{linkRoom}
 use Rattle.lists.specs.Lists.{if_then_else_, keep, below, filled}
 use Rattle.lists.specs.Words.{inWord, wordOf}
 use Rattle.net.specs.declared.Body.the-variants.{Request, Reply}
@@ -26,7 +27,7 @@ holdingOf net st =
 
 -- ---- a holding laid over the room of an old station value: the unused room stays
 abbrev pub bitsOf : ℕ → List Bool
-bitsOf w = map (inWord w) (below 64)
+bitsOf w = map (inWord w) (below linkRoom)
 
 abbrev pub laidWord : ℕ → ℕ → List Bool → ℕ
 laidWord n old bs = wordOf (bs ++ drop n (bitsOf old))
@@ -52,7 +53,7 @@ laid net old h =
 -- ---- the letters that a sending means, where the table told is this
 -- the links of a word, rising
 unfoldable pub membersOf : ℕ → List ℕ
-membersOf w = keep (inWord w) (below 64)
+membersOf w = keep (inWord w) (below linkRoom)
 
 -- requests by link; notices by subject, then by way; last the reply
 abbrev pub parts : ℕ → List ℕ → (ℕ → ℕ) → List ℕ → List ℕ → List Letter → List Letter
@@ -71,8 +72,8 @@ abbrev pub unmarked : Station → Station
 unmarked st = record { condition = st .condition; counters = st .counters; marks = noWords }
 
 unfoldable pub blank : Station
-blank = record { condition = Down; counters = replicate 64 0; marks = noWords }
+blank = record { condition = Down; counters = replicate linkRoom 0; marks = noWords }
 
 -- every counter 1 in a network of n links, the unused room zero
 unfoldable pub freshTable : ℕ → List ℕ
-freshTable n = filled (λ k. 1) (replicate 64 0) n
+freshTable n = filled (λ k. 1) (replicate linkRoom 0) n

@@ -6,10 +6,12 @@ ghost use mathlib.Core.Path.{_≡_};
 ghost use Rattle.station.specs.Holding.{isLive, isDown, isWaiting};
 ghost use Prim.Native.Nat.{min};
 ghost use lib.ListN.{replicate};
+ghost use Rattle.net.specs.Sizes.{linkRoom};
 ghost use Rattle.station.specs.Events.{kindOf};
 ghost use Rattle.station.specs.Values.{freshTable};
 use counters::Counters;
 use marks::Words;
+use net::LINK_ROOM;
 
 // The first condition is what an unused place holds.
 pub enum Condition {
@@ -111,15 +113,15 @@ pub fn kind_of(n: u32) -> Kind
 }
 
 fn no_counters() -> Counters
-    ensures { λ r. ⌜ r ≡ replicate 64 0 ⌝ }
+    ensures { λ r. ⌜ r ≡ replicate linkRoom 0 ⌝ }
 {
-    [0u16; 64]
+    [0u16; LINK_ROOM]
 }
 
 // The table of a station that knows of no link: every counter 1.
 // Promise: equals `Values.freshTable`: counter 1 for each link that is there, the unused room zero.
 pub fn fresh_counters(links: u8) -> Counters
-    ensures { λ r. ⌜ r ≡ freshTable (min links 64) ⌝ }
+    ensures { λ r. ⌜ r ≡ freshTable (min links linkRoom) ⌝ }
 {
     let m = sets::at_most_64(links);
     let mut counters = no_counters();

@@ -11,7 +11,8 @@ use Rattle.station.specs.declared.Condition.{Condition}
 use Rattle.station.specs.declared.Kind.{Kind}
 use Rattle.station.specs.declared.Kind.the-variants.{NoSuch, Start, Stop, Recovery, IntervalEnd, TimeoutEnd, QuietEnd, Loss}
 use Rattle.station.specs.Holding.{isDown}
-use Rattle.station.specs.Acts.{theLink, onLink, kept, nothing, requests, act, mayEnd, intervalTests, intervalMarks, stopAct, intervalAct, quietAct}
+use Rattle.station.specs.Acts.{theLink, onLink, kept, nothing, requests, act, mayEnd, intervalTests, intervalMarks, stopAct, intervalAct}
+use Rattle.station.specs.Acts.{quietAct}
 use Rattle.station.specs.Events.{counting, isNotice, Due, refusing, dueOf}
 use Rattle.station.proofs.Laid.{Fit}
 use Rattle.station_plan.specs.declared.Plan.{Plan}

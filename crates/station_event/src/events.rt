@@ -252,8 +252,8 @@ fn plan_quiet_end(k: u8, condition: Condition, w: Words) -> Plan
 
 // What the event comes to at the station me. there: whether what it names is there. own: the station's links. k: the link that the
 // event is about, with its counter c. told: the counter of the link that the letter tells of.
-// Promise: equals `Comes.eventPlan` of the words given: 6 where what the event names is not there, 7, 8, or what is done; and at every station
-// that has these words this is what the event comes to there, by document 01 (`Comes.EventPlans`: `dueOf` of `ruleAt`).
+// Promise: equals `Comes.eventPlan` of the words given: 6 where what the event names is not there, 7, 8, or what is done; and at every
+// station that has these words this is what the event comes to there, by document 01 (`Comes.EventPlans`: `dueOf` of `ruleAt`).
 pub fn plan_event(
     there: bool,
     kind: Kind,

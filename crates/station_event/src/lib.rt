@@ -1,6 +1,6 @@
-// The code that makes the plan of an event at the one station that it concerns. Here is a letter's arrival: the receiver's answer to it, and
-// the plan by that answer; and the three forms that most plans have. The plan of any event, by its kind: events.rt. An inner door: the call
-// is the network's step.
+// The code that makes the plan of an event at the one station that it concerns. Here is a letter's arrival: the receiver's answer to it,
+// and the plan by that answer; and the three forms that most plans have. The plan of any event, by its kind: events.rt. An inner door:
+// the call is the network's step.
 pub mod events;
 
 ghost use mathlib.Core.Path.{_≡_};

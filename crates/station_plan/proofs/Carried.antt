@@ -7,6 +7,7 @@ use native.Mathlib.Omega.{arith}
 use lib.Dec.{T}
 use lib.ListN.{length, getD, drop, set, replicate, length-set}
 use borrow.Author.Tests.{lt-ltb, le-ltb}
+use Rattle.net.specs.Sizes.{linkRoom}
 use Rattle.lists.specs.Lists.{if_then_else_, below}
 use Rattle.lists.specs.Words.{inWord}
 use Rattle.lists.proofs.Numbers.{getD-map-below, length-map-below}
@@ -26,20 +27,23 @@ use Rattle.marks.specs.Marks.{marksAt, wordsWith, ownAt}
 use Rattle.station.specs.declared.Sending.{Sending}
 use Rattle.station.specs.declared.Station.{Station}
 use Rattle.station.specs.Holding.{Holding, noMarks, mark}
-use Rattle.station.specs.Acts.{Links, Marking, asBefore, onLink, onEvery, Tabling, kept, ones, sets, Sends, nothing, requests, notices, allKnown, reply, Act}
+use Rattle.station.specs.Acts.{Links, Marking, asBefore, onLink, onEvery, Tabling, kept, ones, sets, Sends, nothing, requests, notices}
+use Rattle.station.specs.Acts.{allKnown, reply, Act}
 use Rattle.station.specs.Done.{letter, onEach, tell, less, known, linksOf, toldTable, purgedTable, marksAfter, sentOf, doneBy}
 use Rattle.station.specs.Events.{Due}
 use Rattle.station.specs.Values.{holdingOf, laid, laidWords, membersOf, lettersOf, freshTable}
-use Rattle.station.proofs.Laid.{Fit, words-laid, laid-is, marks-laid, same-laid, marks-of, mark-of, table-of, condition-of, counters-same, counters-set, table-set, room-set}
+use Rattle.station.proofs.Laid.{Fit, words-laid, laid-is, marks-laid, same-laid, marks-of, mark-of, table-of, condition-of, counters-same}
+use Rattle.station.proofs.Laid.{counters-set, table-set, room-set}
 use Rattle.station.proofs.Sent.{members-none, members-one, tell-one, sent-nothing, sent-requests, sent-notices, sent-reply}
 use Rattle.station_plan.specs.declared.Plan.{Plan}
-use Rattle.station_plan.specs.Plans.{everyLink, putting, requesting, telling, knowsBy, linksWord, marksBy, sendingBy, tabledPlan, planOf, keptBy, narrowed}
+use Rattle.station_plan.specs.Plans.{everyLink, putting, requesting, telling, knowsBy, linksWord, marksBy, sendingBy, tabledPlan}
+use Rattle.station_plan.specs.Plans.{planOf, keptBy, narrowed}
 use Rattle.station_plan.specs.Plans.{stationBy, lettersBy}
 use Rattle.station_plan.specs.Planned.{Acts}
 use Rattle.station_plan.proofs.Sets.{LinksFit, links-are, known-are, known-less, tell-known, tell-known-less}
 
 module _ (net : Net) (s : ℕ) (st : Station) (own : ℕ) (eo : own ≡ wordBy (ownAt net s)) (fit : Fit (st .marks))
-    (size : length (st .counters) ≡ 64) where
+    (size : length (st .counters) ≡ linkRoom) where
   abbrev H : Holding
   H = holdingOf net st
 
@@ -83,11 +87,11 @@ module _ (net : Net) (s : ℕ) (st : Station) (own : ℕ) (eo : own ≡ wordBy (
   abbrev pub MarksRoom : Words → Marking → Type 0
   MarksRoom old asBefore = old ≡ W
   MarksRoom old (onLink k f) = old ≡ W
-  MarksRoom old (onEvery f) = (t : ℕ) → linkCount net ≤ t → t < 64 → marksAt old t ≡ f false (marksAt W t)
+  MarksRoom old (onEvery f) = (t : ℕ) → linkCount net ≤ t → t < linkRoom → marksAt old t ≡ f false (marksAt W t)
 
   abbrev pub TableRoom : List ℕ → Tabling → Type 0
   TableRoom old kept = old ≡ st .counters
-  TableRoom old ones = old ≡ replicate 64 0
+  TableRoom old ones = old ≡ replicate linkRoom 0
   TableRoom old (sets j c purges) = old ≡ st .counters
 
   -- ---- the marks
@@ -95,7 +99,7 @@ module _ (net : Net) (s : ℕ) (st : Station) (own : ℕ) (eo : own ≡ wordBy (
   own-in t h =
       ap (λ (x : ℕ). inWord x t) eo ∙ in-by (ownAt net s) t (omega arith) ∙ ap (λ (b : Bool). b && isEnd N t s) (lt-ltb t (linkCount net) h)
 
-  own-past : (t : ℕ) → linkCount net ≤ t → t < 64 → inWord own t ≡ false
+  own-past : (t : ℕ) → linkCount net ≤ t → t < linkRoom → inWord own t ≡ false
   own-past t h l =
       ap (λ (x : ℕ). inWord x t) eo ∙ in-by (ownAt net s) t l ∙ ap (λ (b : Bool). b && isEnd N t s) (le-ltb t (linkCount net) h)
 
@@ -136,13 +140,13 @@ module _ (net : Net) (s : ℕ) (st : Station) (own : ℕ) (eo : own ≡ wordBy (
       (linkCount net) x) (sym r)
 
   -- ---- the letters
-  told-size : (t : Tabling) → length (toldOf t) ≡ 64
+  told-size : (t : Tabling) → length (toldOf t) ≡ linkRoom
   told-size kept = size
   told-size ones = size
   told-size (sets j c purges) = length-set (st .counters) j c ∙ size
 
   -- by a table of which the told one is the front
-  module _ (told : List ℕ) (long : length told ≡ 64) where
+  module _ (told : List ℕ) (long : length told ≡ linkRoom) where
     abbrev narrow : Sends → Sending
     narrow l = narrowed (knowsBy l) (linkCount net) told (sendingBy own W l)
 

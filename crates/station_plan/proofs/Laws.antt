@@ -7,6 +7,7 @@ use native.Mathlib.Omega.{arith}
 use lib.Dec.{T, eqb, ltb}
 use lib.ListN.{length, getD, set}
 use lib.Seq.{getD-set-same}
+use Rattle.net.specs.Sizes.{linkRoom}
 use Rattle.lists.specs.Lists.{if_then_else_}
 use Rattle.lists.specs.Words.{bit}
 use Rattle.lists.proofs.Tests.{T-is, if-elim}
@@ -85,7 +86,7 @@ module _ (s : ℕ) (x : Condition) (m : Marks) (own told : ℕ) (l : Letter) whe
       go false p = clash (cc)
 
 -- ---- at a station value
-module _ (net : Net) (s : ℕ) (st : Station) (own : ℕ) (eo : Own own net s) (fit : Fit (st .marks)) (size : length (st .counters) ≡ 64) where
+module _ (net : Net) (s : ℕ) (st : Station) (own : ℕ) (eo : Own own net s) (fit : Fit (st .marks)) (size : length (st .counters) ≡ linkRoom) where
   abbrev H : Holding
   H = holdingOf net st
 
@@ -216,7 +217,8 @@ module _ (net : Net) (s : ℕ) (st : Station) (own : ℕ) (eo : Own own net s) (
         → Plans e net s k l st there (eventPlan there e own s k l c told X W)
     unfolding eventPlan holdingOf dueOf
     here-plans true e m =
-        subst (λ (r : Rule). Planned net s st (roomOf e st) (dueOf true r X) (planOf own W (dueOf true (ruled e) X))) (same-rule e (m tt)) (due-plans true e m)
+        subst (λ (r : Rule). Planned net s st (roomOf e st) (dueOf true r X) (planOf own W (dueOf true (ruled e) X)))
+        (same-rule e (m tt)) (due-plans true e m)
     here-plans false e m = due-plans false e m
 
 pub event-plans : (own s k : ℕ) (l : Letter) (c told : ℕ) (x : Condition) (w : Words) → Fit w → (there : Bool) (e : Kind)

@@ -6,6 +6,7 @@ use mathlib.Core.List.{List, [], _∷_}
 use native.Mathlib.Omega.{arith}
 use lib.Dec.{T, eqb, ltb}
 use lib.ListN.{length, getD}
+use Rattle.net.specs.Sizes.{linkRoom}
 use Rattle.lists.specs.Lists.{if_then_else_, keep, below}
 use Rattle.lists.specs.Words.{inWord}
 use Rattle.lists.proofs.Tests.{and-assoc}
@@ -90,7 +91,7 @@ module _ (net : Net) where
         ∙ sym (keep-keep (λ j. isEnd N j s && test (mark H j)) (λ j. not (eqb j k)) (linkNumbers N))
 
   -- ---- what is known of a table
-  module _ (told : List ℕ) (size : length told ≡ 64) where
+  module _ (told : List ℕ) (size : length told ≡ linkRoom) where
     abbrev table : List ℕ
     table = tableOf net told
 
@@ -127,7 +128,7 @@ module _ (net : Net) where
         cases false b true = refl
         cases false b false = refl
 
-        same : (t : ℕ) → t < 64 → (inWord (putting everyLink k false) t && knownIn (linkCount net) told t) ≡ upTo
+        same : (t : ℕ) → t < linkRoom → (inWord (putting everyLink k false) t && knownIn (linkCount net) told t) ≡ upTo
             (λ j. ltb 1 (getD told j 0) && not (eqb j k)) (linkCount net) t
         same t l =
             ap (λ (b : Bool). b && knownIn (linkCount net) told t)

@@ -23,8 +23,8 @@ use Rattle.station_plan.specs.declared.Plan.{Plan}
 use Rattle.station_plan.specs.Plans.{planOf}
 use Rattle.station_plan.specs.Planned.{Planned, Like}
 
--- ---- the plan: by whether what the event names is there, the own links, the station s, the link k, the letter, the counter of k and that of
--- the link told of, the condition and the marks
+-- ---- the plan: by whether what the event names is there, the own links, the station s, the link k, the letter, the counter of k and
+-- that of the link told of, the condition and the marks
 unfoldable pub eventPlan : Bool → Kind → ℕ → ℕ → ℕ → Letter → ℕ → ℕ → Condition → Words → Plan
 eventPlan there e own s k l c told x w = planOf own w (dueOf there (ruleOf s k l x (marksAt w k) c told e) x)
 

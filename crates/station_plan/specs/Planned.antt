@@ -3,6 +3,7 @@
 use Prim.Native.Nat.{ℕ}
 use mathlib.Core.Path.{_≡_}
 use lib.ListN.{length}
+use Rattle.net.specs.Sizes.{linkRoom}
 use Rattle.tally.specs.declared.Tally.{Tally}
 use Rattle.net.specs.declared.Net.{Net}
 use Rattle.net.specs.Values.{networkOf}
@@ -33,4 +34,4 @@ pub record Planned (net : Net) (s : ℕ) (st room : Station) (d : Due) (r : Plan
 pub record Like (x : Condition) (w : Words) (st : Station) : Type 0 where
   pub condition : st .condition ≡ x
   pub words : st .marks ≡ w
-  pub size : length (st .counters) ≡ 64
+  pub size : length (st .counters) ≡ linkRoom

@@ -5,6 +5,7 @@ use mathlib.Core.Path.{_≡_, refl, sym, ap, ap₂, _∙_}
 use mathlib.Core.List.{List}
 use lib.ListN.{length, set}
 use lib.Seq.{set-out}
+use Rattle.net.specs.Sizes.{linkRoom}
 use Rattle.lists.specs.Words.{inWord}
 use Rattle.net.specs.declared.Net.{Net}
 use Rattle.net.specs.Values.{linkCount}
@@ -65,7 +66,7 @@ module _ (n : ℕ) (table : List ℕ) (x : Sending) where
       (s ∙ by-same (λ t. inWord (x .subjects) t && not (inWord unknown t)) (λ t. inWord (x .subjects) t && knownIn n table t) same)
       ∙ sym (ap (λ (b : Bool). narrowed b n table x) e)
     where
-      same : (t : ℕ) → t < 64 → (inWord (x .subjects) t && not (inWord unknown t)) ≡ (inWord (x .subjects) t && knownIn n table t)
+      same : (t : ℕ) → t < linkRoom → (inWord (x .subjects) t && not (inWord unknown t)) ≡ (inWord (x .subjects) t && knownIn n table t)
       same t h =
           ap (λ (b : Bool). inWord (x .subjects) t && not b)
           (ap (λ (w : ℕ). inWord w t) u ∙ in-by (λ t. inWord (x .subjects) t && not (inWord known t)) t h

@@ -3,10 +3,12 @@
 ghost use mathlib.Core.Path.{_≡_};
 ghost use Prim.Native.Nat.{min};
 ghost use lib.ListN.{getD};
+ghost use Rattle.net.specs.Sizes.{linkRoom};
 ghost use Rattle.station_plan.specs.Carrying.{toldBy, narrowed, keptBy};
 ghost use lib.Dec.{ltb};
 ghost use Rattle.sets.specs.Sets.{wordBy, upTo};
 use counters::Counters;
+use net::MOST_LINKS;
 use net::Net;
 use station::Sending;
 
@@ -18,7 +20,7 @@ pub fn told_table(sets: bool, at: u8, counter: u16, table: Counters) -> Counters
     if !sets {
         return table;
     }
-    if 64 <= at {
+    if MOST_LINKS <= at {
         return table;
     }
     let i = at as usize;
@@ -30,7 +32,7 @@ pub fn told_table(sets: bool, at: u8, counter: u16, table: Counters) -> Counters
 // What is sent: where the plan says so, only what is known is told of.
 // Promise: equals `Carrying.narrowed`: of the subjects only those that are known, where the plan says so.
 pub fn narrow(knows: bool, links: u8, table: Counters, sends: Sending) -> Sending
-    ensures { λ r. ⌜ r ≡ narrowed knows (min links 64) table sends ⌝ }
+    ensures { λ r. ⌜ r ≡ narrowed knows (min links linkRoom) table sends ⌝ }
 {
     if !knows {
         return sends;
@@ -65,7 +67,7 @@ pub fn kept_table(net: Net, me: u8, resets: bool, purges: bool, table: Counters)
 
 // The links whose counter is above 1.
 fn known_links(links: u8, counters: Counters) -> u64
-    ensures { λ r. ⌜ r ≡ wordBy (upTo (λ j. ltb 1 (getD counters j 0)) (min links 64)) ⌝ }
+    ensures { λ r. ⌜ r ≡ wordBy (upTo (λ j. ltb 1 (getD counters j 0)) (min links linkRoom)) ⌝ }
 {
     let m = sets::at_most_64(links);
     let mut known: u64 = 0;

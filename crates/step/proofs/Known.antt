@@ -9,6 +9,7 @@ use native.Mathlib.Omega.{arith}
 use borrow.Author.Tests.{lt-ltb}
 use lib.Dec.{T, ltb, ltb→lt}
 use lib.ListN.{length, getD, List·getD-eq-default}
+use Rattle.net.specs.Sizes.{stationRoom, linkRoom, letterRoom}
 use Rattle.lists.specs.Lists.{if_then_else_}
 use Rattle.lists.proofs.Tests.{T-is, is-T, T-not-is, and-l}
 use Rattle.net.specs.declared.Body.{Body}
@@ -84,8 +85,8 @@ pub record Seen (s : State) (kind a b place me : ℕ) (named : Bool) (k about ow
   pub at : place ≡ placeBy a
   pub who : me ≡ inRoom (concernedBy (kindOf kind) (networkOf (s .net)) a (letterIn s place))
   pub names : named ≡ existsAs (kindOf kind) (networkOf (s .net)) (s .flying) a b
-  pub link : k ≡ linkOf (kindOf kind) b (letterIn s place) % 64
-  pub subject : about ≡ subjectOf (letterIn s place .body) % 64
+  pub link : k ≡ linkOf (kindOf kind) b (letterIn s place) % linkRoom
+  pub subject : about ≡ subjectOf (letterIn s place .body) % linkRoom
   pub mine : own ≡ wordBy (ownAt (s .net) me)
   pub plans : EventPlans named (kindOf kind) own me k (letterIn s place) (getD (stationIn s me .counters) k 0)
       (getD (stationIn s me .counters) about 0)
@@ -120,7 +121,7 @@ module _ {s : State} {kind a b place me : ℕ} {named : Bool} {k about own : ℕ
     links-are : length (w .net .links) ≡ linkCount (s .net)
     links-are = ap (λ (n : Network). length (n .links)) net-is ∙ links-of (s .net)
 
-    stations-are : (w .net .stations ≡ s .net .stations) × (s .net .stations ≤ 32)
+    stations-are : (w .net .stations ≡ s .net .stations) × (s .net .stations ≤ stationRoom)
     stations-are = (ap (λ (n : Network). n .stations) net-is ∙ M.count-is s (f .sized) (f .holds), M.few s (f .sized) (f .holds))
 
     named-is : named ≡ exists w E
@@ -129,15 +130,15 @@ module _ {s : State} {kind a b place me : ℕ} {named : Bool} {k about own : ℕ
 
     -- ---- where there is what the event names
     module _ (q : T (exists w E)) where
-      pub few-a : a < 4096
+      pub few-a : a < letterRoom
       few-a = go (takesLetter K) refl
         where
-          go : (t : Bool) → takesLetter K ≡ t → a < 4096
+          go : (t : Bool) → takesLetter K ≡ t → a < letterRoom
           go true e = omega (arith, letter-there w E (subst⁻¹ T e tt) q, ok .room)
           go false e = omega (arith, station-there w E (subst⁻¹ (λ (t : Bool). T (not t)) e tt) q, stations-are .0, stations-are .1)
 
       pub place-is : place ≡ a
-      place-is = f .at ∙ ap (λ (c : Bool). if c then a else 0) (lt-ltb a 4096 few-a)
+      place-is = f .at ∙ ap (λ (c : Bool). if c then a else 0) (lt-ltb a letterRoom few-a)
 
       pub letter-is : x ≡ letterAt w a
       letter-is = ap (letterIn s) place-is ∙ go (decLt a (s .flying))
@@ -153,7 +154,7 @@ module _ {s : State} {kind a b place me : ℕ} {named : Bool} {k about own : ℕ
       me-is =
           f .who ∙ ap₂ (λ (n : Network) (l : Letter). inRoom (concernedBy K n a l)) (sym net-is) letter-is
           ∙ ap (λ (c : Bool). if c then concernedBy K (w .net) a (letterAt w a) else 0)
-          (lt-ltb (concernedBy K (w .net) a (letterAt w a)) 32 (omega (arith, concerned-real w ok E q, stations-are .0, stations-are .1)))
+          (lt-ltb (concernedBy K (w .net) a (letterAt w a)) stationRoom (omega (arith, concerned-real w ok E q, stations-are .0, stations-are .1)))
 
       pub me-real : me < s .net .stations
       me-real = omega (arith, me-is, concerned-real w ok E q, stations-are .0)
@@ -162,7 +163,7 @@ module _ {s : State} {kind a b place me : ℕ} {named : Bool} {k about own : ℕ
       held-is = sym (M.world-holding s (f .sized) (f .holds) me me-real) ∙ ap (holdingAt w) me-is
 
       -- ---- the link and the subject
-      mod-few : (n : ℕ) → n < length (w .net .links) → n % 64 ≡ n
+      mod-few : (n : ℕ) → n < length (w .net .links) → n % linkRoom ≡ n
       mod-few n h = mod-eq-of-lt (omega (arith, h, links-are))
 
       link-there : T (onLink K) → linkOf K b x < length (w .net .links)
@@ -180,7 +181,7 @@ module _ {s : State} {kind a b place me : ℕ} {named : Bool} {k about own : ℕ
       meant = record {
         link = λ t. omega (arith, link-is t, link-there t, links-are);
         letter = λ t.
-            sym (f .link ∙ ap (λ (c : Bool). (if c then x .link else b) % 64) (T-is (takesLetter K) t) ∙ mod-few (x .link) (posted t .link));
+            sym (f .link ∙ ap (λ (c : Bool). (if c then x .link else b) % linkRoom) (T-is (takesLetter K) t) ∙ mod-few (x .link) (posted t .link));
         subject = λ t. omega (arith, subject-there t, links-are);
         tells = λ t. ap (λ (i : ℕ). getD (st .counters) i 0) (f .subject ∙ mod-few (subjectOf (x .body)) (subject-there t));
       }
@@ -209,12 +210,12 @@ module _ {s : State} {kind a b place me : ℕ} {named : Bool} {k about own : ℕ
           ∙ ap (λ (h : Holding). doneBy (w .net) (concerned w E) h (comes w E .act)) held-is
 
     -- ---- the plan is the world's
-    planned : (i : me < 32) → Planned (s .net) me st (roomOf K st) (dueOf named (ruleAt me K k x H) (st .condition)) p
+    planned : (i : me < stationRoom) → Planned (s .net) me st (roomOf K st) (dueOf named (ruleAt me K k x H) (st .condition)) p
     planned i =
         f .plans (s .net) st (record { condition = refl; words = refl; size = f .sized .each me i .counters }) (f .mine) refl
         (λ t. meant (subst T named-is t))
 
-    pub number-is : me < 32 → p .answer ≡ comes w E .number
+    pub number-is : me < stationRoom → p .answer ≡ comes w E .number
     unfolding dueOf
     number-is i = go (exists w E) refl
       where
@@ -225,7 +226,7 @@ module _ {s : State} {kind a b place me : ℕ} {named : Bool} {k about own : ℕ
             ∙ sym (ap (λ (y : Due). y .number) (absent-six w E (subst⁻¹ (λ (t : Bool). T (not t)) e tt)))
 
     -- where the plan refuses nothing
-    module _ (i : me < 32) (z : comes w E .number ≡ 0) where
+    module _ (i : me < stationRoom) (z : comes w E .number ≡ 0) where
       pub there : T (exists w E)
       there = passes w E z .exists
 

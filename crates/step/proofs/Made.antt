@@ -10,6 +10,7 @@ use borrow.Author.Tests.{eq-eqb, ne-eqb, lt-ltb, le-ltb, le-leb, lt-leb}
 use lib.Dec.{T, eqb, ltb, leb}
 use lib.ListN.{length, getD, set, take, length-append, length-map}
 use lib.Seq.{set-getD, take-suc, length-take-le}
+use Rattle.net.specs.Sizes.{stationRoom, linkRoom, letterRoom}
 use Rattle.lists.specs.Lists.{if_then_else_}
 use Rattle.lists.specs.Places.{without, roomed, closing}
 use Rattle.lists.proofs.Tests.{T-is, is-T}
@@ -84,17 +85,17 @@ map-set f (x ∷ l) zero y = refl
 map-set f (x ∷ l) (suc i) y = ap (λ (r : List Station). f x ∷ r) (map-set f l i y)
 
 -- ---- the letters that are left, closed up in their room: by whether one leaves
-module _ (xs : List Letter) (few : length xs ≤ 4096) where
+module _ (xs : List Letter) (few : length xs ≤ letterRoom) where
   abbrev room : List Letter
-  room = roomed 4096 noLetter xs
+  room = roomed letterRoom noLetter xs
 
   closed-as : (t : Bool) (a place last : ℕ) → (t ≡ true → (place ≡ a) × (a < length xs)) → last ≡ fewerBy t (length xs)
       → set (closing (if t then place else last) room last) (if t then last else place) (if t then noLetter else getD room place noLetter)
-      ≡ roomed 4096 noLetter (if t then without a xs else xs)
+      ≡ roomed letterRoom noLetter (if t then without a xs else xs)
   closed-as true a place last f g =
       let h = f refl in
       ap (λ (i : ℕ). set (closing i room last) last noLetter) (h .0)
-      ∙ roomed-less 4096 noLetter xs a last (h .1) few (omega (arith, h .1, g))
+      ∙ roomed-less letterRoom noLetter xs a last (h .1) few (omega (arith, h .1, g))
   closed-as false a place last f g =
       ap (λ (l : List Letter). set l place (getD room place noLetter)) (closing-none last room) ∙ set-getD room place noLetter
 
@@ -104,18 +105,18 @@ left-count true a xs h = omega (arith, length-without a xs (h refl))
 left-count false a xs h = refl
 
 -- ---- new letters at the end, one after the other
-pub posted-none : (ls new : List Letter) → roomed 4096 noLetter ls ≡ roomed 4096 noLetter (ls ++ take 0 new)
-posted-none ls new = ap (roomed 4096 noLetter) (sym (append-nil ls))
+pub posted-none : (ls new : List Letter) → roomed letterRoom noLetter ls ≡ roomed letterRoom noLetter (ls ++ take 0 new)
+posted-none ls new = ap (roomed letterRoom noLetter) (sym (append-nil ls))
 
-pub posted-more : (ls new : List Letter) (k at : ℕ) (y : Letter) → length ls + length new ≤ 4096 → k < length new → at ≡ length ls + k
+pub posted-more : (ls new : List Letter) (k at : ℕ) (y : Letter) → length ls + length new ≤ letterRoom → k < length new → at ≡ length ls + k
     → y ≡ getD new k noLetter
-    → set (roomed 4096 noLetter (ls ++ take k new)) at y ≡ roomed 4096 noLetter (ls ++ take (k + 1) new)
+    → set (roomed letterRoom noLetter (ls ++ take k new)) at y ≡ roomed letterRoom noLetter (ls ++ take (k + 1) new)
 posted-more ls new k at y few h p q =
     let n : length (take k new) ≡ k = length-take-le k new (omega arith) in
     let m : at ≡ length (ls ++ take k new) = omega (arith, p, n, length-append ls (take k new)) in
-    ap₂ (λ (i : ℕ) (x : Letter). set (roomed 4096 noLetter (ls ++ take k new)) i x) m q
-    ∙ roomed-more 4096 noLetter (ls ++ take k new) (getD new k noLetter) (omega (arith, n, length-append ls (take k new)))
-    ∙ ap (roomed 4096 noLetter)
+    ap₂ (λ (i : ℕ) (x : Letter). set (roomed letterRoom noLetter (ls ++ take k new)) i x) m q
+    ∙ roomed-more letterRoom noLetter (ls ++ take k new) (getD new k noLetter) (omega (arith, n, length-append ls (take k new)))
+    ∙ ap (roomed letterRoom noLetter)
     (append-assoc ls (take k new) (getD new k noLetter ∷ [])
     ∙ ap (λ (l : List Letter). ls ++ l) (sym (take-suc new k noLetter h) ∙ ap (λ (i : ℕ). take i new) (sym (add-one k))))
 
@@ -124,9 +125,9 @@ pub record Facts (s : State) (kind a b place me : ℕ) (named : Bool) (k about o
     (count left answer : ℕ)
     (leaves : Bool) : Type 0 where
   pub seen : Seen s kind a b place me named k about own p
-  pub within : me < 32
+  pub within : me < stationRoom
   pub tells : told ≡ toldIn p (stationIn s me)
-  pub sends : send ≡ narrowed (p .knows) (min (s .net .links) 64) told (p .sends)
+  pub sends : send ≡ narrowed (p .knows) (min (s .net .links) linkRoom) told (p .sends)
   pub counts : count ≡ length (lettersOf me told send)
   pub goes : leaves ≡ takesLetter (kindOf kind)
   pub stays : left ≡ fewerBy leaves (s .flying)
@@ -165,33 +166,33 @@ module _ {s : State} {kind a b place me : ℕ} {named : Bool} {k about own : ℕ
     unfolding lettersBy
     sent-is =
         ap₂ (λ (t : List ℕ) (x : Sending). lettersOf me t x) (f .tells)
-        (f .sends ∙ ap (λ (t : List ℕ). narrowed (p .knows) (min (s .net .links) 64) t (p .sends)) (f .tells))
+        (f .sends ∙ ap (λ (t : List ℕ). narrowed (p .knows) (min (s .net .links) linkRoom) t (p .sends)) (f .tells))
         ∙ K.acts (f .seen) (f .within) z .sent
 
     count-is : count ≡ length (done w E .sent)
     count-is = f .counts ∙ ap length sent-is
 
-    fitting : _≡_ {A = ℕ} (if ltb 4096 (left₀ + count) then 9 else 0) (if fits w E then 0 else 9)
+    fitting : _≡_ {A = ℕ} (if ltb letterRoom (left₀ + count) then 9 else 0) (if fits w E then 0 else 9)
     fitting =
-        by (decLt 4096 (left₀ + count))
+        by (decLt letterRoom (left₀ + count))
         ∙ ap {B = ℕ} (λ (c : Bool). if c then 0 else 9)
-        (ap₂ (λ (m n : ℕ). leb (m + n) 4096) (sym left-length₀) count-is ∙ sym (fits-is w E))
+        (ap₂ (λ (m n : ℕ). leb (m + n) letterRoom) (sym left-length₀) count-is ∙ sym (fits-is w E))
       where
-        by : Dec (4096 < left₀ + count) → _≡_ {A = ℕ} (if ltb 4096 (left₀ + count) then 9 else 0)
-            (if leb (left₀ + count) 4096 then 0 else 9)
+        by : Dec (letterRoom < left₀ + count) → _≡_ {A = ℕ} (if ltb letterRoom (left₀ + count) then 9 else 0)
+            (if leb (left₀ + count) letterRoom then 0 else 9)
         by (yes d) =
-            ap {B = ℕ} (λ (c : Bool). if c then 9 else 0) (lt-ltb 4096 (left₀ + count) d)
-            ∙ sym (ap {B = ℕ} (λ (c : Bool). if c then 0 else 9) (lt-leb (left₀ + count) 4096 d))
+            ap {B = ℕ} (λ (c : Bool). if c then 9 else 0) (lt-ltb letterRoom (left₀ + count) d)
+            ∙ sym (ap {B = ℕ} (λ (c : Bool). if c then 0 else 9) (lt-leb (left₀ + count) letterRoom d))
         by (no d) =
-            let g : left₀ + count ≤ 4096 = omega arith in
-            ap {B = ℕ} (λ (c : Bool). if c then 9 else 0) (le-ltb 4096 (left₀ + count) g)
-            ∙ sym (ap {B = ℕ} (λ (c : Bool). if c then 0 else 9) (le-leb (left₀ + count) 4096 g))
+            let g : left₀ + count ≤ letterRoom = omega arith in
+            ap {B = ℕ} (λ (c : Bool). if c then 9 else 0) (le-ltb letterRoom (left₀ + count) g)
+            ∙ sym (ap {B = ℕ} (λ (c : Bool). if c then 0 else 9) (le-leb (left₀ + count) letterRoom g))
 
   planned : p .answer ≡ comes w E .number
   planned = K.number-is (f .seen) (f .within)
 
-  by-plan : (c : Bool) → eqb (p .answer) 0 ≡ c → answer ≡ (if c then (if ltb 4096 (left₀ + count) then 9 else 0) else p .answer)
-  by-plan c e = f .says ∙ ap (λ (c : Bool). if c then (if ltb 4096 (left₀ + count) then 9 else 0) else p .answer) e
+  by-plan : (c : Bool) → eqb (p .answer) 0 ≡ c → answer ≡ (if c then (if ltb letterRoom (left₀ + count) then 9 else 0) else p .answer)
+  by-plan c e = f .says ∙ ap (λ (c : Bool). if c then (if ltb letterRoom (left₀ + count) then 9 else 0) else p .answer) e
 
   pub answer-refusal : answer ≡ refusal w E
   answer-refusal = go (ℕ-discrete (comes w E .number) 0)
@@ -233,23 +234,23 @@ module _ {s : State} {kind a b place me : ℕ} {named : Bool} {k about own : ℕ
     pub new-length : length newLetters ≡ count
     new-length = sym (count-is z₀)
 
-    pub few-after : left₀ + count ≤ 4096
-    few-after = go (decLt 4096 (left₀ + count))
+    pub few-after : left₀ + count ≤ letterRoom
+    few-after = go (decLt letterRoom (left₀ + count))
       where
-        nine : 4096 < left₀ + count → answer ≡ 9
+        nine : letterRoom < left₀ + count → answer ≡ 9
         nine d =
-            by-plan true (eq-eqb (p .answer) 0 none-planned) ∙ ap {B = ℕ} (λ (c : Bool). if c then 9 else 0) (lt-ltb 4096 (left₀ + count) d)
+            by-plan true (eq-eqb (p .answer) 0 none-planned) ∙ ap {B = ℕ} (λ (c : Bool). if c then 9 else 0) (lt-ltb letterRoom (left₀ + count) d)
 
-        go : Dec (4096 < left₀ + count) → left₀ + count ≤ 4096
+        go : Dec (letterRoom < left₀ + count) → left₀ + count ≤ letterRoom
         go (yes d) = absurd (let n = nine d in omega (arith, n, q))
         go (no d) = omega arith
 
     -- ---- the stations
-    old-stations : s .stations ≡ roomed 32 blank (map (laid (s .net) blank) (w .holdings))
+    old-stations : s .stations ≡ roomed stationRoom blank (map (laid (s .net) blank) (w .holdings))
     unfolding stateOf
     old-stations = ap (λ (x : State). x .stations) (M.determined s (f .seen .sized) (f .seen .holds))
 
-    old-letters : s .letters ≡ roomed 4096 noLetter (w .letters)
+    old-letters : s .letters ≡ roomed letterRoom noLetter (w .letters)
     unfolding stateOf
     old-letters = ap (λ (x : State). x .letters) (M.determined s (f .seen .sized) (f .seen .holds))
 
@@ -267,13 +268,13 @@ module _ {s : State} {kind a b place me : ℕ} {named : Bool} {k about own : ℕ
         (M.station-spare s (f .seen .sized) (f .seen .holds) me (K.me-real (f .seen) named₀))
 
     pub stations-set : (kept : List ℕ) → kept ≡ keptBy (s .net) me (p .resets) (p .purges) told
-        → set (s .stations) me (stored kept) ≡ roomed 32 blank (map (laid (s .net) blank) (after w E .holdings))
+        → set (s .stations) me (stored kept) ≡ roomed stationRoom blank (map (laid (s .net) blank) (after w E .holdings))
     unfolding after
     stations-set kept e =
         ap₂ (λ (l : List Station) (x : Station). set l me x) old-stations (station-is kept e)
-        ∙ roomed-set 32 blank (map (laid (s .net) blank) (w .holdings)) me (laid (s .net) blank (done w E .holding)) there-laid
-        ∙ ap (roomed 32 blank) (map-set (laid (s .net) blank) (w .holdings) me (done w E .holding))
-        ∙ ap (λ (i : ℕ). roomed 32 blank (map (laid (s .net) blank) (set (w .holdings) i (done w E .holding))))
+        ∙ roomed-set stationRoom blank (map (laid (s .net) blank) (w .holdings)) me (laid (s .net) blank (done w E .holding)) there-laid
+        ∙ ap (roomed stationRoom blank) (map-set (laid (s .net) blank) (w .holdings) me (done w E .holding))
+        ∙ ap (λ (i : ℕ). roomed stationRoom blank (map (laid (s .net) blank) (set (w .holdings) i (done w E .holding))))
         (K.me-is (f .seen) named₀)
       where
         there-laid : me < length (map (laid (s .net) blank) (w .holdings))
@@ -290,7 +291,7 @@ module _ {s : State} {kind a b place me : ℕ} {named : Bool} {k about own : ℕ
     pub closed-up : (from last free : ℕ) (unused : Letter) → last ≡ left₀ → from ≡ (if leaves then place else last)
         → free ≡ (if leaves then last else place)
         → unused ≡ (if leaves then noLetter else letterIn s place)
-        → set (closing from (s .letters) last) free unused ≡ roomed 4096 noLetter leftLetters
+        → set (closing from (s .letters) last) free unused ≡ roomed letterRoom noLetter leftLetters
     unfolding left
     closed-up from last free unused l x y u =
         ap₂ (λ (i : ℕ) (v : Letter). set (closing i (s .letters) last) free v) x u
@@ -299,15 +300,15 @@ module _ {s : State} {kind a b place me : ℕ} {named : Bool} {k about own : ℕ
         ∙ closed-as (w .letters) (K.ok (f .seen) .room) leaves a place last
         (λ t. (K.place-is (f .seen) named₀, taken-there z₀ (sym (f .goes) ∙ t)))
         (l ∙ f .stays ∙ ap (fewerBy leaves) (sym flying-is))
-        ∙ ap (λ (c : Bool). roomed 4096 noLetter (if c then without a (w .letters) else w .letters)) (f .goes)
+        ∙ ap (λ (c : Bool). roomed letterRoom noLetter (if c then without a (w .letters) else w .letters)) (f .goes)
 
     -- a loop that closes up stays within the room
     pub closes-within : (from last : ℕ) → last ≡ left₀ → from ≡ (if leaves then place else last)
-        → (from ≤ last) × (from < last → last < 4096)
+        → (from ≤ last) × (from < last → last < letterRoom)
     closes-within from last l x = go leaves (f .goes) x (f .stays)
       where
         go : (c : Bool) → c ≡ takesLetter (kindOf kind) → from ≡ (if c then place else last) → left₀ ≡ fewerBy c (s .flying)
-            → (from ≤ last) × (from < last → last < 4096)
+            → (from ≤ last) × (from < last → last < letterRoom)
         go true g x y =
             let i = K.place-is (f .seen) named₀ in
             let j = taken-there z₀ (sym g) in
@@ -317,17 +318,17 @@ module _ {s : State} {kind a b place me : ℕ} {named : Bool} {k about own : ℕ
             never : from < last → ⊥
             never h = omega (arith, x, h)
 
-    pub free-within : (last free : ℕ) → last ≡ left₀ → free ≡ (if leaves then last else place) → free < 4096
+    pub free-within : (last free : ℕ) → last ≡ left₀ → free ≡ (if leaves then last else place) → free < letterRoom
     free-within last free l x = go leaves (f .goes) x (f .stays)
       where
-        go : (c : Bool) → c ≡ takesLetter (kindOf kind) → free ≡ (if c then last else place) → left₀ ≡ fewerBy c (s .flying) → free < 4096
+        go : (c : Bool) → c ≡ takesLetter (kindOf kind) → free ≡ (if c then last else place) → left₀ ≡ fewerBy c (s .flying) → free < letterRoom
         go true g x y = let j = taken-there z₀ (sym g) in omega (arith, x, y, l, j, K.ok (f .seen) .room, flying-is)
         go false g x y = omega (arith, x, K.place-is (f .seen) named₀, K.few-a (f .seen) named₀)
 
     -- ---- the state after the event
     pub made : (net : Net) (stations : List Station) (letters : List Letter) (flying : ℕ) (kept : List ℕ) → net ≡ s .net
         → kept ≡ keptBy (s .net) me (p .resets) (p .purges) told → stations ≡ set (s .stations) me (stored kept)
-        → letters ≡ roomed 4096 noLetter (leftLetters ++ newLetters) → flying ≡ left₀ + count
+        → letters ≡ roomed letterRoom noLetter (leftLetters ++ newLetters) → flying ≡ left₀ + count
         → _≡_ {A = Stepped} (record {
           answer = 0;
           counts = p .counts;

@@ -6,6 +6,7 @@ use native.Mathlib.Omega.{arith}
 use borrow.Author.Tests.{eq-eqb, ne-eqb, lt-ltb, le-ltb}
 use lib.Dec.{eqb, ltb}
 use lib.ListN.{length, List·getD-eq-default}
+use Rattle.net.specs.Sizes.{linkRoom}
 use Rattle.lists.specs.Lists.{if_then_else_}
 use Rattle.net.specs.declared.Letter.{Letter}
 use Rattle.net.specs.declared.Net.{Net}
@@ -62,11 +63,11 @@ module _ (N : Network) (kind : Kind) (a : ℕ) (x : Letter) (t : Bool) (e : t �
   concerned-act r y p = p ∙ ap inRoom (sym (ap (λ (b : Bool). if b then receiverIn N x else a) (sym e ∙ y)))
 
 module _ (kind : Kind) (b : ℕ) (x : Letter) (t : Bool) (e : t ≡ takesLetter kind) where
-  pub link-letter : t ≡ true → x .link % 64 ≡ linkOf kind b x % 64
-  link-letter y = sym (ap (λ (c : Bool). (if c then x .link else b) % 64) (sym e ∙ y))
+  pub link-letter : t ≡ true → x .link % linkRoom ≡ linkOf kind b x % linkRoom
+  link-letter y = sym (ap (λ (c : Bool). (if c then x .link else b) % linkRoom) (sym e ∙ y))
 
-  pub link-act : t ≡ false → b % 64 ≡ linkOf kind b x % 64
-  link-act y = sym (ap (λ (c : Bool). (if c then x .link else b) % 64) (sym e ∙ y))
+  pub link-act : t ≡ false → b % linkRoom ≡ linkOf kind b x % linkRoom
+  link-act y = sym (ap (λ (c : Bool). (if c then x .link else b) % linkRoom) (sym e ∙ y))
 
 -- ---- one test, then another
 module _ (a n : ℕ) (b : Bool) where

@@ -10,18 +10,30 @@ ghost use Rattle.world.specs.World.{noLetter, isLinkAt, receiverIn, concernedBy
 ghost use Rattle.step_rules.specs.Step.{steppedOf};
 ghost use Rattle.step.specs.Parts.{placeBy, fewerBy, numberBy};
 ghost use Rattle.net.specs.Network.{ends};
+ghost use Rattle.net.specs.Sizes.{stationRoom, linkRoom};
 ghost use Rattle.net.specs.Values.{networkOf};
 ghost use Rattle.station.specs.Acts.{subjectOf};
 ghost use Rattle.station.specs.Events.{takesLetter, linkOf};
 ghost use Rattle.sets.specs.Rooms.{inRoom};
 use net::Body;
+use net::LETTER_ROOM;
+use net::LINK_ROOM;
 use net::Letter;
+use net::MOST_LINKS;
+use net::MOST_STATIONS;
 use net::Net;
 use state::State;
 use station::Kind;
 use station::Station;
 use step_rules::Stepped;
 use tally::Tally;
+
+// The rooms, in the widths of an event's numbers and of a letter's link.
+const EVENT_LETTERS: u32 = LETTER_ROOM as u32;
+
+const EVENT_LINKS: u32 = LINK_ROOM as u32;
+
+const LETTER_LINKS: u16 = LINK_ROOM as u16;
 
 // ---- what the numbers of an event mean: which station it concerns, whether there is what it names, and which link and subject it is
 // about
@@ -33,9 +45,9 @@ struct Ends {
 }
 
 fn at_most_32(x: u8) -> u8
-    ensures { λ r. ⌜ r ≡ min x 32 ⌝ }
+    ensures { λ r. ⌜ r ≡ min x stationRoom ⌝ }
 {
-    if x < 32 { x } else { 32 }
+    if x < MOST_STATIONS { x } else { MOST_STATIONS }
 }
 
 // A link that is not there has the ends 0 and 0.
@@ -94,23 +106,23 @@ fn concerned(net: Net, kind: Kind, a: u32, letter: Letter) -> u8
 
 // The link that an event is about, for a room of 64: that of the letter, or b.
 fn link_of(kind: Kind, b: u32, letter: Letter) -> u8
-    ensures { λ r. ⌜ r ≡ linkOf kind b letter % 64 ⌝ }
+    ensures { λ r. ⌜ r ≡ linkOf kind b letter % linkRoom ⌝ }
 {
     if takes_letter(kind) {
-        return (letter.link % 64) as u8;
+        return (letter.link % LETTER_LINKS) as u8;
     }
-    (b % 64) as u8
+    (b % EVENT_LINKS) as u8
 }
 
 // The link that a letter tells of, for a room of 64.
 fn subject_of(letter: Letter) -> u8
-    ensures { λ r. ⌜ r ≡ subjectOf (letter .body) % 64 ⌝ }
+    ensures { λ r. ⌜ r ≡ subjectOf (letter .body) % linkRoom ⌝ }
 {
     let body = letter.body;
     match body {
         Body::Request => 0,
         Body::Reply(_) => 0,
-        Body::Notice(j, _) => j % 64,
+        Body::Notice(j, _) => j % MOST_LINKS,
     }
 }
 
@@ -118,7 +130,7 @@ fn subject_of(letter: Letter) -> u8
 
 // Whether a is a station, and b is not used.
 fn station_named(stations: u8, a: u32, b: u32) -> bool
-    ensures { λ r. ⌜ r ≡ (ltb a (min stations 32) && eqb b 0) ⌝ }
+    ensures { λ r. ⌜ r ≡ (ltb a (min stations stationRoom) && eqb b 0) ⌝ }
 {
     if at_most_32(stations) as u32 <= a {
         return false;
@@ -142,7 +154,7 @@ fn link_at(net: Net, a: u32, b: u32) -> bool
 
 // Whether a is a station, and b a link there.
 fn link_named(net: Net, a: u32, b: u32) -> bool
-    ensures { λ r. ⌜ r ≡ (ltb a (min (net .stations) 32) && isLinkAt (networkOf net) a b) ⌝ }
+    ensures { λ r. ⌜ r ≡ (ltb a (min (net .stations) stationRoom) && isLinkAt (networkOf net) a b) ⌝ }
 {
     if at_most_32(net.stations) as u32 <= a {
         return false;
@@ -184,7 +196,7 @@ fn there(net: Net, flying: u16, kind: Kind, a: u32, b: u32) -> bool
 fn place_of(a: u32) -> usize
     ensures { λ r. ⌜ r ≡ placeBy a ⌝ }
 {
-    if a < 4096 { a as usize } else { 0 }
+    if a < EVENT_LETTERS { a as usize } else { 0 }
 }
 
 // How many letters are left of those in flight.
@@ -204,7 +216,7 @@ fn number_of(planned: u8, left: u16, count: u16) -> u8
     if planned != 0 {
         return planned;
     }
-    if 4096 < left as u32 + count as u32 {
+    if EVENT_LETTERS < left as u32 + count as u32 {
         9
     } else {
         0

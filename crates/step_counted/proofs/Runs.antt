@@ -36,7 +36,8 @@ LentCalls = C.LentCalls worldOf Lent
 abbrev by-number : ℕ → Tally → Tally → Tally
 by-number n c x = if eqb n 0 then tallied x c else x
 
-step-tallies : (w : World) (e : Event) (x : Tally) → by-number (refusal w e) (countsOf w e) x ≡ tallyBy (accepted w e) x (acceptedCounts w e)
+step-tallies : (w : World) (e : Event) (x : Tally)
+    → by-number (refusal w e) (countsOf w e) x ≡ tallyBy (accepted w e) x (acceptedCounts w e)
 step-tallies w e x = go (accepted w e) (acceptedCounts w e)
   where
     go : (b : Bool) (n : Tally) → (if b then tallied x (if b then n else noCounts) else x) ≡ tallyBy b x n

@@ -6,7 +6,7 @@ use native.Mathlib.Omega.{arith}
 use lib.Dec.{eqb}
 use Rattle.lists.specs.Lists.{if_then_else_}
 use Rattle.tally.specs.declared.Tally.{Tally}
-use Rattle.tally.specs.Sums.{counted, tallied}
+use Rattle.tally.specs.Sums.{added, tallied}
 use Rattle.tally.proofs.Plain.{noCounts}
 use Rattle.state.specs.declared.State.{State}
 use Rattle.step_rules.specs.declared.Stepped.{Stepped}
@@ -28,7 +28,7 @@ nothing-more t f =
           (f .dropped) i;
     }
   where
-    same : (c : ℕ) → c < 2 ^ 64 → counted c 0 ≡ c
+    same : (c : ℕ) → c < 2 ^ 64 → added c 0 ≡ c
     same c h = omega arith
 
 -- adding the counts is what the tally is to be

@@ -7,14 +7,10 @@ abbrev pub largest : ℕ
 largest = 2 ^ 64 - 1
 
 -- a count with n more
-abbrev pub counted : ℕ → ℕ → ℕ
-counted count n = min (count + n) largest
+abbrev pub added : ℕ → ℕ → ℕ
+added count n = min (count + n) largest
 
 -- the tally after a step that settled, raised and dropped so many
 abbrev pub tallied : Tally → Tally → Tally
 tallied t n =
-    record {
-      settled = counted (t .settled) (n .settled);
-      raised = counted (t .raised) (n .raised);
-      dropped = counted (t .dropped) (n .dropped);
-    }
+    record { settled = added (t .settled) (n .settled); raised = added (t .raised) (n .raised); dropped = added (t .dropped) (n .dropped) }

@@ -6,7 +6,7 @@
 // once (proofs/Sums.antt: it comes to the same).
 // Inner doors: the calls are in docs/CALLS.md.
 ghost use mathlib.Core.Path.{_≡_};
-ghost use Rattle.tally.specs.Sums.{counted, tallied};
+ghost use Rattle.tally.specs.Sums.{added, tallied};
 
 pub struct Tally {
     pub settled: u64,
@@ -16,7 +16,7 @@ pub struct Tally {
 
 // One count with n more. The test comes first, so that no sum wraps.
 fn count_on(count: u64, n: u64) -> u64
-    ensures { λ r. ⌜ r ≡ counted count n ⌝ }
+    ensures { λ r. ⌜ r ≡ added count n ⌝ }
 {
     if 18446744073709551615 - count < n {
         18446744073709551615

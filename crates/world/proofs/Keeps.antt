@@ -7,6 +7,7 @@ use native.Mathlib.Decide.{ℕ-discrete}
 use lib.Dec.{T, eqb, leb, ltb, leb→le, le→leb, ltb→lt, eqb→eq}
 use lib.ListN.{length, getD, set, length-set}
 use lib.Seq.{getD-set-same, getD-set-other}
+use Rattle.net.specs.Sizes.{letterRoom}
 use Rattle.lists.specs.Lists.{if_then_else_, every, below}
 use Rattle.lists.proofs.Tests.{and-l, and-r, and-i, eq→eqb, every-at, if-elim}
 use Rattle.lists.proofs.Numbers.{below-at, at-below, getD-map-below, length-map-below}
@@ -37,7 +38,7 @@ pub record Formed (w : World) : Type 0 where
   pub sheet : T (sheetHolds (w .net))
   pub count : length (w .holdings) ≡ w .net .stations
   pub each : (s : ℕ) → s < w .net .stations → T (holdingHolds (w .net) s (holdingAt w s))
-  pub room : length (w .letters) ≤ 4096
+  pub room : length (w .letters) ≤ letterRoom
   pub posted : T (every (letterHolds (w .net)) (w .letters))
 
 module _ (w : World) where
@@ -54,7 +55,7 @@ module _ (w : World) where
   each = every good (below (w .net .stations))
 
   abbrev room : Bool
-  room = leb (length (w .letters)) 4096
+  room = leb (length (w .letters)) letterRoom
 
   pub formed : T (wellFormed w) → Formed w
   unfolding wellFormed

@@ -19,7 +19,8 @@ use Rattle.world.proofs.There.{left-one, left-notices}
 
 -- ---- one accepted event: what was in flight and what it sends is what it delivers or loses and what is in flight then
 pub one-conserved : (w : World) (e : Event) → refusal w e ≡ 0
-    → length (w .letters) + length (done w e .sent) ≡ bit (delivers (kindOf (e .kind))) + bit (loses (kindOf (e .kind))) + length (after w e .letters)
+    → length (w .letters) + length (done w e .sent)
+    ≡ bit (delivers (kindOf (e .kind))) + bit (loses (kindOf (e .kind))) + length (after w e .letters)
 unfolding after
 one-conserved w e q = omega (arith, left-one w e (taken w e q .exists), length-append (left w e) (done w e .sent))
 

@@ -7,6 +7,7 @@ use borrow.Author.Tests.{eq-eqb, ne-eqb}
 use mir.Facts.{T-not-not}
 use lib.Dec.{T, eqb, ltb, leb, leb→le, eqb→eq}
 use lib.ListN.{length, length-append}
+use Rattle.net.specs.Sizes.{letterRoom}
 use Rattle.lists.specs.Lists.{if_then_else_}
 use Rattle.lists.proofs.Tests.{T-is, T-not-is, if-elim}
 use Rattle.station.specs.declared.Condition.{Condition}
@@ -70,9 +71,9 @@ module _ (w : World) (e : Event) where
   passes-there z = ap (λ (b : Bool). if b then (if fits w e then 0 else 9) else comes w e .number) (eq-eqb (comes w e .number) 0 z)
 
   -- the room: the letters that stay and those that are sent
-  pub fits-is : fits w e ≡ leb (length (left w e) + length (done w e .sent)) 4096
+  pub fits-is : fits w e ≡ leb (length (left w e) + length (done w e .sent)) letterRoom
   unfolding fits after
-  fits-is = ap (λ (n : ℕ). leb n 4096) (length-append (left w e) (done w e .sent))
+  fits-is = ap (λ (n : ℕ). leb n letterRoom) (length-append (left w e) (done w e .sent))
 
   -- ---- an event that its station does not refuse: there is what it names, it is allowed, no counter would be 65,536, and it comes to
   -- what the rule of its kind does and counts
@@ -142,7 +143,7 @@ module _ (w : World) (e : Event) where
     pub holds : T (not (rule w e .over))
     pub done : done w e ≡ doneBy (w .net) (concerned w e) (holdingAt w (concerned w e)) (rule w e .act)
     pub counts : comes w e .counts ≡ rule w e .counts
-    pub room : length (after w e .letters) ≤ 4096
+    pub room : length (after w e .letters) ≤ letterRoom
 
   why-fits : {n : ℕ} → Why n → n ≡ 0 → T (fits w e)
   why-fits (none p q r t) z = t
@@ -161,7 +162,7 @@ module _ (w : World) (e : Event) where
         holds = p .holds;
         done = p .done;
         counts = p .counts;
-        room = leb→le (length (after w e .letters)) 4096 (why-fits refusal-why z);
+        room = leb→le (length (after w e .letters)) letterRoom (why-fits refusal-why z);
       }
 
   -- the network stays

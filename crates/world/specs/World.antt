@@ -6,6 +6,7 @@ use mathlib.Core.Bool.{Bool, not, _&&_}
 use mathlib.Core.List.{List, [], _++_, map}
 use lib.Dec.{eqb, ltb, leb}
 use lib.ListN.{length, getD, set}
+use Rattle.net.specs.Sizes.{letterRoom}
 use Rattle.lists.specs.Lists.{if_then_else_, every, below, sumOf}
 use Rattle.lists.specs.Words.{bit, wordOf}
 use Rattle.lists.specs.Places.{without}
@@ -87,7 +88,7 @@ after w e = record { net = w .net; holdings = set (w .holdings) (concerned w e) 
 
 -- ---- 9: more than 4,096 letters would be in flight after the event
 unfoldable pub fits : World → Event → Bool
-fits w e = leb (length (after w e .letters)) 4096
+fits w e = leb (length (after w e .letters)) letterRoom
 
 -- ---- the step. It answers the number that refuses the event, the first in their order, or 0 for one that is accepted
 unfoldable pub refusal : World → Event → ℕ
@@ -105,7 +106,7 @@ unfoldable pub wellFormed : World → Bool
 wellFormed w =
     sheetHolds (w .net) && eqb (length (w .holdings)) (w .net .stations)
     && every (λ s. holdingHolds (w .net) s (holdingAt w s)) (below (w .net .stations))
-    && leb (length (w .letters)) 4096 && every (letterHolds (w .net)) (w .letters)
+    && leb (length (w .letters)) letterRoom && every (letterHolds (w .net)) (w .letters)
 
 -- every station is down and no letter is in flight
 unfoldable pub fresh : Network → World

@@ -4,6 +4,7 @@ use mathlib.Core.List.{List}
 use mathlib.Core.Path.{_≡_, refl, ap, ap₂, _∙_}
 use native.Mathlib.Omega.{arith}
 use borrow.Author.Needs.{needs}
+use Rattle.net.specs.Sizes.{linkRoom}
 use Rattle.lists.specs.Lists.{filled}
 use Rattle.lists.proofs.Fill.{filled-more}
 use Rattle.station.specs.Values.{freshTable}
@@ -49,14 +50,14 @@ loop-again c =
       omega arith,
     )
 
-fresh-is : (xs : List ℕ) (n m : ℕ) → xs ≡ replicate 64 0 → n ≡ m → filled (λ j. 1) xs n ≡ freshTable m
+fresh-is : (xs : List ℕ) (n m : ℕ) → xs ≡ replicate linkRoom 0 → n ≡ m → filled (λ j. 1) xs n ≡ freshTable m
 unfolding freshTable
 fresh-is xs n m e p = ap₂ (λ (l : List ℕ) (k : ℕ). filled (λ j. 1) l k) e p
 
 returns : tie.Need-returns Inv-loop μ-loop
 returns c =
     let links = c .before .before .before .before .args .links in
-    let e : c .before .loop .k ≡ min links 64 = omega (arith, c .before .before .before .at-most-64 .ensures) in
+    let e : c .before .loop .k ≡ min links linkRoom = omega (arith, c .before .before .before .at-most-64 .ensures) in
     c .before .loop .inv .0 ∙ fresh-is _ _ _ (c .before .before .no-counters .ensures) e
 
 pub fresh-counters-spec : {M : Type 1} → statement M

@@ -4,6 +4,7 @@ use native.Mathlib.Omega.{arith}
 use borrow.Author.Needs.{needs}
 use lib.Dec.{ltb}
 use lib.ListN.{getD}
+use Rattle.net.specs.Sizes.{linkRoom}
 use Rattle.sets.specs.Sets.{wordBy, upTo}
 use Rattle.sets.proofs.WordLaws.{upto-none, upto-more}
 use Rattle.station_table.proofs.known_links.Statement.{statement}
@@ -48,7 +49,7 @@ loop-again c =
 returns : tie.Need-returns Inv-loop μ-loop
 returns c =
     let a = c .before .before .before .args in
-    let e : c .before .loop .k ≡ min (a .links) 64 = omega (arith, c .before .before .at-most-64 .ensures) in
+    let e : c .before .loop .k ≡ min (a .links) linkRoom = omega (arith, c .before .before .at-most-64 .ensures) in
     c .before .loop .inv .1 ∙ ap (λ (k : ℕ). wordBy (upTo (λ j. ltb 1 (getD (a .t2) j 0)) k)) e
 
 pub known-links-spec : {M : Type 1} → statement M

@@ -2,12 +2,13 @@ use mathlib.Core.Path.{_≡_}
 use native.Mathlib.Omega.{arith}
 use lib.ListN.{length}
 use borrow.Author.Tests.{not-true, not-false}
+use Rattle.net.specs.Sizes.{linkRoom}
 use Rattle.station_table.proofs.Carried.{told-same, told-past, told-set}
 use borrow.Author.Needs.{needs}
 use Rattle.station_table.proofs.told_table.Statement.{statement}
 use Rattle.station_table.proofs.told_table.Tie as tie
 
-size : (c : tie.Start) → length (c .args .table) ≡ 64
+size : (c : tie.Start) → length (c .args .table) ≡ linkRoom
 size c = search needs
 
 returns : tie.Need-returns

@@ -1,5 +1,6 @@
 use Prim.Native.Nat.{_%_}
 use mathlib.Core.Path.{sym, ap}
+use Rattle.net.specs.Sizes.{linkRoom}
 use Rattle.net.specs.declared.Body.{Body}
 use Rattle.station.specs.Acts.{subjectOf}
 use borrow.Author.Needs.{needs}
@@ -17,15 +18,15 @@ enum-known-body c = search needs
 
 returns : tie.Need-returns
 returns c =
-    sym (ap (λ (y : Body). subjectOf y % 64) (c .enum-told .given .1))
+    sym (ap (λ (y : Body). subjectOf y % linkRoom) (c .enum-told .given .1))
 
 returns-2 : tie.Need-returns-2
 returns-2 c =
-    sym (ap (λ (y : Body). subjectOf y % 64) (c .enum-told2 .given .1))
+    sym (ap (λ (y : Body). subjectOf y % linkRoom) (c .enum-told2 .given .1))
 
 returns-3 : tie.Need-returns-3
 returns-3 c =
-    sym (ap (λ (y : Body). subjectOf y % 64) (c .before .body .given .1))
+    sym (ap (λ (y : Body). subjectOf y % linkRoom) (c .before .body .given .1))
 
 pub subject-of-spec : {M : Type 1} → statement M
 subject-of-spec =

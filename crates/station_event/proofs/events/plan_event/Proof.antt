@@ -1,6 +1,7 @@
 use borrow.Author.Tests.{not-true, not-false}
 use Rattle.station.specs.declared.Kind.the-variants.{NoSuch, Start, Stop, Recovery, IntervalEnd, TimeoutEnd, QuietEnd, Delivery, Loss}
-use Rattle.station_event.proofs.ByKind.{none-there, by-kind, no-such, lost, is-start, is-stop, is-recovery, is-interval, is-timeout, is-quiet-end}
+use Rattle.station_event.proofs.ByKind.{none-there, by-kind, no-such, lost, is-start, is-stop, is-recovery, is-interval}
+use Rattle.station_event.proofs.ByKind.{is-timeout, is-quiet-end}
 use Rattle.station.proofs.Laid.{Fit}
 use borrow.Author.Needs.{needs}
 use Rattle.station_event.proofs.events.plan_event.Statement.{statement}
