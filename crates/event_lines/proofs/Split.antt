@@ -80,8 +80,8 @@ event-lines = each-line start readOn lineEnd eventLine read-line
 
 -- ---- the loop that reads bytes on: what holds between two of them, for any reader
 module _ {R : Type 0} (on : R → ℕ → R) (r : R) (bytes : List ℕ) (i : ℕ) where
-  pub fed-more : i < length bytes → fedBy on r (drop i bytes) ≡ fedBy on (on r (getD bytes i 0)) (drop (i + 1) bytes)
-  fed-more h = rw (add-one, drop-cons bytes i 0 h)
+  pub fed-more : (n : R) → i < length bytes → n ≡ on r (getD bytes i 0) → fedBy on r (drop i bytes) ≡ fedBy on n (drop (i + 1) bytes)
+  fed-more n h e = rw (add-one, drop-cons bytes i 0 h, e)
 
   pub fed-all : i ≡ length bytes → r ≡ fedBy on r (drop i bytes)
   fed-all e = rw (e, drop-length bytes)

@@ -16,7 +16,7 @@ use Rattle.text.proofs.Chains.{Chain, chain-fits}
 use Rattle.state.specs.declared.State.{State}
 use Rattle.state.specs.State.{stationIn}
 use Rattle.console.proofs.Puts.{byte-digits, counter-digits, texts-more}
-use Rattle.event_program.specs.Stations.{stationText, stationLine, stationsText}
+use Rattle.event_program.specs.Stations.{stationText, stationLine, stationsText, stationMost}
 
 -- a counter, with the space before it
 abbrev pub counterText : ℕ → List ℕ
@@ -53,7 +53,7 @@ taken-small (c ∷ cs) (suc n) f zero = f 0
 taken-small (c ∷ cs) (suc n) f (suc k) = taken-small cs n (λ j. f (suc j)) k
 
 pub station-few : (s n : ℕ) (cs : List ℕ) → s < 256 → n ≤ 64 → length cs ≡ 64 → ((k : ℕ) → getD cs k 0 < 65536)
-    → length (stationText s (take n cs)) ≤ 400
+    → length (stationText s (take n cs)) ≤ stationMost
 unfolding stationText
 station-few s n cs h l e f =
     let size : length (take n cs) ≡ n = length-take-le n cs (omega arith) in

@@ -10,7 +10,7 @@ ghost use Rattle.event_program.specs.Events.{answerText};
 ghost use Rattle.event_program.specs.Runs.{deskOf, texts, enough, ranBy, firstRan};
 ghost use Rattle.event_program.specs.Steps.{askedBy};
 ghost use lib.Dec.{leb};
-ghost use Rattle.event_program.specs.Stations.{stationText, stationsText};
+ghost use Rattle.event_program.specs.Stations.{stationText, stationMost, stationsText, stationsMost};
 use console::Wrote;
 use event_lines::Line;
 use event_lines::Reading;
@@ -106,9 +106,9 @@ pub fn run_events(given: State, t: Tally, r: Reading, bytes: &[u8], out: &mut [u
             state: given,
         };
     }
-    let mut state = given;
-    let mut tally = t;
     let mut reading = r;
+    let mut tally = t;
+    let mut state = given;
     let mut at: usize = 0;
     let mut from: usize = 0;
     loop {
@@ -140,8 +140,8 @@ pub fn run_events(given: State, t: Tally, r: Reading, bytes: &[u8], out: &mut [u
 
 // A station's number and its counters by link.
 fn put_station(out: &mut [u8], at: usize, i: u8, links: u8, counters: [u16; 64]) -> usize
-    requires { ⌜ (at + 400 ≤ length (now out)) × (links ≤ 64) ⌝ }
-    ensures { λ r. ⌜ Put (stationText i (take links counters)) 400 at (now (out .entry)) r (now (out .exit)) ⌝ }
+    requires { ⌜ (at + stationMost ≤ length (now out)) × (links ≤ 64) ⌝ }
+    ensures { λ r. ⌜ Put (stationText i (take links counters)) stationMost at (now (out .entry)) r (now (out .exit)) ⌝ }
 {
     let mut to = text::put_number(out, at, i as u64);
     for k in 0..links {
@@ -155,8 +155,9 @@ fn put_station(out: &mut [u8], at: usize, i: u8, links: u8, counters: [u16; 64])
 // One line per station.
 // Promise: one line per station, its number and its counters by link.
 pub fn put_stations(s: State, out: &mut [u8]) -> Wrote
-    ensures answer { λ r. ⌜ r ≡ wroteBy (leb 12800 (length (now (out .entry)))) (stationsText s) ⌝ }
-    ensures output { λ r. ⌜ now (out .exit) ≡ outputBy (leb 12800 (length (now (out .entry)))) (stationsText s) (now (out .entry)) ⌝ }
+    ensures answer { λ r. ⌜ r ≡ wroteBy (leb stationsMost (length (now (out .entry)))) (stationsText s) ⌝ }
+    ensures output { λ r. ⌜ now (out .exit) ≡ outputBy (leb stationsMost (length (now (out .entry)))) (stationsText s)
+        (now (out .entry)) ⌝ }
     ensures room { λ r. ⌜ Counts (r .written) (now (out .exit)) ⌝ }
 {
     // 32 lines, each of at most 400 bytes

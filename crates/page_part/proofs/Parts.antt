@@ -17,7 +17,7 @@ use Rattle.net.proofs.ValueLaws.{stations-of, links-of, ends-of}
 use Rattle.console.specs.Outputs.{Counts, Put}
 use Rattle.console.proofs.Puts.{put-next, chain-same, wrote-short, wrote-all}
 use Rattle.page_part.specs.Texts.{stillText, reachText, lowestText, seenText, linkText, stationsSeen, linksSeen, liveText}
-use Rattle.page_part.specs.Parts.{isThere, partText, partWrote, partOutput}
+use Rattle.page_part.specs.Parts.{isThere, partText, partMost, partWrote, partOutput}
 use Rattle.page_part.proofs.Texts.{put-lines}
 
 -- ---- which numbers say that a station is there
@@ -34,15 +34,15 @@ module _ (number : ℕ) (text old : List ℕ) (b : Bool) (p : b ≡ isThere numb
   part-refused q = let e : isThere number ≡ false = sym p ∙ q in simp e (refl, (refl, (omega arith, refl)))
 
   module _ (q : b ≡ true) where
-    pub part-short : length old < 4096 → (record { answer = 10; written = 0 } ≡ partWrote number text
+    pub part-short : length old < partMost → (record { answer = 10; written = 0 } ≡ partWrote number text
         old) × ((old ≡ partOutput number text old) × Counts 0 old)
-    part-short h = let e : isThere number ≡ true = sym p ∙ q in simp e (wrote-short 4096 text old h)
+    part-short h = let e : isThere number ≡ true = sym p ∙ q in simp e (wrote-short partMost text old h)
 
-    pub part-put : (other : List ℕ) (r : ℕ) (new : List ℕ) → 4096 ≤ length old → other ≡ text → Put other 4096 0 old r new
+    pub part-put : (other : List ℕ) (r : ℕ) (new : List ℕ) → partMost ≤ length old → other ≡ text → Put other partMost 0 old r new
         → (record { answer = 0; written = r } ≡ partWrote number text old) × ((new ≡ partOutput number text old) × Counts r new)
     part-put other r new h same k =
         let e : isThere number ≡ true = sym p ∙ q in
-        simp e (wrote-all 4096 text old r new h (subst (λ (x : List ℕ). Put x 4096 0 old r new) same k))
+        simp e (wrote-all partMost text old r new h (subst (λ (x : List ℕ). Put x partMost 0 old r new) same k))
 
 -- ---- the text
 module _ (number : ℕ) (net : Net) (s ones lowest : ℕ) (waiting : Bool) (report : List ℕ) where
@@ -97,10 +97,10 @@ module _ (net : Net) (report : List ℕ) (n m : ℕ) (en : n ≡ min (net .stati
       (networkOf net) report) is-stations
       ∙ simp append-assoc
 
-  pub live-put : (s ones lowest : ℕ) (old : List ℕ) (a b c r : ℕ) (o1 o2 o3 o4 : List ℕ) → 4096 ≤ length old
+  pub live-put : (s ones lowest : ℕ) (old : List ℕ) (a b c r : ℕ) (o1 o2 o3 o4 : List ℕ) → partMost ≤ length old
       → Put (reachText s ones n) 40 0 old a o1 → Put (lowestText lowest) 25 a o1 b o2
       → Put (collect stationLine (below n)) (26 * n) b o2 c o3
-      → Put (collect linkLine (below m)) (44 * m) c o3 r o4 → Put (liveText (networkOf net) s ones lowest report) 4096 0 old r o4
+      → Put (collect linkLine (below m)) (44 * m) c o3 r o4 → Put (liveText (networkOf net) s ones lowest report) partMost 0 old r o4
   live-put s ones lowest old a b c r o1 o2 o3 o4 h p1 p2 p3 p4 =
       let few-n : n ≤ 32 = omega arith in
       let few-m : m ≤ 64 = omega arith in
@@ -112,5 +112,5 @@ module _ (net : Net) (report : List ℕ) (n m : ℕ) (en : n ≡ min (net .stati
       let l3 : c ≤ 897 = omega (arith, p3 .place, p3 .few) in
       let c4 = chain-next (collect linkLine (below m)) c3 (put-next (omega (arith, c3 .size)) p4) in
       let l4 : r ≤ 3713 = omega (arith, p4 .place, p4 .few) in
-      put-lines (liveText (networkOf net) s ones lowest report) 4096 0 old r o4 (chain-same (live-whole s ones lowest) c4) (omega arith)
+      put-lines (liveText (networkOf net) s ones lowest report) partMost 0 old r o4 (chain-same (live-whole s ones lowest) c4) (omega arith)
       (omega arith)

@@ -19,10 +19,14 @@ abbrev pub partText : ℕ → Net → ℕ → ℕ → ℕ → Bool → List ℕ 
 partText number net s ones lowest waiting report =
     if eqb number 0 then liveText (networkOf net) s ones lowest report else stillText s waiting
 
+-- no part is longer
+abbrev pub partMost : ℕ
+partMost = 4096
+
 -- refusals in their order: 11, 6, 10
 abbrev pub partWrote : ℕ → List ℕ → List ℕ → Wrote
 partWrote number text old =
-    if isThere number then wroteBy (leb 4096 (length old)) text else (record { answer = number; written = 0 })
+    if isThere number then wroteBy (leb partMost (length old)) text else (record { answer = number; written = 0 })
 
 abbrev pub partOutput : ℕ → List ℕ → List ℕ → List ℕ
-partOutput number text old = if isThere number then outputBy (leb 4096 (length old)) text old else old
+partOutput number text old = if isThere number then outputBy (leb partMost (length old)) text old else old

@@ -130,7 +130,8 @@ fn put_links_seen(
     seen: [u8; 96],
 ) -> usize
     requires { ⌜ (n ≤ 32) × ((m ≤ 64) × (at + 44 * m ≤ length (now out))) ⌝ }
-    ensures { λ r. ⌜ Put (collect (λ k. linkText k (getD low k 0) (getD high k 0) (getD seen (n + k) 0)) (below m)) (44 * m) at (now (out .entry)) r (now (out .exit)) ⌝ }
+    ensures { λ r. ⌜ Put (collect (λ k. linkText k (getD low k 0) (getD high k 0) (getD seen (n + k) 0)) (below m)) (44 * m) at
+        (now (out .entry)) r (now (out .exit)) ⌝ }
 {
     let from = n as usize;
     let mut to = at;

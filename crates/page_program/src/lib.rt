@@ -104,7 +104,8 @@ pub fn count_answers(bytes: &[u8], before: Answers) -> Answers
 // Promise: `T events taken, R refused`.
 pub fn put_counts(a: Answers, out: &mut [u8]) -> Wrote
     ensures answer { λ r. ⌜ r ≡ wroteBy (leb 64 (length (now (out .entry)))) (countsText (a .taken) (a .refused)) ⌝ }
-    ensures output { λ r. ⌜ now (out .exit) ≡ outputBy (leb 64 (length (now (out .entry)))) (countsText (a .taken) (a .refused)) (now (out .entry)) ⌝ }
+    ensures output { λ r. ⌜ now (out .exit) ≡ outputBy (leb 64 (length (now (out .entry)))) (countsText (a .taken) (a .refused))
+        (now (out .entry)) ⌝ }
     ensures room { λ r. ⌜ Counts (r .written) (now (out .exit)) ⌝ }
 {
     // two numbers of at most 20 digits, and 24 bytes of words

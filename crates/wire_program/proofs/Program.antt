@@ -1,5 +1,5 @@
--- THE WIRE PROGRAM: whatever the pieces that standard input comes in, its calls print, in all, exactly what specs/Wire.antt says of the file and
--- of the whole input.
+-- THE WIRE PROGRAM: whatever the pieces that standard input comes in, its calls print, in all, exactly what specs/Wire.antt says of the
+-- file and of the whole input.
 use Prim.Native.Nat.{ℕ, _+_}
 use mathlib.Core.Bool.{Bool}
 use mathlib.Core.Path.{_≡_, refl, sym, ap, ap₂, _∙_}

@@ -1,6 +1,6 @@
--- What the wire program's calls print, one after the other: `put_sheet`; `open_sheet`, and for a good sheet `run_letters` for each piece of the
--- input, with one newline more where the last line has none. proofs/Program.antt: it is exactly what specs/Wire.antt says of the file and
--- the whole input.
+-- What the wire program's calls print, one after the other: `put_sheet`; `open_sheet`, and for a good sheet `run_letters` for each piece of
+-- the input, with one newline more where the last line has none. proofs/Program.antt: it is exactly what specs/Wire.antt says of the file
+-- and the whole input.
 use Prim.Native.Nat.{ℕ}
 use mathlib.Core.List.{List, [], _++_}
 use lib.Dec.{eqb}

@@ -13,6 +13,10 @@ sheetWord = 115 ∷ 104 ∷ 101 ∷ 101 ∷ 116 ∷ 32 ∷ []
 abbrev pub goodWord : List ℕ
 goodWord = 115 ∷ 104 ∷ 101 ∷ 101 ∷ 116 ∷ 32 ∷ 48 ∷ 32 ∷ []
 
+-- no such line is longer
+abbrev pub sheetMost : ℕ
+sheetMost = 700
+
 -- `sheet 0 STATIONS LINKS HEX`, or `sheet N` alone for a refused one
 unfoldable pub sheetText : Sheets.Sheet → List ℕ
 sheetText (Sheets.refused n) = sheetWord ++ digits n ++ newline

@@ -13,7 +13,7 @@ ghost use Rattle.sheet_rules.specs.Values.{netHolds};
 ghost use Rattle.sheet.specs.Sheet.{sheet};
 ghost use Rattle.sheet.specs.Values as Sheet;
 ghost use Rattle.console.specs.Sheets.{fileSheet, refusalText};
-ghost use Rattle.wire_program.specs.Line.{sheetText};
+ghost use Rattle.wire_program.specs.Line.{sheetText, sheetMost};
 ghost use Rattle.net.specs.Letters.{letterHolds};
 ghost use Rattle.letters.specs.Values as Letters;
 ghost use Rattle.wire_program.specs.LetterLineLine.{kindWord, bodyText, letterText, readLine, lineAt, placeBehind, Few};
@@ -47,7 +47,8 @@ pub struct Passed {
 // Promise: that line for each letter whose line ends in these bytes.
 pub fn run_letters(net: Net, r: HexReading, bytes: &[u8], out: &mut [u8]) -> Passed
     ensures answer { λ n. ⌜ n ≡ passedBy (enough (now (bytes .entry)) (now (out .entry))) net r (now (bytes .entry)) ⌝ }
-    ensures output { λ n. ⌜ now (out .exit) ≡ outputBy (enough (now (bytes .entry)) (now (out .entry))) (texts net r (now (bytes .entry))) (now (out .entry)) ⌝ }
+    ensures output { λ n. ⌜ now (out .exit) ≡ outputBy (enough (now (bytes .entry)) (now (out .entry)))
+        (texts net r (now (bytes .entry))) (now (out .entry)) ⌝ }
     ensures room { λ n. ⌜ Counts (n .written) (now (out .exit)) ⌝ }
 {
     // no line is longer than 64 bytes, and none is without a byte of input
@@ -78,8 +79,8 @@ pub fn run_letters(net: Net, r: HexReading, bytes: &[u8], out: &mut [u8]) -> Pas
     }
 }
 
-// ---- The parts of the wire program's lines, put like crate `text`'s words: where a part does not fit whole, nothing is touched and the answer is
-// one beyond the output's end.
+// ---- The parts of the wire program's lines, put like crate `text`'s words: where a part does not fit whole, nothing is touched and the
+// answer is one beyond the output's end.
 
 // A byte is two digits, upper case.
 // Promise: bytes in hexadecimal, put as crate `text` puts a word.
@@ -134,8 +135,8 @@ fn sheet_size(wrote: sheet::Wrote) -> usize
 }
 
 fn put_network(out: &mut [u8], net: Net) -> usize
-    requires { ⌜ (700 ≤ length (now out)) × T (netHolds net) ⌝ }
-    ensures { λ r. ⌜ Put (sheetText (sheet (networkOf net))) 700 0 (now (out .entry)) r (now (out .exit)) ⌝ }
+    requires { ⌜ (sheetMost ≤ length (now out)) × T (netHolds net) ⌝ }
+    ensures { λ r. ⌜ Put (sheetText (sheet (networkOf net))) sheetMost 0 (now (out .entry)) r (now (out .exit)) ⌝ }
 {
     let mut room = sheet_room();
     let n = sheet_size(sheet::write(net, &mut room));
@@ -149,8 +150,9 @@ fn put_network(out: &mut [u8], net: Net) -> usize
 // `sheet 0 STATIONS LINKS HEX`, or `sheet N` for a refused one.
 // Promise: the wire program's first line.
 pub fn put_sheet(file: &[u8], out: &mut [u8]) -> Wrote
-    ensures answer { λ r. ⌜ r ≡ wroteBy (leb 700 (length (now (out .entry)))) (sheetText (fileSheet (now (file .entry)))) ⌝ }
-    ensures output { λ r. ⌜ now (out .exit) ≡ outputBy (leb 700 (length (now (out .entry)))) (sheetText (fileSheet (now (file .entry)))) (now (out .entry)) ⌝ }
+    ensures answer { λ r. ⌜ r ≡ wroteBy (leb sheetMost (length (now (out .entry)))) (sheetText (fileSheet (now (file .entry)))) ⌝ }
+    ensures output { λ r. ⌜ now (out .exit) ≡ outputBy (leb sheetMost (length (now (out .entry))))
+        (sheetText (fileSheet (now (file .entry)))) (now (out .entry)) ⌝ }
     ensures room { λ r. ⌜ Counts (r .written) (now (out .exit)) ⌝ }
 {
     if out.len() < 700 {
@@ -246,8 +248,8 @@ fn put_number_line(out: &mut [u8], at: usize, n: u8) -> usize
     text::put_word(out, to, b"\n")
 }
 
-// A line's bytes taken as a letter. No line is longer than 64 bytes: where the output has no room for 64, nothing is touched and the answer is
-// one beyond the output's end.
+// A line's bytes taken as a letter. No line is longer than 64 bytes: where the output has no room for 64, nothing is touched and the answer
+// is one beyond the output's end.
 // Promise: its line for these bytes as a letter, at that place, where there is room for 64 bytes, the longest line; else nothing is
 // touched, and the answer is a place past the end.
 fn put_read(out: &mut [u8], at: usize, net: Net, bytes: &[u8]) -> usize

@@ -30,14 +30,14 @@ same-length c = search needs
 
 returns-2 : tie.Need-returns-2
 returns-2 c =
-    let a = c .before .before .before .before .before .before .before .before .before .before .before .args in
-    let n1 = chain-next (digits (a .n)) (chain-none 0 (now (a .out)) (omega arith))
-    (c .before .before .before .before .before .before .before .put-number .ensures) in
-    let n2 = chain-next (10 ∷ []) n1 (c .before .before .put-word .ensures) in
-    wrote-all 4 (refusalText (a .n)) (now (a .out)) _ _ (omega arith)
-    (put-same _ _ 4 0 (now (a .out)) _ _ (refusal-whole (a .n))
-    (put-done _ 4 0 (now (a .out)) _ _ n2 (refusal-few (a .n)
-    (few (c .before .before .before .before .before .before .before .before .before .before .before))) (omega arith)))
+    let at-word = c .before .before in
+    let at-number = at-word .before .before .before .before .before in
+    let start = at-number .before .before .before .before in
+    let a = start .args in
+    let n1 = chain-next (digits (a .n)) (chain-none 0 (now (a .out)) (omega arith)) (at-number .put-number .ensures) in
+    let n2 = chain-next (10 ∷ []) n1 (at-word .put-word .ensures) in
+    wrote-all 4 (refusalText (a .n)) (now (a .out)) _ _ (omega arith) (put-same _ _ 4 0 (now (a .out)) _ _ (refusal-whole (a .n))
+    (put-done _ 4 0 (now (a .out)) _ _ n2 (refusal-few (a .n) (few start)) (omega arith)))
 
 pub put-refusal-spec : {M : Type 1} → statement M
 put-refusal-spec =

@@ -45,15 +45,21 @@ few c = search needs
 
 returns : tie.Need-returns
 returns c =
-    let a = c .before .before .before .before .before .before .before .before .before .before .before .before .before .before .before .before .before .before .before .before .before .before .before .before .before .before .before .before .args in
-    let f = few (c .before .before .before .before .before .before .before .before .before .before .before .before .before .before .before .before .before .before .before .before .before .before .before .before .before .before .before .before) in
-    let n1 = chain-next (digits (a .answer)) (chain-none (a .at) (now (a .out)) (omega arith)) (c .before .before .before .before .before .before .before .before .before .before .before .before .before .before .before .before .before .before .before .before .before .before .before .before .before .put-number .ensures) in
-    let n2 = chain-next (32 ∷ []) n1 (c .before .before .before .before .before .before .before .before .before .before .before .before .before .before .before .before .before .before .before .before .put-word .ensures) in
-    let n3 = chain-next (digits (a .flying)) n2 (c .before .before .before .before .before .before .before .before .before .before .before .before .before .before .before .before .put-number2 .ensures) in
-    let n4 = chain-next (32 ∷ []) n3
-    (c .before .before .before .before .before .before .before .before .before .before .before .put-word2 .ensures) in
-    let n5 = chain-next (digits (a .settled)) n4 (c .before .before .before .before .before .before .before .put-number3 .ensures) in
-    let n6 = chain-next (10 ∷ []) n5 (c .before .before .put-word3 .ensures) in
+    let at-word3 = c .before .before in
+    let at-number3 = at-word3 .before .before .before .before .before in
+    let at-word2 = at-number3 .before .before .before .before in
+    let at-number2 = at-word2 .before .before .before .before .before in
+    let at-word = at-number2 .before .before .before .before in
+    let at-number = at-word .before .before .before .before .before in
+    let start = at-number .before .before .before in
+    let a = start .args in
+    let f = few start in
+    let n1 = chain-next (digits (a .answer)) (chain-none (a .at) (now (a .out)) (omega arith)) (at-number .put-number .ensures) in
+    let n2 = chain-next (32 ∷ []) n1 (at-word .put-word .ensures) in
+    let n3 = chain-next (digits (a .flying)) n2 (at-number2 .put-number2 .ensures) in
+    let n4 = chain-next (32 ∷ []) n3 (at-word2 .put-word2 .ensures) in
+    let n5 = chain-next (digits (a .settled)) n4 (at-number3 .put-number3 .ensures) in
+    let n6 = chain-next (10 ∷ []) n5 (at-word3 .put-word3 .ensures) in
     put-same _ _ 32 (a .at) (now (a .out)) _ _ (answer-whole (a .answer) (a .flying) (a .settled))
     (put-done _ 32 (a .at) (now (a .out)) _ _ n6 (answer-few (a .answer) (a .flying) (a .settled) (f .0) (f .1) (f .2)) (omega arith))
 

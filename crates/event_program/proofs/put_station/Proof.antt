@@ -2,7 +2,7 @@ use mir.Syntax.{w16}
 use mir.Val.{Fits}
 use Rattle.event_program.proofs.Stations.{counterText, counters-more, station-done, station-few}
 use Rattle.console.proofs.Puts.{put-done, chain-same}
-use Rattle.event_program.specs.Stations.{stationText}
+use Rattle.event_program.specs.Stations.{stationText, stationMost}
 use Rattle.text.proofs.Chains.{Chain, chain-none, chain-next}
 use Rattle.text.specs.Text.{digits}
 use Rattle.lists.specs.Places.{collect}
@@ -67,9 +67,17 @@ loop-less c = omega arith
 
 loop-again : tie.Need-loop-again Inv-loop μ-loop
 loop-again c =
-    let l = c .before .before .before .before .before .before .before .before .before .before .loop in
-    let a = c .before .before .before .before .before .before .before .before .before .before .before .before .before .before .before .before .args in
-    (omega arith, λ xs old h. chain-same (counters-more xs (a .t5) (l .k) (omega (arith, size (c .before .before .before .before .before .before .before .before .before .before .before .before .before .before .before .before)))) (chain-next (digits (getD (a .t5) (l .k) 0)) (chain-next (32 ∷ []) (l .inv .1 xs old h) (c .before .before .before .before .before .before .put-word .ensures)) (c .before .before .put-number2 .ensures)))
+    let at-number2 = c .before .before in
+    let at-word = at-number2 .before .before .before .before in
+    let at-loop = at-word .before .before .before .before in
+    let start = at-loop .before .before .before .before .before .before in
+    let l = at-loop .loop in
+    let a = start .args in (
+      omega arith,
+      λ xs old h. chain-same (counters-more xs (a .t5) (l .k) (omega (arith, size start)))
+          (chain-next (digits (getD (a .t5) (l .k) 0)) (chain-next (32 ∷ []) (l .inv .1 xs old h) (at-word .put-word .ensures))
+          (at-number2 .put-number2 .ensures)),
+    )
 
 slice-aggregate-put-word-2 : tie.Need-slice-aggregate-put-word-2 Inv-loop μ-loop
 slice-aggregate-put-word-2 c = search needs
@@ -77,17 +85,25 @@ slice-aggregate-put-word-2 c = search needs
 put-word-requires-2 : tie.Need-put-word-requires-2 Inv-loop μ-loop
 put-word-requires-2 c κs = search needs
 
+-- ---- the places at the end
+abbrev entry : tie.At-loop Inv-loop μ-loop → tie.Start Inv-loop μ-loop
+entry c = c .before .before .before .before .before .before
+
+abbrev looped : tie.After-slice-known5 Inv-loop μ-loop → tie.At-loop Inv-loop μ-loop
+looped c = c .before .before .before .before .before .before
+
 -- the whole line was put
-whole : (c : tie.After-slice-known5 Inv-loop μ-loop)
-    → let a = c .before .before .before .before .before .before .before .before .before .before .before .before .args in Chain
+whole : (c : tie.After-slice-known5 Inv-loop μ-loop) → let a = entry (looped c) .args in Chain
     (stationText (a .i) (take (a .links) (a .t5))) (a .at) (now (a .out)) (c .before .before .put-word2 .result)
     (c .before .before .put-word2 .last .0)
 whole c =
-    let l = c .before .before .before .before .before .before .loop in
-    let a = c .before .before .before .before .before .before .before .before .before .before .before .before .args in
-    let n1 = chain-next (digits (a .i)) (chain-none (a .at) (now (a .out)) (omega arith))
-    (c .before .before .before .before .before .before .before .before .before .put-number .ensures) in
-    let n2 = chain-next (10 ∷ []) (l .inv .1 (digits (a .i)) (now (a .out)) n1) (c .before .before .put-word2 .ensures) in
+    let at-word2 = c .before .before in
+    let at-loop = looped c in
+    let at-number = at-loop .before .before .before in
+    let l = at-loop .loop in
+    let a = entry at-loop .args in
+    let n1 = chain-next (digits (a .i)) (chain-none (a .at) (now (a .out)) (omega arith)) (at-number .put-number .ensures) in
+    let n2 = chain-next (10 ∷ []) (l .inv .1 (digits (a .i)) (now (a .out)) n1) (at-word2 .put-word2 .ensures) in
     let done : l .k ≡ a .links = omega arith in
     chain-same (station-done (a .i) (a .t5) (l .k) (a .links) done) n2
 
@@ -96,12 +112,10 @@ same-length c = whole c .size
 
 returns : tie.Need-returns Inv-loop μ-loop
 returns c =
-    let a = c .before .before .before .before .before .before .before .before .before .before .before .before .args in
-    put-done (stationText (a .i) (take (a .links) (a .t5))) 400 (a .at) (now (a .out)) _ _ (whole c)
-    (station-few (a .i) (a .links) (a .t5)
-    (few (c .before .before .before .before .before .before .before .before .before .before .before .before)) (omega arith)
-    (size (c .before .before .before .before .before .before .before .before .before .before .before .before))
-    (small (c .before .before .before .before .before .before .before .before .before .before .before .before))) (omega arith)
+    let start = entry (looped c) in
+    let a = start .args in
+    put-done (stationText (a .i) (take (a .links) (a .t5))) stationMost (a .at) (now (a .out)) _ _ (whole c)
+    (station-few (a .i) (a .links) (a .t5) (few start) (omega arith) (size start) (small start)) (omega arith)
 
 pub put-station-spec : {M : Type 1} → statement M
 put-station-spec =

@@ -1,6 +1,6 @@
 use Rattle.event_program.proofs.Stations.{stations-whole, stations-few, same-table}
 use Rattle.console.proofs.Puts.{put-done, put-next, chain-same, wrote-short, wrote-all}
-use Rattle.event_program.specs.Stations.{stationLine, stationsText}
+use Rattle.event_program.specs.Stations.{stationLine, stationsText, stationMost, stationsMost}
 use Rattle.text.proofs.Chains.{Chain, chain-none, chain-next}
 use Rattle.lists.specs.Places.{collect}
 use Rattle.lists.specs.Lists.{below}
@@ -12,13 +12,13 @@ use Rattle.event_program.proofs.put_stations.Statement.{statement}
 use Rattle.event_program.proofs.put_stations.Tie as tie
 
 abbrev Inv-loop : tie.InvT-loop
-Inv-loop out₀ s n m at₀ i₀ out at i = (i ≤ n) × (at ≤ 400 * i) × (n ≤ 32) × Chain (collect (stationLine s) (below i)) 0 out₀ at out
+Inv-loop out₀ s n m at₀ i₀ out at i = (i ≤ n) × (at ≤ stationMost * i) × (n ≤ 32) × Chain (collect (stationLine s) (below i)) 0 out₀ at out
 
 abbrev μ-loop : tie.MeasureT-loop
 μ-loop out₀ s n m at₀ i₀ out at i = n - i
 
 returns : tie.Need-returns Inv-loop μ-loop
-returns c = wrote-short 12800 (stationsText (c .before .before .args .t1)) (now (c .before .before .args .out)) (c .if1 .taken)
+returns c = wrote-short stationsMost (stationsText (c .before .before .args .t1)) (now (c .before .before .args .out)) (c .if1 .taken)
 
 at-most-requires : tie.Need-at-most-requires Inv-loop μ-loop
 at-most-requires c κs = search needs
@@ -60,16 +60,20 @@ loop-less c = omega arith
 
 loop-again : tie.Need-loop-again Inv-loop μ-loop
 loop-again c =
-    let l = c .before .before .before .before .before .before .before .loop in
-    let a = c .before .before .before .before .before .before .before .before .before .before .before .before .args in
-    let p = c .before .before .put-station .ensures in
+    let at-station = c .before .before in
+    let at-loop = at-station .before .before .before .before .before in
+    let at-at-most2 = at-loop .before in
+    let start = at-at-most2 .before .before .before .before in
+    let l = at-loop .loop in
+    let a = start .args in
+    let p = at-station .put-station .ensures in
     let q = put-next (omega (arith, l .inv .3 .size)) p in (
       omega arith,
       omega (arith, p .place, p .few),
       l .inv .2,
       chain-same
-          (same-table (a .t1) (l .i) (c .before .before .before .before .before .before .before .before .at-most2 .result)
-          (c .before .before .before .before .before .before .before .before .at-most2 .ensures)) (chain-next _ (l .inv .3) q),
+          (same-table (a .t1) (l .i) (at-at-most2 .at-most2 .result)
+          (at-at-most2 .at-most2 .ensures)) (chain-next _ (l .inv .3) q),
     )
 
 same-length : tie.Need-same-length Inv-loop μ-loop
@@ -81,9 +85,9 @@ returns-2 c =
     let a = c .before .before .before .before .before .before .args in
     let text = chain-same (stations-whole (a .t1) (c .before .before .before .at-most .result) (l .i)
     (c .before .before .before .at-most .ensures) (omega arith)) (l .inv .3) in
-    wrote-all 12800 (stationsText (a .t1)) (now (a .out)) (l .at) (l .out) (omega arith)
-    (put-done (stationsText (a .t1)) 12800 0 (now (a .out)) (l .at) (l .out) text
-    (stations-few (stationsText (a .t1)) 12800 (now (a .out)) (l .at) (l .out) text (omega arith) (omega arith)) (omega arith))
+    wrote-all stationsMost (stationsText (a .t1)) (now (a .out)) (l .at) (l .out) (omega arith)
+    (put-done (stationsText (a .t1)) stationsMost 0 (now (a .out)) (l .at) (l .out) text
+    (stations-few (stationsText (a .t1)) stationsMost (now (a .out)) (l .at) (l .out) text (omega arith) (omega arith)) (omega arith))
 
 pub put-stations-spec : {M : Type 1} → statement M
 put-stations-spec =

@@ -17,11 +17,11 @@ use Rattle.event_program.proofs.run_events.Statement.{statement}
 use Rattle.event_program.proofs.run_events.Tie as tie
 
 abbrev Inv-loop : tie.InvT-loop
-Inv-loop bytes out₀ state₀ tally₀ reading₀ at₀ from₀ out state tally reading at from =
+Inv-loop bytes out₀ reading₀ tally₀ state₀ at₀ from₀ out reading tally state at from =
     Going bytes out₀ (deskOf state₀ tally₀) reading₀ out (deskOf state tally) reading at from
 
 abbrev μ-loop : tie.MeasureT-loop
-μ-loop bytes out₀ state₀ tally₀ reading₀ at₀ from₀ out state tally reading at from = length bytes - from
+μ-loop bytes out₀ reading₀ tally₀ state₀ at₀ from₀ out reading tally state at from = length bytes - from
 
 -- ---- the places of a turn
 abbrev entry : tie.At-loop Inv-loop μ-loop → tie.Start Inv-loop μ-loop

@@ -49,17 +49,25 @@ same-length c = search needs
 
 returns : tie.Need-returns
 returns c =
-    let a = c .before .before .before .before .before .before .before .before .before .before .before .before .before .before .before .before .before .before .before .before .before .before .before .before .before .before .before .before .before .before .before .before .args in
-    let f = few (c .before .before .before .before .before .before .before .before .before .before .before .before .before .before .before .before .before .before .before .before .before .before .before .before .before .before .before .before .before .before .before .before) in
-    let n1 = chain-next underLink (chain-none (a .at) (now (a .out)) (omega arith)) (c .before .before .before .before .before .before .before .before .before .before .before .before .before .before .before .before .before .before .before .before .before .before .before .before .before .before .before .before .put-word .ensures) in
-    let n2 = chain-next (digits (a .k)) n1 (c .before .before .before .before .before .before .before .before .before .before .before .before .before .before .before .before .before .before .before .before .before .before .before .before .put-number .ensures) in
-    let n3 = chain-next openWord n2 (c .before .before .before .before .before .before .before .before .before .before .before .before .before .before .before .before .before .before .before .put-word2 .ensures) in
-    let n4 = chain-next (digits (a .low)) n3 (c .before .before .before .before .before .before .before .before .before .before .before .before .before .before .before .put-number2 .ensures) in
-    let n5 = chain-next dashWord n4
-    (c .before .before .before .before .before .before .before .before .before .before .put-word3 .ensures) in
-    let n6 = chain-next (digits (a .high)) n5 (c .before .before .before .before .before .before .put-number3 .ensures) in
-    let n7 = chain-next (linkShown (a .shown)) n6 (c .before .before .put-link-shown .ensures) in
-    put-parts 44 n7 (link-whole (a .k) (a .low) (a .high) (a .shown)) (link-few (a .k) (a .low) (a .high) (a .shown) (f .0) (f .1) (f .2)) (c .before .before .before .before .before .before .before .before .before .before .before .before .before .before .before .before .before .before .before .before .before .before .before .before .before .before .before .before .before .before .before .before .pre)
+    let at-link-shown = c .before .before in
+    let at-number3 = at-link-shown .before .before .before .before in
+    let at-word3 = at-number3 .before .before .before .before in
+    let at-number2 = at-word3 .before .before .before .before .before in
+    let at-word2 = at-number2 .before .before .before .before in
+    let at-number = at-word2 .before .before .before .before .before in
+    let at-word = at-number .before .before .before .before in
+    let start = at-word .before .before .before .before in
+    let a = start .args in
+    let f = few start in
+    let n1 = chain-next underLink (chain-none (a .at) (now (a .out)) (omega arith)) (at-word .put-word .ensures) in
+    let n2 = chain-next (digits (a .k)) n1 (at-number .put-number .ensures) in
+    let n3 = chain-next openWord n2 (at-word2 .put-word2 .ensures) in
+    let n4 = chain-next (digits (a .low)) n3 (at-number2 .put-number2 .ensures) in
+    let n5 = chain-next dashWord n4 (at-word3 .put-word3 .ensures) in
+    let n6 = chain-next (digits (a .high)) n5 (at-number3 .put-number3 .ensures) in
+    let n7 = chain-next (linkShown (a .shown)) n6 (at-link-shown .put-link-shown .ensures) in
+    put-parts 44 n7 (link-whole (a .k) (a .low) (a .high) (a .shown))
+    (link-few (a .k) (a .low) (a .high) (a .shown) (f .0) (f .1) (f .2)) (start .pre)
 
 pub put-link-spec : {M : Type 1} → statement M
 put-link-spec =

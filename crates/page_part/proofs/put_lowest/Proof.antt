@@ -50,15 +50,17 @@ same-length-2 c = search needs
 
 returns-2 : tie.Need-returns-2
 returns-2 c =
-    let a = c .before .before .before .before .before .before .before .before .before .before .before .before .before .before .before .before .args in
-    let f = few (c .before .before .before .before .before .before .before .before .before .before .before .before .before .before .before .before) in
-    let n1 = chain-next lowestWord (chain-none (a .at) (now (a .out)) (omega arith))
-    (c .before .before .before .before .before .before .before .before .before .before .before .put-word2 .ensures) in
-    let n2 = chain-next (digits (a .lowest)) n1 (c .before .before .before .before .before .before .before .put-number .ensures) in
-    let n3 = chain-next (10 ∷ []) n2 (c .before .before .put-word3 .ensures) in
-    put-parts 25 n3 (lowest-whole (a .lowest)
-    (c .before .before .before .before .before .before .before .before .before .before .before .before .before .before .if1 .left))
-    (lowest-few (a .lowest) f) (omega arith)
+    let at-word3 = c .before .before in
+    let at-number = at-word3 .before .before .before .before .before in
+    let at-word2 = at-number .before .before .before .before in
+    let at-if1 = at-word2 .before .before .before in
+    let start = at-if1 .before .before in
+    let a = start .args in
+    let f = few start in
+    let n1 = chain-next lowestWord (chain-none (a .at) (now (a .out)) (omega arith)) (at-word2 .put-word2 .ensures) in
+    let n2 = chain-next (digits (a .lowest)) n1 (at-number .put-number .ensures) in
+    let n3 = chain-next (10 ∷ []) n2 (at-word3 .put-word3 .ensures) in
+    put-parts 25 n3 (lowest-whole (a .lowest) (at-if1 .if1 .left)) (lowest-few (a .lowest) f) (omega arith)
 
 pub put-lowest-spec : {M : Type 1} → statement M
 put-lowest-spec =

@@ -1,5 +1,5 @@
 use Rattle.page_part.proofs.Parts.{part-refused, part-short, part-put, part-still, part-live, put-wider, live-put}
-use Rattle.page_part.specs.Parts.{partText}
+use Rattle.page_part.specs.Parts.{partText, partMost}
 use borrow.Author.Tests.{not-true, not-false}
 use denote.Ref.{now}
 use native.Mathlib.Omega.{arith}
@@ -30,13 +30,17 @@ same-length c = search needs
 
 returns-3 : tie.Need-returns-3
 returns-3 c =
-    let a = c .before .before .before .before .before .before .before .before .before .args in
+    let at-still = c .before .before in
+    let at-if3 = at-still .before .before in
+    let at-if2 = at-if3 .before in
+    let at-if1 = at-if2 .before in
+    let at-is-there = at-if1 .before in
+    let start = at-is-there .before .before in
+    let a = start .args in
     part-put (a .number) (partText (a .number) (a .net) (a .s) (a .ones) (a .lowest) (a .waiting) (a .seen)) (now (a .out)) _
-    (c .before .before .before .before .before .before .before .is-there .ensures)
-    (not-false _ (c .before .before .before .before .before .before .if1 .left)) _ _ _
-    (c .before .before .before .before .before .if2 .left)
-    (part-still (a .number) (a .net) (a .s) (a .ones) (a .lowest) (a .waiting) (a .seen) (c .before .before .before .before .if3 .taken))
-    (put-wider _ 24 4096 0 (now (a .out)) _ _ (omega arith) (c .before .before .put-still .ensures))
+    (at-is-there .is-there .ensures) (not-false _ (at-if1 .if1 .left)) _ _ _ (at-if2 .if2 .left)
+    (part-still (a .number) (a .net) (a .s) (a .ones) (a .lowest) (a .waiting) (a .seen) (at-if3 .if3 .taken))
+    (put-wider _ 24 partMost 0 (now (a .out)) _ _ (omega arith) (at-still .put-still .ensures))
 
 at-most-requires : tie.Need-at-most-requires
 at-most-requires c κs = search needs
@@ -61,12 +65,24 @@ same-length-2 c = search needs
 
 returns-4 : tie.Need-returns-4
 returns-4 c =
-    let a = c .before .before .before .before .before .before .before .before .before .before .before .before .before .before .before .before .before .before .before .before .before .before .before .before .before .args in
-    let put = live-put (a .net) (a .seen) _ _ (c .before .before .before .before .before .before .before .before .before .before .before .before .before .before .before .before .before .before .before .at-most .ensures) (c .before .before .before .before .before .before .before .before .before .before .before .before .before .before .before .before .before .before .at-most2 .ensures) (a .s) (a .ones) (a .lowest) (now (a .out)) _ _ _ _ _ _ _ _ (c .before .before .before .before .before .before .before .before .before .before .before .before .before .before .before .before .before .before .before .before .before .if2 .left)
-    (c .before .before .before .before .before .before .before .before .before .before .before .before .before .before .put-reach .ensures)
-    (c .before .before .before .before .before .before .before .before .before .before .put-lowest .ensures)
-    (c .before .before .before .before .before .before .put-stations-seen .ensures) (c .before .before .put-links-seen .ensures) in
-    part-put (a .number) (partText (a .number) (a .net) (a .s) (a .ones) (a .lowest) (a .waiting) (a .seen)) (now (a .out)) _ (c .before .before .before .before .before .before .before .before .before .before .before .before .before .before .before .before .before .before .before .before .before .before .before .is-there .ensures) (not-false _ (c .before .before .before .before .before .before .before .before .before .before .before .before .before .before .before .before .before .before .before .before .before .before .if1 .left)) _ _ _ (c .before .before .before .before .before .before .before .before .before .before .before .before .before .before .before .before .before .before .before .before .before .if2 .left) (part-live (a .number) (a .net) (a .s) (a .ones) (a .lowest) (a .waiting) (a .seen) (c .before .before .before .before .before .before .before .before .before .before .before .before .before .before .before .before .before .before .before .before .if3 .left)) put
+    let at-links-seen = c .before .before in
+    let at-stations-seen = at-links-seen .before .before .before .before in
+    let at-lowest = at-stations-seen .before .before .before .before in
+    let at-reach = at-lowest .before .before .before .before in
+    let at-bound2 = at-reach .before .before .before .before in
+    let at-bound = at-bound2 .before in
+    let at-if3 = at-bound .before in
+    let at-if2 = at-if3 .before in
+    let at-if1 = at-if2 .before in
+    let at-is-there = at-if1 .before in
+    let start = at-is-there .before .before in
+    let a = start .args in
+    let put = live-put (a .net) (a .seen) _ _ (at-bound .at-most .ensures) (at-bound2 .at-most2 .ensures) (a .s) (a .ones) (a .lowest)
+    (now (a .out)) _ _ _ _ _ _ _ _ (at-if2 .if2 .left) (at-reach .put-reach .ensures) (at-lowest .put-lowest .ensures)
+    (at-stations-seen .put-stations-seen .ensures) (at-links-seen .put-links-seen .ensures) in
+    part-put (a .number) (partText (a .number) (a .net) (a .s) (a .ones) (a .lowest) (a .waiting) (a .seen)) (now (a .out)) _
+    (at-is-there .is-there .ensures) (not-false _ (at-if1 .if1 .left)) _ _ _ (at-if2 .if2 .left)
+    (part-live (a .number) (a .net) (a .s) (a .ones) (a .lowest) (a .waiting) (a .seen) (at-if3 .if3 .left)) put
 
 pub put-part-spec : {M : Type 1} → statement M
 put-part-spec =

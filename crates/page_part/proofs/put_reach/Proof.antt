@@ -45,15 +45,21 @@ same-length c = search needs
 
 returns : tie.Need-returns
 returns c =
-    let a = c .before .before .before .before .before .before .before .before .before .before .before .before .before .before .before .before .before .before .before .before .before .before .before .before .before .before .before .before .args in
-    let f = few (c .before .before .before .before .before .before .before .before .before .before .before .before .before .before .before .before .before .before .before .before .before .before .before .before .before .before .before .before) in
-    let n1 = chain-next stationWord (chain-none 0 (now (a .out)) (omega arith)) (c .before .before .before .before .before .before .before .before .before .before .before .before .before .before .before .before .before .before .before .before .before .before .before .before .put-word .ensures) in
-    let n2 = chain-next (digits (a .s)) n1 (c .before .before .before .before .before .before .before .before .before .before .before .before .before .before .before .before .before .before .before .before .put-number .ensures) in
-    let n3 = chain-next liveWord n2 (c .before .before .before .before .before .before .before .before .before .before .before .before .before .before .before .put-word2 .ensures) in
-    let n4 = chain-next (digits (a .ones)) n3
-    (c .before .before .before .before .before .before .before .before .before .before .before .put-number2 .ensures) in
-    let n5 = chain-next ofWord n4 (c .before .before .before .before .before .before .put-word3 .ensures) in
-    let n6 = chain-next (digits (a .stations)) n5 (c .before .before .put-number3 .ensures) in
+    let at-number3 = c .before .before in
+    let at-word3 = at-number3 .before .before .before .before in
+    let at-number2 = at-word3 .before .before .before .before .before in
+    let at-word2 = at-number2 .before .before .before .before in
+    let at-number = at-word2 .before .before .before .before .before in
+    let at-word = at-number .before .before .before .before in
+    let start = at-word .before .before .before .before in
+    let a = start .args in
+    let f = few start in
+    let n1 = chain-next stationWord (chain-none 0 (now (a .out)) (omega arith)) (at-word .put-word .ensures) in
+    let n2 = chain-next (digits (a .s)) n1 (at-number .put-number .ensures) in
+    let n3 = chain-next liveWord n2 (at-word2 .put-word2 .ensures) in
+    let n4 = chain-next (digits (a .ones)) n3 (at-number2 .put-number2 .ensures) in
+    let n5 = chain-next ofWord n4 (at-word3 .put-word3 .ensures) in
+    let n6 = chain-next (digits (a .stations)) n5 (at-number3 .put-number3 .ensures) in
     put-parts 40 n6 (reach-whole (a .s) (a .ones) (a .stations)) (reach-few (a .s) (a .ones) (a .stations) (f .0) (f .1) (f .2))
     (omega arith)
 

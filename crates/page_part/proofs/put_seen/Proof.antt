@@ -31,12 +31,15 @@ same-length c = search needs
 
 returns : tie.Need-returns
 returns c =
-    let a = c .before .before .before .before .before .before .before .before .before .before .before .before .before .before .args in
-    let f = few (c .before .before .before .before .before .before .before .before .before .before .before .before .before .before) in
-    let n1 = chain-next underStation (chain-none (a .at) (now (a .out)) (omega arith))
-    (c .before .before .before .before .before .before .before .before .before .before .put-word .ensures) in
-    let n2 = chain-next (digits (a .t)) n1 (c .before .before .before .before .before .before .put-number .ensures) in
-    let n3 = chain-next (stationShown (a .shown)) n2 (c .before .before .put-station-shown .ensures) in
+    let at-station-shown = c .before .before in
+    let at-number = at-station-shown .before .before .before .before in
+    let at-word = at-number .before .before .before .before in
+    let start = at-word .before .before .before .before in
+    let a = start .args in
+    let f = few start in
+    let n1 = chain-next underStation (chain-none (a .at) (now (a .out)) (omega arith)) (at-word .put-word .ensures) in
+    let n2 = chain-next (digits (a .t)) n1 (at-number .put-number .ensures) in
+    let n3 = chain-next (stationShown (a .shown)) n2 (at-station-shown .put-station-shown .ensures) in
     put-parts 26 n3 (seen-whole (a .t) (a .shown)) (seen-few (a .t) (a .shown) f) (omega arith)
 
 pub put-seen-spec : {M : Type 1} → statement M

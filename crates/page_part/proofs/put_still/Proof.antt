@@ -30,12 +30,15 @@ same-length c = search needs
 
 returns : tie.Need-returns
 returns c =
-    let a = c .before .before .before .before .before .before .before .before .before .before .before .before .before .before .args in
-    let f = few (c .before .before .before .before .before .before .before .before .before .before .before .before .before .before) in
-    let n1 = chain-next stationWord (chain-none 0 (now (a .out)) (omega arith))
-    (c .before .before .before .before .before .before .before .before .before .before .put-word .ensures) in
-    let n2 = chain-next (digits (a .s)) n1 (c .before .before .before .before .before .before .put-number .ensures) in
-    let n3 = chain-next (conditionWord (a .waiting)) n2 (c .before .before .put-condition .ensures) in
+    let at-condition = c .before .before in
+    let at-number = at-condition .before .before .before .before in
+    let at-word = at-number .before .before .before .before in
+    let start = at-word .before .before .before .before in
+    let a = start .args in
+    let f = few start in
+    let n1 = chain-next stationWord (chain-none 0 (now (a .out)) (omega arith)) (at-word .put-word .ensures) in
+    let n2 = chain-next (digits (a .s)) n1 (at-number .put-number .ensures) in
+    let n3 = chain-next (conditionWord (a .waiting)) n2 (at-condition .put-condition .ensures) in
     put-parts 24 n3 (still-whole (a .s) (a .waiting)) (still-few (a .s) (a .waiting) f) (omega arith)
 
 pub put-still-spec : {M : Type 1} → statement M

@@ -41,13 +41,17 @@ same-length c = search needs
 
 returns-2 : tie.Need-returns-2
 returns-2 c =
-    let a = c .before .before .before .before .before .before .before .before .before .before .before .before .before .before .before .before .before .before .before .before .args in
-    let f = few (c .before .before .before .before .before .before .before .before .before .before .before .before .before .before .before .before .before .before .before .before) in
-    let n1 = chain-next (digits (a .a .taken)) (chain-none 0 (now (a .out)) (omega arith)) (c .before .before .before .before .before .before .before .before .before .before .before .before .before .before .before .before .put-number .ensures) in
-    let n2 = chain-next eventsTaken n1
-    (c .before .before .before .before .before .before .before .before .before .before .before .put-word .ensures) in
-    let n3 = chain-next (digits (a .a .refused)) n2 (c .before .before .before .before .before .before .before .put-number2 .ensures) in
-    let n4 = chain-next refusedWord n3 (c .before .before .put-word2 .ensures) in
+    let at-word2 = c .before .before in
+    let at-number2 = at-word2 .before .before .before .before .before in
+    let at-word = at-number2 .before .before .before .before in
+    let at-number = at-word .before .before .before .before .before in
+    let start = at-number .before .before .before .before in
+    let a = start .args in
+    let f = few start in
+    let n1 = chain-next (digits (a .a .taken)) (chain-none 0 (now (a .out)) (omega arith)) (at-number .put-number .ensures) in
+    let n2 = chain-next eventsTaken n1 (at-word .put-word .ensures) in
+    let n3 = chain-next (digits (a .a .refused)) n2 (at-number2 .put-number2 .ensures) in
+    let n4 = chain-next refusedWord n3 (at-word2 .put-word2 .ensures) in
     wrote-all 64 (countsText (a .a .taken) (a .a .refused)) (now (a .out)) _ _ (omega arith)
     (put-done (countsText (a .a .taken) (a .a .refused)) 64 0 (now (a .out)) _ _
     (chain-same (counts-whole (a .a .taken) (a .a .refused)) n4) (counts-few (a .a .taken) (a .a .refused) (f .0) (f .1)) (omega arith))

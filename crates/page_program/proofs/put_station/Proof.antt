@@ -36,13 +36,16 @@ same-length c = search needs
 
 returns : tie.Need-returns
 returns c =
-    let a = c .before .before .before .before .before .before .before .before .before .before .before .before .before .args in
-    let p = c .before .before .put-part .ensures in
-    let same = station-given (a .t1) (a .i) (now (a .out)) _ _ _ _
-    (c .before .before .before .before .before .before .before .before .before .before .before .reach .ensures)
-    (c .before .before .before .before .before .before .before .before .before .report .ensures .1)
-    (c .before .before .before .before .before .before .before .place-of .ensures)
-    (c .before .before .before .before .is-waiting .ensures) in
+    let at-part = c .before .before in
+    let at-is-waiting = at-part .before .before in
+    let at-place-of = at-is-waiting .before .before .before in
+    let at-report = at-place-of .before .before in
+    let at-reach = at-report .before .before in
+    let start = at-reach .before .before in
+    let a = start .args in
+    let p = at-part .put-part .ensures in
+    let same = station-given (a .t1) (a .i) (now (a .out)) _ _ _ _ (at-reach .reach .ensures) (at-report .report .ensures .1)
+    (at-place-of .place-of .ensures) (at-is-waiting .is-waiting .ensures) in
     (p .0 ∙ same .0, (p .1 .0 ∙ same .1, p .1 .1))
 
 pub put-station-spec : {M : Type 1} → statement M

@@ -49,12 +49,13 @@ same-length-2 c = search needs
 
 returns-3 : tie.Need-returns-3
 returns-3 c =
-    let a = c .before .before .before .before .before .before .before .before .before .before .before .before .args in put-same _ _ 12
-    (a .at) (now (a .out)) _ _
-    (sym (ap bodyText (c .before .before .before .before .before .before .before .before .before .body2 .given .1)))
+    let at-field3 = c .before .before in
+    let at-field2 = at-field3 .before .before .before .before in
+    let at-body2 = at-field2 .before .before .before in
+    let start = at-body2 .before .before .before in
+    let a = start .args in put-same _ _ 12 (a .at) (now (a .out)) _ _ (sym (ap bodyText (at-body2 .body2 .given .1)))
     (field-more (field-more (put-nothing 0 (a .at) (now (a .out)) (omega arith)) _ (search needs) (omega arith)
-    (c .before .before .before .before .before .before .put-field2 .ensures)) _ (search needs) (omega arith)
-    (c .before .before .put-field3 .ensures))
+    (at-field2 .put-field2 .ensures)) _ (search needs) (omega arith) (at-field3 .put-field3 .ensures))
 
 pub put-body-spec : {M : Type 1} → statement M
 put-body-spec =

@@ -53,7 +53,16 @@ loop-less : tie.Need-loop-less Inv-loop μ-loop
 loop-less c = omega arith
 
 loop-again : tie.Need-loop-again Inv-loop μ-loop
-loop-again c = let l = c .before .before .before .before .before .before .loop in let a = c .before .before .before .before .before .before .before .before .before .before .before .args in (omega arith, omega arith, bytes-more (now (a .bytes)) (a .at) (now (a .out)) (l .i) (l .to) (l .out) (l .inv .2) (omega arith) (c .before .before .put-hex .ensures))
+loop-again c =
+    let at-hex = c .before .before in
+    let at-loop = at-hex .before .before .before .before in
+    let start = at-loop .before .before .before .before .before in
+    let l = at-loop .loop in
+    let a = start .args in (
+      omega arith,
+      omega arith,
+      bytes-more (now (a .bytes)) (a .at) (now (a .out)) (l .i) (l .to) (l .out) (l .inv .2) (omega arith) (at-hex .put-hex .ensures),
+    )
 
 same-length : tie.Need-same-length Inv-loop μ-loop
 same-length c = c .before .loop .inv .2 .size

@@ -49,18 +49,22 @@ same-length-2 c = search needs
 
 returns-2 : tie.Need-returns-2
 returns-2 c =
-    let a = c .before .before .before .before .before .before .before .before .before .args in put-same _ _ 10 (a .at) (now (a .out)) _ _
-    (sym (ap kindWord (c .before .before .before .before .before .before .body .given .1)))
-    (put-of (kindWord (Reply 0)) 10 (a .at) (now (a .out)) _ _ (omega arith) (omega arith) (c .before .before .put-word2 .ensures))
+    let at-word2 = c .before .before in
+    let at-body = at-word2 .before .before .before .before in
+    let start = at-body .before .before .before in
+    let a = start .args in put-same _ _ 10 (a .at) (now (a .out)) _ _ (sym (ap kindWord (at-body .body .given .1)))
+    (put-of (kindWord (Reply 0)) 10 (a .at) (now (a .out)) _ _ (omega arith) (omega arith) (at-word2 .put-word2 .ensures))
 
 same-length-3 : tie.Need-same-length-3
 same-length-3 c = search needs
 
 returns-3 : tie.Need-returns-3
 returns-3 c =
-    let a = c .before .before .before .before .before .before .before .before .before .args in put-same _ _ 10 (a .at) (now (a .out)) _ _
-    (sym (ap kindWord (c .before .before .before .before .before .before .body2 .given .1)))
-    (put-of (kindWord (Notice 0 0)) 10 (a .at) (now (a .out)) _ _ (omega arith) (omega arith) (c .before .before .put-word3 .ensures))
+    let at-word3 = c .before .before in
+    let at-body2 = at-word3 .before .before .before .before in
+    let start = at-body2 .before .before .before in
+    let a = start .args in put-same _ _ 10 (a .at) (now (a .out)) _ _ (sym (ap kindWord (at-body2 .body2 .given .1)))
+    (put-of (kindWord (Notice 0 0)) 10 (a .at) (now (a .out)) _ _ (omega arith) (omega arith) (at-word3 .put-word3 .ensures))
 
 pub put-kind-spec : {M : Type 1} → statement M
 put-kind-spec =

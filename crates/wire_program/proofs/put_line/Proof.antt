@@ -54,23 +54,27 @@ same-length c = search needs
 
 returns : tie.Need-returns
 returns c =
-    let a = c .before .before .before .before .before .before .before .before .before .before .args in put-same _ _ 64 (a .at)
-    (now (a .out)) _ _ (ap (λ (l : HexLine). spoken (a .net) (hexSays l (a .r .bytes)))
-    (sym (c .before .before .before .before .before .enum-told .given .1)
-    ∙ c .before .before .before .before .before .before .before .hex-end .ensures))
+    let at-word = c .before .before in
+    let at-enum-told = at-word .before .before .before in
+    let at-hex-end = at-enum-told .before .before in
+    let start = at-hex-end .before .before .before in
+    let a = start .args in put-same _ _ 64 (a .at) (now (a .out)) _ _ (ap (λ (l : HexLine). spoken (a .net) (hexSays l (a .r .bytes)))
+    (sym (at-enum-told .enum-told .given .1) ∙ at-hex-end .hex-end .ensures))
     (put-wider 64 (omega arith) (put-of malformedLine 10 (a .at) (now (a .out)) _ _ (omega arith) (omega arith)
-    (c .before .before .put-word .ensures)))
+    (at-word .put-word .ensures)))
 
 same-length-2 : tie.Need-same-length-2
 same-length-2 c = search needs
 
 returns-2 : tie.Need-returns-2
 returns-2 c =
-    let a = c .before .before .before .before .before .before .before .before .before .before .before .args in put-same _ _ 64 (a .at)
-    (now (a .out)) _ _ (ap (λ (l : HexLine). spoken (a .net) (hexSays l (a .r .bytes)))
-    (sym (c .before .before .before .before .before .before .n .given .1)
-    ∙ c .before .before .before .before .before .before .before .before .hex-end .ensures))
-    (put-lined _ (a .at) (now (a .out)) _ _ (omega arith) (c .before .before .put-read .ensures))
+    let at-read = c .before .before in
+    let at-n = at-read .before .before .before .before in
+    let at-hex-end = at-n .before .before in
+    let start = at-hex-end .before .before .before in
+    let a = start .args in put-same _ _ 64 (a .at) (now (a .out)) _ _ (ap (λ (l : HexLine). spoken (a .net) (hexSays l (a .r .bytes)))
+    (sym (at-n .n .given .1) ∙ at-hex-end .hex-end .ensures))
+    (put-lined _ (a .at) (now (a .out)) _ _ (omega arith) (at-read .put-read .ensures))
 
 pub put-line-spec : {M : Type 1} → statement M
 put-line-spec =

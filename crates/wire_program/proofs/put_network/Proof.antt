@@ -1,5 +1,5 @@
 use Rattle.wire_program.proofs.Written.{sheet-back, stations-said, links-said}
-use Rattle.wire_program.specs.Line.{goodWord, sheetText}
+use Rattle.wire_program.specs.Line.{goodWord, sheetText, sheetMost}
 use Rattle.wire_program.specs.Parts.{fieldText, hexText, newline}
 use Rattle.wire_program.proofs.Rooms.{Back}
 use Rattle.wire_program.proofs.Puts.{text-more, field-more, room-more}
@@ -38,30 +38,41 @@ put-word-requires c κs = search needs
 cast-put-field : tie.Need-cast-put-field
 cast-put-field c = search needs
 
+-- ---- the places on the way
+abbrev entry : tie.After-sheet-size → tie.Start
+entry c = c .before .before .before .before .before .before
+
+abbrev at-size : tie.After-put-word → tie.After-sheet-size
+at-size c = c .before .before .before
+
+abbrev at-first : tie.After-put-field → tie.After-put-word
+at-first c = c .before .before .before .before .before
+
+abbrev at-second : tie.After-put-field2 → tie.After-put-field
+at-second c = c .before .before .before .before .before
+
+abbrev sized : tie.After-put-field2 → tie.After-sheet-size
+sized c = at-size (at-first (at-second c))
+
 -- the sheet stands in the room
-written : (c : tie.After-sheet-size) → let a = c .before .before .before .before .before .before .args in Back
-    (writeSheet (networkOf (a .net))) (c .before .before .before .before .sheet-room .result) (c .before .before .write .last .1 .0)
-    (c .sheet-size .result)
+written : (c : tie.After-sheet-size) → Back (writeSheet (networkOf (entry c .args .net)))
+    (c .before .before .before .before .sheet-room .result) (c .before .before .write .last .1 .0) (c .sheet-size .result)
 written c =
-    let a = c .before .before .before .before .before .before .args in
-    sheet-back (a .net) _ _ _ _ (c .before .before .before .before .before .before .pre .1)
-    (c .before .before .before .before .sheet-room .ensures) (c .before .before .write .ensures .0) (c .before .before .write .ensures .1)
-    (c .sheet-size .ensures)
+    sheet-back (entry c .args .net) _ _ _ _ (entry c .pre .1) (c .before .before .before .before .sheet-room .ensures)
+    (c .before .before .write .ensures .0) (c .before .before .write .ensures .1) (c .sheet-size .ensures)
 
 -- "sheet 0 ", and the numbers of stations and links
-first : (c : tie.After-put-word) → let a = c .before .before .before .before .before .before .before .before .before .args in Put goodWord 8
-    0 (now (a .out)) (c .put-word .result) (c .put-word .last .0)
-first c =
-    let a = c .before .before .before .before .before .before .before .before .before .args in put-of goodWord 8 0 (now (a .out)) _ _
-    (omega arith) (omega arith) (c .put-word .ensures)
+first : (c : tie.After-put-word) → Put goodWord 8 0 (now (entry (at-size c) .args .out)) (c .put-word .result) (c .put-word .last .0)
+first c = put-of goodWord 8 0 (now (entry (at-size c) .args .out)) _ _ (omega arith) (omega arith) (c .put-word .ensures)
 
-second : (c : tie.After-put-field)
-    → let a = c .before .before .before .before .before .before .before .before .before .before .before .before .before .before .args in Put
-    (goodWord ++ fieldText (a .net .stations)) 14 0 (now (a .out)) (c .put-field .result) (c .put-field .last .0)
-second c = field-more (first (c .before .before .before .before .before)) _ (search needs) (omega arith) (c .put-field .ensures)
+second : (c : tie.After-put-field) → let a = entry (at-size (at-first c)) .args in Put (goodWord ++ fieldText (a .net .stations)) 14 0
+    (now (a .out)) (c .put-field .result) (c .put-field .last .0)
+second c = field-more (first (at-first c)) _ (search needs) (omega arith) (c .put-field .ensures)
 
-third : (c : tie.After-put-field2) → let a = c .before .before .before .before .before .before .before .before .before .before .before .before .before .before .before .before .before .before .before .args in Put (goodWord ++ fieldText (a .net .stations) ++ fieldText (a .net .links)) 20 0 (now (a .out)) (c .put-field2 .result) (c .put-field2 .last .0)
-third c = field-more (second (c .before .before .before .before .before)) _ (search needs) (omega arith) (c .put-field2 .ensures)
+third : (c : tie.After-put-field2) → let a = entry (sized c) .args in Put
+    (goodWord ++ fieldText (a .net .stations) ++ fieldText (a .net .links)) 20 0 (now (a .out)) (c .put-field2 .result)
+    (c .put-field2 .last .0)
+third c = field-more (second (at-second c)) _ (search needs) (omega arith) (c .put-field2 .ensures)
 
 put-field-requires : tie.Need-put-field-requires
 put-field-requires c κs = search needs
@@ -73,10 +84,14 @@ put-field-requires-2 : tie.Need-put-field-requires-2
 put-field-requires-2 c κs = search needs
 
 array-share-prefix-room : tie.Need-array-share-prefix-room
-array-share-prefix-room c = let b = written (c .before .before .before .before .before .before .before .before .before .before .before .before .before .before .before .before) in omega (arith, b .few, b .same, c .before .before .before .before .before .before .before .before .before .before .before .before .before .before .before .before .before .before .before .before .sheet-room .ensures)
+array-share-prefix-room c =
+    let at-size = sized (c .before .before .before) in
+    let b = written at-size in omega (arith, b .few, b .same, at-size .before .before .before .before .sheet-room .ensures)
 
 slice-aggregate-put-bytes : tie.Need-slice-aggregate-put-bytes
-slice-aggregate-put-bytes c = let b = written (c .before .before .before .before .before .before .before .before .before .before .before .before .before .before .before .before .before) in sym (length-take-le _ _ (omega (arith, b .few, b .same)))
+slice-aggregate-put-bytes c =
+    let b = written (sized (c .before .before .before .before)) in
+    sym (length-take-le _ _ (omega (arith, b .few, b .same)))
 
 put-bytes-requires : tie.Need-put-bytes-requires
 put-bytes-requires c κs = search needs
@@ -93,12 +108,17 @@ same-length c = search needs
 returns : tie.Need-returns
 unfolding sheetText
 returns c =
-    let a = c .before .before .before .before .before .before .before .before .before .before .before .before .before .before .before .before .before .before .before .before .before .before .before .before .before .before .before .before .before .before .before .args in
-    let r = c .before .before .before .before .before .before .before .before .before .before .before .before .before .before .before .before .before .before .before .before .before .before .before .before .before .before .before .before .before .before .before .pre .0 in
-    let t = c .before .before .before .before .before .before .before .before .before .before .before .before .before .before .before .before .before .before .before .before .before .before .before .before .before .before .before .before .before .before .before .pre .1 in
-    let x = room-more (third (c .before .before .before .before .before .before .before .before .before .before .before .before)) 327 (written (c .before .before .before .before .before .before .before .before .before .before .before .before .before .before .before .before .before .before .before .before .before .before .before .before .before)) (c .before .before .before .before .before .before .before .before .before .before .before .before .before .before .before .before .before .before .before .before .before .before .before .before .before .before .before .before .before .sheet-room .ensures) (omega (arith, r)) (c .before .before .before .before .before .before .before .put-bytes .ensures) in
-    let y = put-wider 700 (omega arith) (text-more x newline 1 (omega arith) (omega (arith, r)) (c .before .before .put-word2 .ensures)) in
-    put-same _ _ 700 0 (now (a .out)) _ _ (ap₂ (λ (n m : ℕ). goodWord ++ fieldText n ++ fieldText m ++ hexText
+    let at-word2 = c .before .before in
+    let at-bytes = at-word2 .before .before .before .before .before in
+    let at-third = at-bytes .before .before .before .before .before in
+    let at-size = sized at-third in
+    let a = entry at-size .args in
+    let r = entry at-size .pre .0 in
+    let t = entry at-size .pre .1 in
+    let x = room-more (third at-third) 327 (written at-size) (at-size .before .before .before .before .sheet-room .ensures)
+    (omega (arith, r)) (at-bytes .put-bytes .ensures) in
+    let y = put-wider sheetMost (omega arith) (text-more x newline 1 (omega arith) (omega (arith, r)) (at-word2 .put-word2 .ensures)) in
+    put-same _ _ sheetMost 0 (now (a .out)) _ _ (ap₂ (λ (n m : ℕ). goodWord ++ fieldText n ++ fieldText m ++ hexText
     (writeSheet (networkOf (a .net))) ++ newline) (stations-said (a .net) t) (links-said (a .net) t)) y
 
 pub put-network-spec : {M : Type 1} → statement M

@@ -27,12 +27,14 @@ same-length c = search needs
 returns : tie.Need-returns
 unfolding refusalText
 returns c =
-    let a = c .before .before .before .before .before .before .before .before .before .before .args in
-    let w = put-of (digits (a .n)) 3 (a .at) (now (a .out)) _ _
-    (byte-digits (a .n) (few (c .before .before .before .before .before .before .before .before .before .before))) (omega arith)
-    (c .before .before .before .before .before .before .before .put-number .ensures) in
+    let at-word = c .before .before in
+    let at-number = at-word .before .before .before .before .before in
+    let start = at-number .before .before .before in
+    let a = start .args in
+    let w = put-of (digits (a .n)) 3 (a .at) (now (a .out)) _ _ (byte-digits (a .n) (few start)) (omega arith)
+    (at-number .put-number .ensures) in
     put-wider 64 (omega arith) (put-then (omega arith) w
-    (put-of (10 ∷ []) 1 _ _ _ _ (omega arith) (omega (arith, w .place, w .few, put-size w)) (c .before .before .put-word .ensures)))
+    (put-of (10 ∷ []) 1 _ _ _ _ (omega arith) (omega (arith, w .place, w .few, put-size w)) (at-word .put-word .ensures)))
 
 pub put-number-line-spec : {M : Type 1} → statement M
 put-number-line-spec =

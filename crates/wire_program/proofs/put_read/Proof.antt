@@ -35,10 +35,13 @@ enum-known-letter c = search needs
 
 put-letter-requires : tie.Need-put-letter-requires
 put-letter-requires c κs =
-    let a = c .before .before .before .before .before .before .before .before .before .args in (
+    let at-letter = c .before .before in
+    let at-read = at-letter .before .before in
+    let start = at-read .before .before .before .before .before in
+    let a = start .args in (
       omega arith,
       was-read (a .net)
-          (now (a .bytes)) _ (sym (c .before .before .before .before .read .ensures) ∙ ap lettersOf (c .before .before .letter .given .1)),
+          (now (a .bytes)) _ (sym (at-read .read .ensures) ∙ ap lettersOf (at-letter .letter .given .1)),
     )
 
 enum-told : tie.Need-enum-told
@@ -70,55 +73,70 @@ same-length c = search needs
 
 returns-3 : tie.Need-returns-3
 returns-3 c =
-    let a = c .before .before .before .before .before .before .before .before .before .before .before .before .args in
-    let text = ap (readText (networkOf (a .net))) (sym (ap lettersOf (c .before .before .before .before .before .letter .given .1))
-    ∙ c .before .before .before .before .before .before .before .read .ensures) in
+    let at-letter = c .before .before in
+    let at-given = at-letter .before .before .before in
+    let at-read = at-given .before .before in
+    let start = at-read .before .before .before .before .before in
+    let a = start .args in
+    let text = ap (readText (networkOf (a .net))) (sym (ap lettersOf (at-given .letter .given .1)) ∙ at-read .read .ensures) in
     lined-put (readLine (a .net) (now (a .bytes))) (a .at) (now (a .out)) _ _ (omega arith)
-    (put-same _ _ 64 (a .at) (now (a .out)) _ _ text (c .before .before .put-letter .ensures))
+    (put-same _ _ 64 (a .at) (now (a .out)) _ _ text (at-letter .put-letter .ensures))
 
 same-length-2 : tie.Need-same-length-2
 same-length-2 c = search needs
 
 returns-4 : tie.Need-returns-4
 returns-4 c =
-    let a = c .before .before .before .before .before .before .before .before .before .before .before .args in
-    let text = ap (readText (networkOf (a .net))) (sym (ap lettersOf (c .before .before .before .before .enum-told .given .1))
-    ∙ c .before .before .before .before .before .before .read .ensures) in
+    let at-number-line = c .before .before in
+    let at-enum-told = at-number-line .before .before in
+    let at-read = at-enum-told .before .before in
+    let start = at-read .before .before .before .before .before in
+    let a = start .args in
+    let text = ap (readText (networkOf (a .net))) (sym (ap lettersOf (at-enum-told .enum-told .given .1)) ∙ at-read .read .ensures) in
     lined-put (readLine (a .net) (now (a .bytes))) (a .at) (now (a .out)) _ _ (omega arith)
-    (put-same _ _ 64 (a .at) (now (a .out)) _ _ text (c .before .before .put-number-line .ensures))
+    (put-same _ _ 64 (a .at) (now (a .out)) _ _ text (at-number-line .put-number-line .ensures))
 
 same-length-3 : tie.Need-same-length-3
 same-length-3 c = search needs
 
 returns-5 : tie.Need-returns-5
 returns-5 c =
-    let a = c .before .before .before .before .before .before .before .before .before .before .before .args in
-    let text = ap (readText (networkOf (a .net))) (sym (ap lettersOf (c .before .before .before .before .enum-told2 .given .1))
-    ∙ c .before .before .before .before .before .before .read .ensures) in
+    let at-number-line2 = c .before .before in
+    let at-enum-told2 = at-number-line2 .before .before in
+    let at-read = at-enum-told2 .before .before in
+    let start = at-read .before .before .before .before .before in
+    let a = start .args in
+    let text = ap (readText (networkOf (a .net))) (sym (ap lettersOf (at-enum-told2 .enum-told2 .given .1)) ∙ at-read .read .ensures) in
     lined-put (readLine (a .net) (now (a .bytes))) (a .at) (now (a .out)) _ _ (omega arith)
-    (put-same _ _ 64 (a .at) (now (a .out)) _ _ text (c .before .before .put-number-line2 .ensures))
+    (put-same _ _ 64 (a .at) (now (a .out)) _ _ text (at-number-line2 .put-number-line2 .ensures))
 
 same-length-4 : tie.Need-same-length-4
 same-length-4 c = search needs
 
 returns-6 : tie.Need-returns-6
 returns-6 c =
-    let a = c .before .before .before .before .before .before .before .before .before .before .before .args in
-    let text = ap (readText (networkOf (a .net))) (sym (ap lettersOf (c .before .before .before .before .enum-told3 .given .1))
-    ∙ c .before .before .before .before .before .before .read .ensures) in
+    let at-number-line3 = c .before .before in
+    let at-enum-told3 = at-number-line3 .before .before in
+    let at-read = at-enum-told3 .before .before in
+    let start = at-read .before .before .before .before .before in
+    let a = start .args in
+    let text = ap (readText (networkOf (a .net))) (sym (ap lettersOf (at-enum-told3 .enum-told3 .given .1)) ∙ at-read .read .ensures) in
     lined-put (readLine (a .net) (now (a .bytes))) (a .at) (now (a .out)) _ _ (omega arith)
-    (put-same _ _ 64 (a .at) (now (a .out)) _ _ text (c .before .before .put-number-line3 .ensures))
+    (put-same _ _ 64 (a .at) (now (a .out)) _ _ text (at-number-line3 .put-number-line3 .ensures))
 
 same-length-5 : tie.Need-same-length-5
 same-length-5 c = search needs
 
 returns-7 : tie.Need-returns-7
 returns-7 c =
-    let a = c .before .before .before .before .before .before .before .before .before .before .before .args in
-    let text = ap (readText (networkOf (a .net))) (sym (ap lettersOf (c .before .before .before .before .enum-told4 .given .1))
-    ∙ c .before .before .before .before .before .before .read .ensures) in
+    let at-number-line4 = c .before .before in
+    let at-enum-told4 = at-number-line4 .before .before in
+    let at-read = at-enum-told4 .before .before in
+    let start = at-read .before .before .before .before .before in
+    let a = start .args in
+    let text = ap (readText (networkOf (a .net))) (sym (ap lettersOf (at-enum-told4 .enum-told4 .given .1)) ∙ at-read .read .ensures) in
     lined-put (readLine (a .net) (now (a .bytes))) (a .at) (now (a .out)) _ _ (omega arith)
-    (put-same _ _ 64 (a .at) (now (a .out)) _ _ text (c .before .before .put-number-line4 .ensures))
+    (put-same _ _ 64 (a .at) (now (a .out)) _ _ text (at-number-line4 .put-number-line4 .ensures))
 
 pub put-read-spec : {M : Type 1} → statement M
 put-read-spec =
