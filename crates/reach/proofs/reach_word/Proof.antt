@@ -24,6 +24,24 @@ Inv-grow working s net n m from w₀ w = Growing net (inWord working) s w
 abbrev μ-grow : tie.MeasureT-grow
 μ-grow working s net n m from w₀ w = 2 ^ 32 - w
 
+at-most-requires : tie.Need-at-most-requires Inv-search μ-search Inv-grow μ-grow
+at-most-requires c κs = search needs
+
+at-most-requires-2 : tie.Need-at-most-requires-2 Inv-search μ-search Inv-grow μ-grow
+at-most-requires-2 c κs = search needs
+
+returns : tie.Need-returns Inv-search μ-search Inv-grow μ-grow
+returns c = nobody _ _ _ (omega (arith, c .before .before .at-most .ensures, c .if1 .taken))
+
+with-bit-requires : tie.Need-with-bit-requires Inv-search μ-search Inv-grow μ-grow
+with-bit-requires c κs = (omega (arith, c .before .before .at-most .ensures, c .if1 .left), none-in (c .before .before .before .args .s))
+
+grow-holds : tie.Need-grow-holds Inv-search μ-search Inv-grow μ-grow
+grow-holds c = start _ _ _ (omega (arith, c .before .before .before .at-most .ensures, c .before .if1 .left)) _ (c .with-bit .ensures)
+
+search-holds : tie.Need-search-holds Inv-search μ-search Inv-grow μ-grow
+search-holds c = record { le = omega arith; none = λ j h. absurd (omega arith) }
+
 -- ---- the facts along the function: at a turn of `grow` where it began, at a link that was tried the turn's search and what the test says
 abbrev Turn : Type 0
 Turn = tie.At-grow Inv-search μ-search Inv-grow μ-grow
@@ -46,24 +64,6 @@ tried c b q =
     let a = begun (growing c) .args in
     test-seen (a .t1) (inWord (a .working)) (growing c .grow .w) (searching c .search .k) _ _ _ b
     (growing c .before .before .before .before .at-most .ensures) (c .before .has .ensures) (c .joins .ensures) q
-
-at-most-requires : tie.Need-at-most-requires Inv-search μ-search Inv-grow μ-grow
-at-most-requires c κs = search needs
-
-at-most-requires-2 : tie.Need-at-most-requires-2 Inv-search μ-search Inv-grow μ-grow
-at-most-requires-2 c κs = search needs
-
-returns : tie.Need-returns Inv-search μ-search Inv-grow μ-grow
-returns c = nobody _ _ _ (omega (arith, c .before .before .at-most .ensures, c .if1 .taken))
-
-with-bit-requires : tie.Need-with-bit-requires Inv-search μ-search Inv-grow μ-grow
-with-bit-requires c κs = (omega (arith, c .before .before .at-most .ensures, c .if1 .left), none-in (c .before .before .before .args .s))
-
-grow-holds : tie.Need-grow-holds Inv-search μ-search Inv-grow μ-grow
-grow-holds c = start _ _ _ (omega (arith, c .before .before .before .at-most .ensures, c .before .if1 .left)) _ (c .with-bit .ensures)
-
-search-holds : tie.Need-search-holds Inv-search μ-search Inv-grow μ-grow
-search-holds c = record { le = omega arith; none = λ j h. absurd (omega arith) }
 
 cast-i : tie.Need-cast-i Inv-search μ-search Inv-grow μ-grow
 cast-i c = omega arith
