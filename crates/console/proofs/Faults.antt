@@ -10,7 +10,8 @@ use Rattle.lists.proofs.Tests.{if-elim}
 use Rattle.fields.specs.Fields.{Field, short, field, firstField, isField, isEmpty}
 use Rattle.net.specs.Network.{Ends}
 use Rattle.sheet_rules.specs.Rules.{precedes, endsHold}
-use Rattle.sheet.specs.Sheet.{Sheet, refused, sheet, Opening, faulty, stations, Verdict, wrong, link, last, stationsHold, linkOf, opened, judged, readLinks, readOpened, readSheet, noLink}
+use Rattle.sheet.specs.Sheet.{Sheet, refused, sheet, Opening, faulty, stations, Verdict, wrong, link, last, stationsHold, linkOf, opened}
+use Rattle.sheet.specs.Sheet.{judged, readLinks, readOpened, readSheet, noLink}
 use Rattle.console.specs.Sheets.{fileSheet}
 
 abbrev Opens : Opening → Type 0

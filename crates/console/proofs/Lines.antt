@@ -9,7 +9,8 @@ use borrow.Author.Tests.{eq-eqb, ne-eqb}
 use Rattle.lists.specs.Lists.{if_then_else_}
 use Rattle.lists.specs.Places.{collect}
 use Rattle.event_lines.specs.Split.{linesOf, answers}
-use Rattle.console.specs.Feeding.{heldAfter, readAfter, textAfter, printed, heldAll, piecesHeld, piecesRead, piecesText, closing, wholeText, wholeHeld}
+use Rattle.console.specs.Feeding.{heldAfter, readAfter, textAfter, printed, heldAll, piecesHeld, piecesRead, piecesText, closing}
+use Rattle.console.specs.Feeding.{wholeText, wholeHeld}
 
 -- the pieces joined
 abbrev pub joined : List (List ℕ) → List ℕ

@@ -101,7 +101,8 @@ pub struct End {
 }
 
 // The end of the line that begins or goes on at a place.
-// Promise: the place of the first newline from there on; where there is none, the end of the bytes.
+// Promise: the place of the first newline from there on; where there is none, the end of the bytes (or the place given, where that lies
+// beyond it).
 pub fn find_end(bytes: &[u8], from: usize) -> End
     ensures { λ r. ⌜ r ≡ endFrom (now (bytes .entry)) from ⌝ }
 {

@@ -146,7 +146,11 @@ module _ (net : Network) where
     range-told : T (valuesHold net k s b) → InRange net k s b
     range-told t =
         let u = and-l (a && leb s 1) _ t in
-        record { link-exists = ltb→lt k (length (net .links)) (and-l a _ u); side-is = leb→le s 1 (and-r a _ u); body-is = body-told b (and-r (a && leb s 1) _ t) }
+        record {
+          link-exists = ltb→lt k (length (net .links)) (and-l a _ u);
+          side-is = leb→le s 1 (and-r a _ u);
+          body-is = body-told b (and-r (a && leb s 1) _ t);
+        }
 
     range-when : Small b → InRange net k s b → T (valuesHold net k s b)
     range-when z r =

@@ -71,7 +71,8 @@ module _ (net : Net) where
     unread-bad : BadNet net → BadState (unread net)
     unfolding stateHolds unread
     unread-bad q =
-        bad (ap (λ (b : Bool). (b && leb 0 letterRoom) && (stationsHold (unread net) && lettersHold (unread net))) (T-not-is (netHolds net) q))
+        bad (ap (λ (b : Bool). (b && leb 0 letterRoom) && (stationsHold (unread net) && lettersHold (unread net)))
+        (T-not-is (netHolds net) q))
 
     pub fresh-none : (r .answer ≡ 0 → ⊥) → BadState (r .state)
     fresh-none h = go fresh-why (λ z. h (ap (λ (b : Begun). b .answer) p ∙ z))

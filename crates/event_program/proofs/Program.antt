@@ -1,5 +1,5 @@
--- THE EVENT PROGRAM: whatever the pieces that standard input comes in, its calls print, in all, exactly what document 01 says of the file and
--- of the whole input.
+-- THE EVENT PROGRAM: whatever the pieces that standard input comes in, its calls print, in all, exactly what document 01 says of the file
+-- and of the whole input.
 use Prim.Native.Nat.{ℕ}
 use mathlib.Core.Bool.{Bool, true}
 use mathlib.Core.Path.{_≡_, refl, sym, ap, ap₂, _∙_}

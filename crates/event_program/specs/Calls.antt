@@ -1,6 +1,6 @@
--- What the event program's calls print, one after the other: `open_sheet`; for a refused sheet `put_refusal`; else `fresh`, `run_events`
--- for each piece of the input, with one newline more where the last line has none, and `put_stations`. proofs/Program.antt: it is exactly
--- what specs/Events.antt says of the file and the whole input.
+-- What the event program's calls print, one after the other: `open_sheet`; for a refused sheet `put_refusal`; else `begin`, `run_events`
+-- for each piece of the input, the last one as `put_piece` ends it, and `put_stations`. proofs/Program.antt: it is exactly what
+-- specs/Events.antt says of the file and the whole input.
 use Prim.Native.Nat.{ℕ}
 use mathlib.Core.List.{List, _++_}
 use lib.Dec.{eqb}

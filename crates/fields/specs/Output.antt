@@ -10,14 +10,6 @@ use Rattle.fields.specs.Fields.{onto}
 abbrev pub tooShort : List ℕ → List ℕ → Bool
 tooShort new old = ltb (length old) (length new)
 
--- ---- where a call answers a number alone, and one may refuse before: the number, and the output after
-abbrev pub withRoom : ℕ → List ℕ → List ℕ → ℕ
-withRoom number new old = if eqb number 0 then (if tooShort new old then 10 else 0) else number
-
-abbrev pub writtenOver : ℕ → List ℕ → List ℕ → List ℕ
-writtenOver number new old = if eqb number 0 then onto new old else old
-
--- ---- where it answers how many bytes were written
 -- the number of a refusal, or the bytes that are written
 pub data Writing : Type 0 where
   denied : ℕ → Writing
@@ -26,6 +18,15 @@ pub data Writing : Type 0 where
 -- bytes for an output: 10 where it is too short
 unfoldable pub fitting : List ℕ → List ℕ → Writing
 fitting new old = if tooShort new old then denied 10 else writes new
+
+-- the same where a number may refuse before
+abbrev pub fittingUnless : ℕ → List ℕ → List ℕ → Writing
+fittingUnless number new old = if eqb number 0 then fitting new old else denied number
+
+-- the number alone
+abbrev pub writingNumber : Writing → ℕ
+writingNumber (denied k) = k
+writingNumber (writes new) = 0
 
 -- the number, and how many bytes were written
 abbrev pub writingNumbers : Writing → List ℕ

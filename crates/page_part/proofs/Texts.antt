@@ -15,7 +15,8 @@ use Rattle.text.proofs.Chains.{Chain, chain-fits}
 use Rattle.console.specs.Outputs.{Put}
 use Rattle.console.proofs.Puts.{put-done, chain-same, byte-digits}
 use Rattle.page_part.specs.Words.{stationWord, downWord, waitingWord, liveWord, ofWord, lowestWord}
-use Rattle.page_part.specs.Words.{underStation, workingWord, unreachableWord, underLink, openWord, dashWord, perceivedWord, linkWorking, unresponsiveWord}
+use Rattle.page_part.specs.Words.{underStation, workingWord, unreachableWord, underLink, openWord, dashWord, perceivedWord}
+use Rattle.page_part.specs.Words.{linkWorking, unresponsiveWord}
 use Rattle.page_part.specs.Texts.{stillText, reachText, lowestText, stationShown, linkShown, seenText, linkText}
 
 -- a text that was put in parts

@@ -9,7 +9,8 @@ use Rattle.lists.specs.Places.{collect}
 use Rattle.text.specs.Text.{digits}
 use Rattle.net.specs.Network.{Network, ends, linkNumbers}
 use Rattle.page_part.specs.Words.{stationWord, downWord, waitingWord, liveWord, ofWord, lowestWord}
-use Rattle.page_part.specs.Words.{underStation, workingWord, unreachableWord, underLink, openWord, dashWord, perceivedWord, linkWorking, unresponsiveWord}
+use Rattle.page_part.specs.Words.{underStation, workingWord, unreachableWord, underLink, openWord, dashWord, perceivedWord}
+use Rattle.page_part.specs.Words.{linkWorking, unresponsiveWord}
 
 -- "`station S down`, `station S waiting`"
 unfoldable pub stillText : ℕ → Bool → List ℕ

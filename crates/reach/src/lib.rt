@@ -133,7 +133,6 @@ pub struct Reached {
 }
 
 // How many bits of the word are set.
-// Promise: equals `Values.onesOf`: the sum of the word's bits.
 fn count_ones(word: u32) -> u8
     ensures { λ r. ⌜ r ≡ onesOf word ⌝ }
 {
@@ -141,7 +140,6 @@ fn count_ones(word: u32) -> u8
 }
 
 // The lowest station that the word lacks, or 255.
-// Promise: equals `Values.lowestMissing`: the lowest station that the word lacks, or 255.
 fn lowest_missing(word: u32, stations: u8) -> u8
     ensures { λ r. ⌜ r ≡ lowestMissing word stations ⌝ }
 {

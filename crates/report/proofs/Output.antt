@@ -19,7 +19,7 @@ use Rattle.net.specs.Sizes.{stationRoom}
 use Rattle.net.proofs.ValueLaws.{stations-of, links-of, ends-of}
 use Rattle.reach.specs.Reach.{has, near, linkValue, report}
 use Rattle.reach.specs.Values.{reachOf}
-use Rattle.fields.specs.Output.{withRoom, writtenOver}
+use Rattle.fields.specs.Output.{Writing, denied, writes, fitting, fittingUnless, writingNumber, writingOutput}
 use Rattle.report.specs.Steps.{linkShown, reportIn}
 
 -- a turn of a loop that stores g k at place k
@@ -27,17 +27,28 @@ pub fill-turn : (g : ℕ → ℕ) (old xs : List ℕ) (k v : ℕ) → xs ≡ fil
 fill-turn g old xs k v e p h = ap₂ (λ (l : List ℕ) (x : ℕ). set l k x) e p ∙ filled-more g old k h
 
 -- ---- what each return says
+-- that the answer and the output are a writing's
+abbrev pub Wrote : Writing → List ℕ → ℕ → List ℕ → Type 0
+Wrote w old n out = (n ≡ writingNumber w) × (out ≡ writingOutput w old)
+
+-- a refusal touches no byte
+pub denied-keeps : (w : Writing) (old : List ℕ) → (writingNumber w ≡ 0 → ⊥) → writingOutput w old ≡ old
+denied-keeps (denied k) old h = refl
+denied-keeps (writes new) old h = absurd (h refl)
+
 module _ (number : ℕ) (new old : List ℕ) where
   -- refused before: the number stays, and so does the output
-  pub refused-stays : (number ≡ 0 → ⊥) → (number ≡ withRoom number new old) × (old ≡ writtenOver (withRoom number new old) new old)
+  pub refused-stays : (number ≡ 0 → ⊥) → Wrote (fittingUnless number new old) old number old
   refused-stays h = let e = ne-eqb number 0 h in (simp e, simp e)
 
   module _ (z : number ≡ 0) where
-    pub too-short : length old < length new → (10 ≡ withRoom number new old) × (old ≡ writtenOver (withRoom number new old) new old)
+    pub too-short : length old < length new → Wrote (fittingUnless number new old) old 10 old
+    unfolding fitting
     too-short h = let e = eq-eqb number 0 z in let l = lt-ltb (length old) (length new) h in (simp (e, l), simp (e, l))
 
     pub in-room : (out : List ℕ) → length new ≤ length old → out ≡ new ++ drop (length new) old
-        → (0 ≡ withRoom number new old) × (out ≡ writtenOver (withRoom number new old) new old)
+        → Wrote (fittingUnless number new old) old 0 out
+    unfolding fitting
     in-room out h p = let e = eq-eqb number 0 z in let l = le-ltb (length old) (length new) h in (simp (e, l), p ∙ simp (e, l))
 
 -- a link's byte, b being whether it works as the code has it
@@ -127,8 +138,7 @@ module _ (net : Net) (works : ℕ → Bool) (s : ℕ) where
           ap₂ (λ (i j : ℕ). map (bitAt word) (below i) ++ map (linkShown net works word) (below j)) ne me
           ∙ ap₂ (λ (x y : List ℕ). x ++ y) stations-are links-are ∙ sym parts
 
-      pub report-put : (number : ℕ) → number ≡ 0 → (0 ≡ withRoom number (reportIn net works s) old) × (two ≡ writtenOver
-          (withRoom number (reportIn net works s) old) (reportIn net works s) old)
+      pub report-put : (number : ℕ) → number ≡ 0 → Wrote (fittingUnless number (reportIn net works s) old) old 0 two
       report-put number z =
           let l : length (reportIn net works s) ≡ n + m = length-in ∙ omega arith in
           in-room number (reportIn net works s) old z two (omega arith)

@@ -15,9 +15,10 @@ use Rattle.world.specs.World.{World, holdingAt, reportAt}
 use Rattle.state.specs.declared.State.{State}
 use Rattle.state.specs.State.{stationIn, worldOf, stateHolds, Sized}
 use Rattle.sets.specs.Rooms.{inRoom}
+use Rattle.report.specs.Asking.{numberOf}
 use Rattle.report.proofs.AskingKnown.{world-net, me-is, table-is, Read, holds, number-is, is-good, there}
 use Rattle.report.specs.ReportsAnswers.{answerOf, outputOf}
-use Rattle.fields.specs.Output.{withRoom, writtenOver}
+use Rattle.fields.specs.Output.{Writing, fittingUnless, writingNumber, writingOutput}
 use Rattle.report.specs.Steps.{reportIn}
 
 -- ---- a well-formed state
@@ -47,27 +48,21 @@ module _ {s : State} {a : ℕ} {good : Bool} {me number : ℕ} (r : Read s a goo
         ap (λ (works : ℕ → Bool). reportIn (s .net) works me) (working-is (s .net) (stationIn s me .counters) working we) ∙ report-read q
 
     -- where a number refuses, the bytes do not matter
-    over : (xs ys : List ℕ) → (number ≡ 0 → xs ≡ ys) → withRoom number xs old ≡ withRoom number ys old
+    over : (xs ys : List ℕ) → (number ≡ 0 → xs ≡ ys) → fittingUnless number xs old ≡ fittingUnless number ys old
     over xs ys f = go (ℕ-discrete number 0)
       where
-        go : Dec (number ≡ 0) → withRoom number xs old ≡ withRoom number ys old
-        go (yes q) = ap (λ (l : List ℕ). withRoom number l old) (f q)
+        go : Dec (number ≡ 0) → fittingUnless number xs old ≡ fittingUnless number ys old
+        go (yes q) = ap (λ (l : List ℕ). fittingUnless number l old) (f q)
         go (no q) = let b = ne-eqb number 0 q in simp b
 
-    over-bytes : (xs ys : List ℕ) → (number ≡ 0 → xs ≡ ys)
-        → writtenOver (withRoom number xs old) xs old ≡ writtenOver (withRoom number ys old) ys old
-    over-bytes xs ys f = go (ℕ-discrete number 0)
-      where
-        go : Dec (number ≡ 0) → writtenOver (withRoom number xs old) xs old ≡ writtenOver (withRoom number ys old) ys old
-        go (yes q) = ap (λ (l : List ℕ). writtenOver (withRoom number l old) l old) (f q)
-        go (no q) = let b = ne-eqb number 0 q in simp b
+    -- so what is written is what the world's words say
+    same : fittingUnless number new old ≡ fittingUnless (numberOf s a) (reportAt (worldOf s) a) old
+    same = over new (reportAt (worldOf s) a) new-is ∙ ap (λ (n : ℕ). fittingUnless n (reportAt (worldOf s) a) old) (number-is r)
 
-    pub answer-seen : (n : ℕ) → n ≡ withRoom number new old → n ≡ answerOf s a old
+    pub answer-seen : (n : ℕ) → n ≡ writingNumber (fittingUnless number new old) → n ≡ answerOf s a old
     unfolding answerOf
-    answer-seen n e = e ∙ over new (reportAt (worldOf s) a) new-is ∙ ap (λ (n : ℕ). withRoom n (reportAt (worldOf s) a) old) (number-is r)
+    answer-seen n e = e ∙ ap writingNumber same
 
-    pub output-seen : (out : List ℕ) → out ≡ writtenOver (withRoom number new old) new old → out ≡ outputOf s a old
-    unfolding answerOf outputOf
-    output-seen out e =
-        e ∙ over-bytes new (reportAt (worldOf s) a) new-is
-        ∙ ap (λ (n : ℕ). writtenOver (withRoom n (reportAt (worldOf s) a) old) (reportAt (worldOf s) a) old) (number-is r)
+    pub output-seen : (out : List ℕ) → out ≡ writingOutput (fittingUnless number new old) old → out ≡ outputOf s a old
+    unfolding outputOf
+    output-seen out e = e ∙ ap (λ (w : Writing). writingOutput w old) same

@@ -1,7 +1,6 @@
 -- Each number that says no to the report, when and only when document 01's list says, in the words of the state that is asked; so
 -- a report is given exactly if none of the list's reasons stands. For every state, station and lent output.
 use Prim.Native.Nat.{ℕ, _+_, _≤_, _<_}
-use mathlib.Core.Bool.{Bool}
 use mathlib.Core.Path.{_≡_, sym, ap, _∙_, subst⁻¹}
 use mathlib.Core.Logic.{_↔_}
 use mathlib.Core.List.{List, _++_}
@@ -10,7 +9,7 @@ use native.Mathlib.Omega.{arith}
 use borrow.Author.Tests.{eq-eqb, ne-eqb, lt-ltb, le-ltb}
 use lib.Dec.{T}
 use lib.ListN.{length, drop}
-use Rattle.lists.specs.Lists.{if_then_else_}
+use Rattle.fields.specs.Output.{fitting, fittingUnless}
 use Rattle.net.specs.Network.{Network}
 use Rattle.world.specs.World.{reportAt}
 use Rattle.world.proofs.Reports as R
@@ -19,6 +18,7 @@ use Rattle.state.specs.State.{worldOf, stateHolds}
 use Rattle.report.specs.Asking.{numberOf}
 use Rattle.report.proofs.Refusals.{Asks, net-is, stations-are, links-are, Why, none, number-why, why-number, asks}
 use Rattle.report.specs.ReportsAnswers.{answerOf, outputOf}
+use Rattle.report.proofs.Output.{denied-keeps}
 
 -- how many bytes a report has
 abbrev pub size : State → ℕ
@@ -41,7 +41,7 @@ module _ (s : State) (a : ℕ) (old : List ℕ) where
   new = reportAt (worldOf s) a
 
   pub why-report : {n : ℕ} → ReportWhy n → answerOf s a old ≡ n
-  unfolding answerOf
+  unfolding answerOf fitting
   why-report (given k h) =
       let b = eq-eqb (numberOf s a) 0 (why-number s a (none k)) in
       let l = le-ltb (length old) (length new) (omega (arith, report-size s (k .good) a)) in
@@ -77,5 +77,13 @@ module _ (s : State) (a : ℕ) (old : List ℕ) where
 
   -- a refusal touches no byte
   pub refused-keeps : (answerOf s a old ≡ 0 → ⊥) → outputOf s a old ≡ old
-  unfolding outputOf
-  refused-keeps h = ap (λ (b : Bool). if b then new ++ drop (length new) old else old) (ne-eqb (answerOf s a old) 0 h)
+  unfolding answerOf outputOf
+  refused-keeps h = denied-keeps (fittingUnless (numberOf s a) new old) old h
+
+  -- where it is given, its bytes stand over the front
+  pub written-is : Asks s a → size s ≤ length old → outputOf s a old ≡ new ++ drop (length new) old
+  unfolding outputOf fitting
+  written-is k h =
+      let b = eq-eqb (numberOf s a) 0 (why-number s a (none k)) in
+      let l = le-ltb (length old) (length new) (omega (arith, report-size s (k .good) a)) in
+      simp (b, l)

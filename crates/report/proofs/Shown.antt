@@ -22,7 +22,7 @@ use Rattle.state.specs.State.{worldOf}
 use Rattle.report.proofs.Refusals.{Asks, net-is, table-is, stations-are, links-are}
 use Rattle.report.proofs.WordShown.{ownTable, PathTo}
 use Rattle.report.specs.ReportsAnswers.{answerOf, outputOf}
-use Rattle.report.proofs.ReportsRefusals.{size, report-size, accepted-when}
+use Rattle.report.proofs.ReportsRefusals.{size, report-size, accepted-when, written-is}
 
 -- ---- the words of the theorem
 module _ (s : State) (a : ℕ) where
@@ -67,10 +67,7 @@ module _ (s : State) (a : ℕ) (old : List ℕ) where
     table = table-is s a (omega (arith, stations, ask .station))
 
     out-is : out ≡ new ++ drop (size s) old
-    unfolding outputOf
-    out-is =
-        ap (λ (b : Bool). if b then new ++ drop (length new) old else old) (eq-eqb (answerOf s a old) 0 q)
-        ∙ ap (λ (n : ℕ). new ++ drop n old) long
+    out-is = written-is s a old ask fits ∙ ap (λ (n : ℕ). new ++ drop n old) long
 
     byte : (i : ℕ) → i < size s → getD new i 0 ≡ getD out i 0
     byte i h = sym (ap (λ (l : List ℕ). getD l i 0) out-is ∙ List·getD-append new (drop (size s) old) 0 i (omega (arith, long)))

@@ -10,7 +10,7 @@ ghost use lib.ListN.{length};
 ghost use Rattle.lists.specs.Lists.{filled};
 ghost use Rattle.report.specs.ReportsAnswers.{answerOf, outputOf};
 ghost use Rattle.net.specs.Sizes.{stationRoom, linkRoom};
-ghost use Rattle.fields.specs.Output.{withRoom, writtenOver};
+ghost use Rattle.fields.specs.Output.{fittingUnless, writingNumber, writingOutput};
 ghost use Rattle.report.specs.Steps.{reportIn, linkShown};
 use net::MOST_LINKS;
 use net::MOST_STATIONS;
@@ -59,7 +59,6 @@ pub fn reach(s: State, a: u32) -> Asked
 // ---- Whether a station may be asked what it knows, and where it stands: what the reach and the report read of the state alike.
 
 // 11 for a state that isn't well formed, 6 for no such station, 7 for one that isn't live, else 0.
-// Promise: equals `Asking.numberBy`: 11 for a state that isn't well formed, 6 for no such station, 7 for one that isn't live, else 0.
 fn number_of(good: bool, stations: u8, a: u32, condition: Condition) -> u8
     ensures { λ r. ⌜ r ≡ numberBy good stations a condition ⌝ }
 {
@@ -105,10 +104,9 @@ fn put_links(out: &mut [u8], net: Net, working: u64, word: u32, m: u8)
 
 // The report over the working links, where no number refuses it yet and the output has room for it.
 fn written(number: u8, net: Net, working: u64, me: u8, out: &mut [u8]) -> u8
-    ensures answer { λ r. ⌜ r ≡ withRoom number (reportIn net (inWord working) me) (now (out .entry)) ⌝ }
+    ensures answer { λ r. ⌜ r ≡ writingNumber (fittingUnless number (reportIn net (inWord working) me) (now (out .entry))) ⌝ }
     ensures output { λ r. ⌜ now (out .exit)
-        ≡ writtenOver (withRoom number (reportIn net (inWord working) me) (now (out .entry)))
-        (reportIn net (inWord working) me) (now (out .entry)) ⌝ }
+        ≡ writingOutput (fittingUnless number (reportIn net (inWord working) me) (now (out .entry))) (now (out .entry)) ⌝ }
 {
     if number != 0 {
         return number;

@@ -115,7 +115,6 @@ pub fn station_formed(net: Net, s: u8, st: Station) -> bool
 // ---- Whether one letter is well formed: a part of the test of a whole state.
 
 // Whether a number may be a counter: none is 0.
-// Promise: equals `net.Letters.isCounter`: a number of 16 bits is a counter if it is no 0.
 fn counter_holds(c: u16) -> bool
     ensures { λ r. ⌜ r ≡ isCounter c ⌝ }
 {

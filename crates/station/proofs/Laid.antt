@@ -42,7 +42,9 @@ word-laid n l f old bs e first rest =
         ∙ omega (arith, e, length-drop n (bitsOf old), length-map-below (inWord old) linkRoom))
 
     at : (i : ℕ) → i < linkRoom → Dec (i < n) → getD (map f (below linkRoom)) i false ≡ getD (bs ++ drop n (bitsOf old)) i false
-    at i h (yes m) = getD-map-below f linkRoom i false h ∙ sym (List·getD-append bs (drop n (bitsOf old)) false i (omega (arith, e)) ∙ first i m)
+    at i h (yes m) =
+        getD-map-below f linkRoom i false h
+        ∙ sym (List·getD-append bs (drop n (bitsOf old)) false i (omega (arith, e)) ∙ first i m)
     at i h (no m) =
         let j : ℕ = i - n in
         let q : length bs + j ≡ i = omega (arith, e) in

@@ -58,11 +58,13 @@ pub members-upto : (q : ℕ → Bool) (m : ℕ) → m ≤ linkRoom → membersOf
 unfolding membersOf
 members-upto q m h =
     let e : m - 0 ≡ m = omega arith in
-    keep-same (inWord (wordBy (upTo q m))) (upTo q m) linkRoom (λ t l. in-by (upTo q m) t l) ∙ keep-upto q m linkRoom 0 (omega arith) (omega arith)
+    keep-same (inWord (wordBy (upTo q m))) (upTo q m) linkRoom (λ t l. in-by (upTo q m) t l)
+    ∙ keep-upto q m linkRoom 0 (omega arith) (omega arith)
     ∙ ap (λ (x : ℕ). keep q (from 0 x)) e
 
 -- the same for a word known by its bits
-pub members-by : (f q : ℕ → Bool) (m : ℕ) → m ≤ linkRoom → ((t : ℕ) → t < linkRoom → f t ≡ upTo q m t) → membersOf (wordBy f) ≡ keep q (below m)
+pub members-by : (f q : ℕ → Bool) (m : ℕ) → m ≤ linkRoom → ((t : ℕ) → t < linkRoom → f t ≡ upTo q m t)
+    → membersOf (wordBy f) ≡ keep q (below m)
 members-by f q m h e = ap membersOf (by-same f (upTo q m) e) ∙ members-upto q m h
 
 pub members-none : membersOf 0 ≡ []
@@ -96,7 +98,8 @@ one-from k (suc n) i a b = go (ℕ-discrete i k) (λ x y. one-from k n (suc i) x
 pub members-one : (k : ℕ) → k < linkRoom → membersOf (wordBy (λ t. if eqb t k then true else inWord 0 t)) ≡ k ∷ []
 unfolding oneAt membersOf
 members-one k h =
-    keep-same (inWord (wordBy (oneAt k))) (oneAt k) linkRoom (λ t l. in-by (oneAt k) t l) ∙ one-from k linkRoom 0 (omega arith) (omega arith)
+    keep-same (inWord (wordBy (oneAt k))) (oneAt k) linkRoom (λ t l. in-by (oneAt k) t l)
+    ∙ one-from k linkRoom 0 (omega arith) (omega arith)
 
 -- ---- notices depend only on the counters of their subjects
 tell-from : (s : ℕ) (c d : ℕ → ℕ) (p : ℕ → Bool) (ways : List ℕ) (n i : ℕ) → ((j : ℕ) → i ≤ j → j < i + n → c j ≡ d j)

@@ -86,7 +86,8 @@ module _ (s : ℕ) (x : Condition) (m : Marks) (own told : ℕ) (l : Letter) whe
       go false p = clash (cc)
 
 -- ---- at a station value
-module _ (net : Net) (s : ℕ) (st : Station) (own : ℕ) (eo : Own own net s) (fit : Fit (st .marks)) (size : length (st .counters) ≡ linkRoom) where
+module _ (net : Net) (s : ℕ) (st : Station) (own : ℕ) (eo : Own own net s) (fit : Fit (st .marks))
+    (size : length (st .counters) ≡ linkRoom) where
   abbrev H : Holding
   H = holdingOf net st
 

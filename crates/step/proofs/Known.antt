@@ -154,7 +154,8 @@ module _ {s : State} {kind a b place me : ℕ} {named : Bool} {k about own : ℕ
       me-is =
           f .who ∙ ap₂ (λ (n : Network) (l : Letter). inRoom (concernedBy K n a l)) (sym net-is) letter-is
           ∙ ap (λ (c : Bool). if c then concernedBy K (w .net) a (letterAt w a) else 0)
-          (lt-ltb (concernedBy K (w .net) a (letterAt w a)) stationRoom (omega (arith, concerned-real w ok E q, stations-are .0, stations-are .1)))
+          (lt-ltb (concernedBy K (w .net) a (letterAt w a)) stationRoom
+          (omega (arith, concerned-real w ok E q, stations-are .0, stations-are .1)))
 
       pub me-real : me < s .net .stations
       me-real = omega (arith, me-is, concerned-real w ok E q, stations-are .0)
@@ -181,7 +182,8 @@ module _ {s : State} {kind a b place me : ℕ} {named : Bool} {k about own : ℕ
       meant = record {
         link = λ t. omega (arith, link-is t, link-there t, links-are);
         letter = λ t.
-            sym (f .link ∙ ap (λ (c : Bool). (if c then x .link else b) % linkRoom) (T-is (takesLetter K) t) ∙ mod-few (x .link) (posted t .link));
+            sym (f .link ∙ ap (λ (c : Bool). (if c then x .link else b) % linkRoom) (T-is (takesLetter K) t)
+            ∙ mod-few (x .link) (posted t .link));
         subject = λ t. omega (arith, subject-there t, links-are);
         tells = λ t. ap (λ (i : ℕ). getD (st .counters) i 0) (f .subject ∙ mod-few (subjectOf (x .body)) (subject-there t));
       }

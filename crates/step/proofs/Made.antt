@@ -239,7 +239,8 @@ module _ {s : State} {kind a b place me : ℕ} {named : Bool} {k about own : ℕ
       where
         nine : letterRoom < left₀ + count → answer ≡ 9
         nine d =
-            by-plan true (eq-eqb (p .answer) 0 none-planned) ∙ ap {B = ℕ} (λ (c : Bool). if c then 9 else 0) (lt-ltb letterRoom (left₀ + count) d)
+            by-plan true (eq-eqb (p .answer) 0 none-planned)
+            ∙ ap {B = ℕ} (λ (c : Bool). if c then 9 else 0) (lt-ltb letterRoom (left₀ + count) d)
 
         go : Dec (letterRoom < left₀ + count) → left₀ + count ≤ letterRoom
         go (yes d) = absurd (let n = nine d in omega (arith, n, q))
@@ -321,7 +322,8 @@ module _ {s : State} {kind a b place me : ℕ} {named : Bool} {k about own : ℕ
     pub free-within : (last free : ℕ) → last ≡ left₀ → free ≡ (if leaves then last else place) → free < letterRoom
     free-within last free l x = go leaves (f .goes) x (f .stays)
       where
-        go : (c : Bool) → c ≡ takesLetter (kindOf kind) → free ≡ (if c then last else place) → left₀ ≡ fewerBy c (s .flying) → free < letterRoom
+        go : (c : Bool) → c ≡ takesLetter (kindOf kind) → free ≡ (if c then last else place) → left₀ ≡ fewerBy c (s .flying)
+            → free < letterRoom
         go true g x y = let j = taken-there z₀ (sym g) in omega (arith, x, y, l, j, K.ok (f .seen) .room, flying-is)
         go false g x y = omega (arith, x, K.place-is (f .seen) named₀, K.few-a (f .seen) named₀)
 

@@ -82,8 +82,7 @@ pub fn run_letters(net: Net, r: HexReading, bytes: &[u8], out: &mut [u8]) -> Pas
 // ---- The parts of the wire program's lines, put like crate `text`'s words: where a part does not fit whole, nothing is touched and the
 // answer is one beyond the output's end.
 
-// A byte is two digits, upper case.
-// Promise: bytes in hexadecimal, put as crate `text` puts a word.
+// Bytes in hexadecimal, two digits each, upper case, put as crate `text` puts a word.
 fn put_bytes(out: &mut [u8], at: usize, bytes: &[u8]) -> usize
     ensures place { λ r. ⌜ r ≡ placeAfter (hexText (now (bytes .entry))) at (now (out .entry)) ⌝ }
     ensures output { λ r. ⌜ now (out .exit) ≡ putAt (hexText (now (bytes .entry))) at (now (out .entry)) ⌝ }
@@ -102,8 +101,7 @@ fn put_bytes(out: &mut [u8], at: usize, bytes: &[u8]) -> usize
     to
 }
 
-// A number and a space.
-// Promise: a number and a space, put as crate `text` puts a word.
+// A number and a space, put as crate `text` puts a word.
 fn put_field(out: &mut [u8], at: usize, n: u16) -> usize
     ensures place { λ r. ⌜ r ≡ placeAfter (fieldText n) at (now (out .entry)) ⌝ }
     ensures output { λ r. ⌜ now (out .exit) ≡ putAt (fieldText n) at (now (out .entry)) ⌝ }
@@ -250,8 +248,6 @@ fn put_number_line(out: &mut [u8], at: usize, n: u8) -> usize
 
 // A line's bytes taken as a letter. No line is longer than 64 bytes: where the output has no room for 64, nothing is touched and the answer
 // is one beyond the output's end.
-// Promise: its line for these bytes as a letter, at that place, where there is room for 64 bytes, the longest line; else nothing is
-// touched, and the answer is a place past the end.
 fn put_read(out: &mut [u8], at: usize, net: Net, bytes: &[u8]) -> usize
     ensures place { λ r. ⌜ r ≡ placeBehind (readLine net (now (bytes .entry))) at (now (out .entry)) ⌝ }
     ensures output { λ r. ⌜ now (out .exit) ≡ lineAt (readLine net (now (bytes .entry))) at (now (out .entry)) ⌝ }
