@@ -4,7 +4,6 @@ use mathlib.Core.Path.{_≡_, refl}
 use mathlib.Core.List.{List, []}
 use lib.ListN.{set}
 use Rattle.lists.specs.Lists.{keep}
-use Rattle.lists.specs.Words.{bit}
 use Rattle.net.specs.declared.Letter.{Letter}
 use Rattle.net.specs.Network.{Network, isEnd, linkNumbers}
 use Rattle.reach.specs.Reach.{worksIn, purge}
@@ -18,7 +17,7 @@ use Rattle.station.specs.Holding.{Holding, nobody, counter, mark}
 use Rattle.station.specs.Acts.{Act, startAct, recoveryAct, intervalAct, timeoutAct, quietAct, repliedMarks, effectAct, stopAct, idle}
 use Rattle.station.specs.Acts.{isOpen, answerBy, subjectOf}
 use Rattle.station.specs.Done.{Done, ownLinks, doneBy}
-use Rattle.station.specs.Events.{isNotice, heardRule, ruleAt}
+use Rattle.station.specs.Events.{heardRule, ruleAt}
 
 abbrev pub unchanged : Holding → Done
 unchanged h = record { holding = h; sent = [] }
@@ -58,7 +57,7 @@ answer s x h = answerBy s (h .condition) (mark h (x .link)) (counter h (x .link)
 pub delivery-act : (s b : ℕ) (x : Letter) (h : Holding)
     → ruleAt s Delivery b x h .act ≡ heardAct (h .condition) (x .link) (counter h (x .link)) (answer s x h)
 unfolding answer
-delivery-act s b x h = heard-act (bit (isNotice (x .body))) (h .condition) (x .link) (counter h (x .link)) (answer s x h)
+delivery-act s b x h = heard-act _ (h .condition) (x .link) (counter h (x .link)) (answer s x h)
 
 module _ (net : Network) (s : ℕ) where
   -- its own links that aren't quiet

@@ -31,7 +31,7 @@ use Rattle.station.specs.Holding.{Holding, counter, mark, higher, holdin
 use Rattle.station.specs.Done.{Done}
 use Rattle.station.proofs.Doing.{unchanged, delivery-act, stopped, started, recovered, interval, timeout, spoken, answer, effectOn}
 use Rattle.station.proofs.Doing.{heardOn, received}
-use Rattle.station.specs.Events.{raisedEffect, isNotice, heardRule, Rule, ruleAt, Due, refusing, dueOf}
+use Rattle.station.specs.Events.{raisedEffect, heardRule, Rule, ruleAt, Due, refusing, dueOf}
 use Rattle.station.specs.Acts.{Act, idle}
 use Rattle.station.specs.Done.{doneBy}
 use Rattle.station.proofs.Slots.{slot-counter}
@@ -152,7 +152,7 @@ module _ (net : Network) (s : ℕ) (real : s < net .stations) (h : Holding) (ok 
   rule-raises IntervalEnd b x n = risen-same net h (interval net s b h .holding) (interval-table net s h b)
   rule-raises TimeoutEnd b x n = timeout-raises b (n .0) (n .1)
   rule-raises QuietEnd b x n = risen-same net h (spoken net s b h .holding) (spoken-table net s h b)
-  rule-raises Delivery b x n = received-raises (bit (isNotice (x .body))) x (n .0) (n .1)
+  rule-raises Delivery b x n = received-raises _ x (n .0) (n .1)
   rule-raises Loss b x n = same
 
 -- one at the most
@@ -183,7 +183,7 @@ rule-one s Recovery b x h = zero-le
 rule-one s IntervalEnd b x h = zero-le
 rule-one s TimeoutEnd b x h = bit-le (even (counter h b))
 rule-one s QuietEnd b x h = zero-le
-rule-one s Delivery b x h = heard-one (bit (isNotice (x .body))) (h .condition) (x .link) (counter h (x .link)) (answer s x h)
+rule-one s Delivery b x h = heard-one _ (h .condition) (x .link) (counter h (x .link)) (answer s x h)
 rule-one s Loss b x h = zero-le
 
 -- ---- what an event comes to: each number for its reason, and where the reason holds
