@@ -13,6 +13,7 @@ use borrow.Author.Tests.{eq-eqb, ne-eqb}
 use Rattle.lists.specs.Lists.{if_then_else_}
 use Rattle.text.specs.Text.{putAt}
 use Rattle.text.proofs.Puts.{put-fits, length-put}
+use Rattle.fields.specs.Fields.{onto}
 use Rattle.console.specs.Outputs.{Counts, Put}
 use Rattle.event_lines.specs.Split.{fedBy}
 use Rattle.console.specs.declared.End.{End}
@@ -174,7 +175,7 @@ module _ {Y R A : Type 0} (fresh : R) (on : R → ℕ → R) (ends : R → A) (a
       pub held : y ≡ heldAfter fresh on ends act say y₀ r₀ bytes
       pub read : line ≡ readAfter fresh on ends act say y₀ r₀ bytes
       pub written : at ≡ length (textAfter fresh on ends act say y₀ r₀ bytes)
-      pub output : out ≡ putAt (textAfter fresh on ends act say y₀ r₀ bytes) 0 old
+      pub output : out ≡ onto (textAfter fresh on ends act say y₀ r₀ bytes) old
       pub counts : Counts at out
 
     pub going-done : end .ended ≡ false → Done
@@ -184,13 +185,11 @@ module _ {Y R A : Type 0} (fresh : R) (on : R → ℕ → R) (ends : R → A) (a
         let said : text y₀ r₀ bytes ≡ take at out =
         g .text ∙ ap (λ (l : List ℕ). take at out ++ l) (left .0) ∙ append-nil (take at out) in
         let count : at ≡ length (text y₀ r₀ bytes) = sym (ap length said ∙ length-take-le at out within) in
-        let there : at ≡ 0 + length (text y₀ r₀ bytes) = omega arith in
         record {
           held = sym (g .held ∙ left .1);
           read = reads ∙ ap (fedBy on r) (line-whole bytes from (g .within) end is e) ∙ sym (g .read ∙ left .2);
           written = count;
           output =
-              sym (take-append-drop at out) ∙ ap₂ (λ (a b : List ℕ). a ++ b) (sym said) (g .tail ∙ ap (λ (n : ℕ). drop n old) there)
-              ∙ sym (put-fits (text y₀ r₀ bytes) 0 old (omega (arith, g .size)));
+              sym (take-append-drop at out) ∙ ap₂ (λ (a b : List ℕ). a ++ b) (sym said) (g .tail ∙ ap (λ (n : ℕ). drop n old) count);
           counts = (within, sym (length-take-le at out within));
         }

@@ -4,19 +4,21 @@ use mathlib.Core.Path.{_≡_, refl, sym, ap, _∙_, subst}
 use mathlib.Core.List.{List, [], _∷_, _++_, append-nil}
 use native.Mathlib.Omega.{arith}
 use lib.Dec.{leb}
-use lib.ListN.{length, length-append}
+use lib.ListN.{length, drop, length-append}
 use lib.Seq.{length-take-le}
-use borrow.Author.Tests.{le-leb, lt-leb}
+use borrow.Author.Tests.{le-ltb, lt-ltb}
 use Rattle.lists.specs.Lists.{below}
 use Rattle.lists.specs.Places.{collect}
 use Rattle.lists.proofs.Places.{collect-append}
 use Rattle.lists.proofs.Numbers.{below-snoc}
 use Rattle.text.specs.Text.{digits, putAt, placeAfter}
 use Rattle.text.proofs.Digits.{digits-at-most}
-use Rattle.text.proofs.Puts.{place-fits, length-put}
+use Rattle.text.proofs.Puts.{place-fits, put-fits, length-put}
+use Rattle.fields.specs.Fields.{onto}
+use Rattle.fields.specs.Output.{withRoom, writingOutput}
 use Rattle.text.proofs.Chains.{Chain, chain-none, chain-next}
 use Rattle.console.specs.Sheets.{refusalText}
-use Rattle.console.specs.Outputs.{Counts, wroteBy, outputBy, Put}
+use Rattle.console.specs.Outputs.{Counts, wroteBy, Put}
 
 -- a chain that has room for its text
 pub put-done : (text : List ℕ) (most at : ℕ) (old : List ℕ) (r : ℕ) (new : List ℕ) → Chain text at old r new → length text ≤ most
@@ -41,22 +43,27 @@ pub count-digits : (n : ℕ) → n < 2 ^ 64 → length (digits n) ≤ 20
 count-digits n h = digits-at-most 19 n (omega arith)
 
 -- ---- a whole answer: the text at the front, or 10
+pub put-onto : (text old : List ℕ) → length text ≤ length old → putAt text 0 old ≡ onto text old
+put-onto text old h =
+    let behind : 0 + length text ≡ length text = omega arith in
+    put-fits text 0 old (omega arith) ∙ ap (λ (n : ℕ). text ++ drop n old) behind
+
 module _ (most : ℕ) (text old : List ℕ) where
-  pub wrote-short : length old < most → (record { answer = 10; written = 0 } ≡ wroteBy (leb most (length old))
-      text) × ((old ≡ outputBy (leb most (length old)) text old) × Counts 0 old)
-  wrote-short h = simp (lt-leb most (length old) h) (refl, (refl, (omega arith, refl)))
+  pub wrote-short : length old < most → (record { answer = 10; written = 0 } ≡ wroteBy (withRoom most text old))
+      × ((old ≡ writingOutput (withRoom most text old) old) × Counts 0 old)
+  wrote-short h = simp (lt-ltb (length old) most h) (refl, (refl, (omega arith, refl)))
 
   pub wrote-all : (r : ℕ) (new : List ℕ) → most ≤ length old → Put text most 0 old r new
-      → (record { answer = 0; written = r } ≡ wroteBy (leb most (length old))
-      text) × ((new ≡ outputBy (leb most (length old)) text old) × Counts r new)
+      → (record { answer = 0; written = r } ≡ wroteBy (withRoom most text old))
+      × ((new ≡ writingOutput (withRoom most text old) old) × Counts r new)
   wrote-all r new h p =
       let size : length new ≡ length old = ap length (p .output) ∙ length-put text 0 old in
       let within : r ≤ length new = omega (arith, p .place, p .few) in
       let here : r ≡ length text = omega (arith, p .place) in
-      simp (le-leb most (length old) h) (
+      simp (le-ltb (length old) most h) (
         (λ i. record
             { answer = 0; written = here i }),
-        (p .output, (within, sym (length-take-le r new within))),
+        (p .output ∙ put-onto text old (omega (arith, p .few)), (within, sym (length-take-le r new within))),
       )
 
 -- what a chain takes of a text that was put

@@ -1,12 +1,12 @@
 // What the programs share, on bytes and values alone: nothing here reads or writes. Running events: crate `event_program`.
 // Inner doors: the calls are in docs/CALLS.md.
 ghost use mathlib.Core.Path.{_≡_};
-ghost use lib.Dec.{leb};
 ghost use lib.ListN.{length};
 ghost use Rattle.sheet.specs.Values.{numberOf, zeroNet};
 ghost use Rattle.console.specs.Sheets.{fileSheet, openedBy, refusalText};
 ghost use Rattle.text.specs.Text.{putAt};
-ghost use Rattle.console.specs.Outputs.{Counts, wroteBy, outputBy};
+ghost use Rattle.fields.specs.Output.{withRoom, writingOutput};
+ghost use Rattle.console.specs.Outputs.{Counts, wroteBy};
 ghost use Rattle.console.specs.Feeding.{pieceOf, endFrom};
 use net::Net;
 
@@ -74,8 +74,8 @@ pub struct Wrote {
 // A refused sheet's number alone.
 // Promise: a refused sheet's number alone.
 pub fn put_refusal(n: u8, out: &mut [u8]) -> Wrote
-    ensures answer { λ r. ⌜ r ≡ wroteBy (leb 4 (length (now (out .entry)))) (refusalText n) ⌝ }
-    ensures output { λ r. ⌜ now (out .exit) ≡ outputBy (leb 4 (length (now (out .entry)))) (refusalText n) (now (out .entry)) ⌝ }
+    ensures answer { λ r. ⌜ r ≡ wroteBy (withRoom 4 (refusalText n) (now (out .entry))) ⌝ }
+    ensures output { λ r. ⌜ now (out .exit) ≡ writingOutput (withRoom 4 (refusalText n) (now (out .entry))) (now (out .entry)) ⌝ }
     ensures room { λ r. ⌜ Counts (r .written) (now (out .exit)) ⌝ }
 {
     if out.len() < 4 {

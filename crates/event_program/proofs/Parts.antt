@@ -1,23 +1,24 @@
 -- The loop of `run_events`: crate `console`'s law of feeding, for a desk and the lines of events.
-use Prim.Native.Nat.{ℕ, _+_, _-_, _/_, _≤_, _<_}
+use Prim.Native.Nat.{ℕ, _+_, _*_, _-_, _/_, _≤_, _<_}
 use mathlib.Core.Bool.{true, false}
 use mathlib.Core.Path.{_≡_, refl, ap, ap₂, _∙_}
 use mathlib.Core.List.{List}
 use native.Mathlib.Omega.{arith}
 use lib.ListN.{length, take, drop}
-use borrow.Author.Tests.{le-leb, lt-leb}
+use borrow.Author.Tests.{le-ltb, lt-ltb}
 use Rattle.tally.specs.declared.Tally.{Tally}
 use Rattle.tally.specs.Sums.{tallied}
 use Rattle.event_lines.specs.declared.Reading.{Reading}
 use Rattle.event_lines.specs.Steps.{start, readOn, fed, lineEnd}
 use Rattle.state.specs.declared.State.{State}
 use Rattle.step_rules.specs.declared.Stepped.{Stepped}
+use Rattle.fields.specs.Output.{writingOutput}
 use Rattle.console.specs.declared.End.{End}
 use Rattle.console.specs.Feeding.{endFrom}
-use Rattle.console.specs.Outputs.{Counts, outputBy, Put}
+use Rattle.console.specs.Outputs.{Counts, Put}
 use Rattle.console.proofs.Feeding as Feeding
 use Rattle.event_program.specs.Events.{answerText}
-use Rattle.event_program.specs.Runs.{Desk, deskOf, stepBy, acted, spoken, texts, enough, ranAs, ranBy}
+use Rattle.event_program.specs.Runs.{Desk, deskOf, stepBy, acted, spoken, written, ranAs, ranBy}
 
 -- between two turns: 32 bytes for each line at most
 abbrev pub Going : List ℕ → List ℕ → Desk → Reading → List ℕ → Desk → Reading → ℕ → ℕ → Type 0
@@ -57,15 +58,15 @@ module _ (s : State) (t : Tally) (r : Reading) (bytes old : List ℕ) where
   first = deskOf s t
 
   pub ran-short : length old / 32 < length bytes
-      → (ranAs 10 0 r first ≡ ranBy (enough bytes old) first r
-      bytes) × ((old ≡ outputBy (enough bytes old) (texts first r bytes) old) × Counts 0 old)
-  ran-short h = simp (lt-leb (length bytes) (length old / 32) h) (refl, (refl, (omega arith, refl)))
+      → (ranAs 10 0 r first ≡ ranBy (written first r bytes old) first r
+      bytes) × ((old ≡ writingOutput (written first r bytes old) old) × Counts 0 old)
+  ran-short h = simp (lt-ltb (length old) (32 * length bytes) (omega arith)) (refl, (refl, (omega arith, refl)))
 
   pub ran-all : (out : List ℕ) (d : Desk) (q : Reading) (at from : ℕ) (g : Going bytes old first r out d q at from) (end : End)
       → end ≡ endFrom bytes from → (line : Reading) → line ≡ fed q (take (end .stop - from) (drop from bytes)) → end .ended ≡ false
       → length bytes ≤ length old / 32
-      → (ranAs 0 at line d ≡ ranBy (enough bytes old) first r
-      bytes) × ((out ≡ outputBy (enough bytes old) (texts first r bytes) old) × Counts at out)
+      → (ranAs 0 at line d ≡ ranBy (written first r bytes old) first r
+      bytes) × ((out ≡ writingOutput (written first r bytes old) old) × Counts at out)
   ran-all out d q at from g end is line reads e h =
       let w = Feeding.going-done start readOn lineEnd acted spoken 32 bytes old first r out d q at from g end is line reads e in
-      simp (le-leb (length bytes) (length old / 32) h) ((λ i. ranAs 0 (w .written i) (w .read i) (w .held i)), (w .output, w .counts))
+      simp (le-ltb (length old) (32 * length bytes) (omega arith)) ((λ i. ranAs 0 (w .written i) (w .read i) (w .held i)), (w .output, w .counts))

@@ -1,13 +1,15 @@
 -- What is printed for a line, in other words of document 01: a malformed line, and the notices settled so far.
-use Prim.Native.Nat.{ℕ, _/_, _≤_}
+use Prim.Native.Nat.{ℕ, _*_, _≤_}
 use mathlib.Core.Bool.{Bool, true}
 use mathlib.Core.Path.{_≡_, refl, ap, ap₂, _∙_}
 use mathlib.Core.List.{List, [], _∷_, map}
 use native.Mathlib.Omega.{arith}
 use lib.ListN.{length}
-use borrow.Author.Tests.{le-leb}
+use borrow.Author.Tests.{le-ltb}
+use Rattle.fields.specs.Output.{writes}
 use Rattle.tally.specs.declared.Tally.{Tally}
 use Rattle.tally.specs.Sums.{added}
+use Rattle.event_lines.specs.declared.Reading.{Reading}
 use Rattle.station.specs.Events.{dueOf}
 use Rattle.world.specs.World.{World, exists, comes, refusal}
 use Rattle.world.specs.History.{run, everSettled}
@@ -15,7 +17,7 @@ use Rattle.world.proofs.Steps.{is-refused, step-refuses}
 use Rattle.laws.specs.Tallied.{acceptedCounts, tallyBy, tallyAfter}
 use Rattle.laws.proofs.Tallies.{Fits, tally-is-history}
 use Rattle.event_program.specs.Events.{Standing, eventBy, answerText, done, printedFor, doneAll}
-use Rattle.event_program.specs.Runs.{enough}
+use Rattle.event_program.specs.Runs.{Desk, texts, written}
 
 -- ---- a malformed line names no event
 no-kind : (w : World) → refusal w (eventBy (6 ∷ [])) ≡ 6
@@ -60,5 +62,6 @@ settled-so-far said st f =
     ap (λ (t : Tally). t .settled) (tally-after said st ∙ tally-is-history (st .tally) (st .world) (map eventBy said) f)
 
 -- the event program lends 65,536 bytes for a piece of at most 1,024: it is never refused with 10
-pub room-suffices : (bytes out : List ℕ) → length bytes ≤ 1024 → length out ≡ 65536 → enough bytes out ≡ true
-room-suffices bytes out h e = le-leb (length bytes) (length out / 32) (omega arith)
+pub room-suffices : (d : Desk) (r : Reading) (bytes out : List ℕ) → length bytes ≤ 1024 → length out ≡ 65536
+    → written d r bytes out ≡ writes (texts d r bytes)
+room-suffices d r bytes out h e = simp (le-ltb (length out) (32 * length bytes) (omega arith))

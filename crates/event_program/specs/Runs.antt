@@ -1,11 +1,9 @@
 -- What the code answers for a piece of the input, byte by byte and for every state. proofs/Program.antt: from a fresh state the pieces of
 -- an input give what specs/Events.antt says of the whole of it.
-use Prim.Native.Nat.{ℕ, _/_}
-use mathlib.Core.Bool.{Bool}
+use Prim.Native.Nat.{ℕ, _*_}
 use mathlib.Core.List.{List}
-use lib.Dec.{leb}
 use lib.ListN.{length, getD}
-use Rattle.lists.specs.Lists.{if_then_else_}
+use Rattle.fields.specs.Output.{Writing, denied, writes, withRoom}
 use Rattle.tally.specs.declared.Tally.{Tally}
 use Rattle.tally.specs.Sums.{tallied}
 use Rattle.event_lines.specs.declared.Reading.{Reading}
@@ -51,14 +49,15 @@ abbrev pub texts : Desk → Reading → List ℕ → List ℕ
 texts = textAfter start readOn lineEnd acted spoken
 
 -- ---- with lent output: 32 bytes for each byte of the input, or 10
-abbrev pub enough : List ℕ → List ℕ → Bool
-enough bytes old = leb (length bytes) (length old / 32)
+abbrev pub written : Desk → Reading → List ℕ → List ℕ → Writing
+written d r bytes old = withRoom (32 * length bytes) (texts d r bytes) old
 
 abbrev pub ranAs : ℕ → ℕ → Reading → Desk → Ran
 ranAs answer written r d = record { answer = answer; written = written; reading = r; tally = d .tally; state = d .state }
 
-abbrev pub ranBy : Bool → Desk → Reading → List ℕ → Ran
-ranBy enough d r bytes = if enough then ranAs 0 (length (texts d r bytes)) (lineAfter d r bytes) (deskAfter d r bytes) else ranAs 10 0 r d
+abbrev pub ranBy : Writing → Desk → Reading → List ℕ → Ran
+ranBy (denied k) d r bytes = ranAs k 0 r d
+ranBy (writes text) d r bytes = ranAs 0 (length text) (lineAfter d r bytes) (deskAfter d r bytes)
 
 -- ---- before the first line: a fresh state; the number is that of `fresh`
 abbrev pub firstRan : Net → Ran

@@ -5,11 +5,11 @@ ghost use mathlib.Core.Path.{_≡_};
 ghost use Prim.Native.Nat.{_+_, _≤_};
 ghost use lib.ListN.{length, take};
 ghost use Rattle.event_lines.specs.Steps.{lineEnd};
-ghost use Rattle.console.specs.Outputs.{Counts, outputBy, Put, wroteBy};
+ghost use Rattle.console.specs.Outputs.{Counts, Put, wroteBy};
+ghost use Rattle.fields.specs.Output.{withRoom, writingOutput};
 ghost use Rattle.event_program.specs.Events.{answerText};
-ghost use Rattle.event_program.specs.Runs.{deskOf, texts, enough, ranBy, firstRan};
+ghost use Rattle.event_program.specs.Runs.{deskOf, written, ranBy, firstRan};
 ghost use Rattle.event_program.specs.Steps.{askedBy};
-ghost use lib.Dec.{leb};
 ghost use Rattle.event_program.specs.Stations.{stationText, stationMost, stationsText, stationsMost};
 use console::Wrote;
 use event_lines::Line;
@@ -91,9 +91,9 @@ pub fn begin(net: Net) -> Ran
 // Promise: for the lines that end in these bytes: what document 01's event program prints for each, and the state, tally and reading after
 // them.
 pub fn run_events(given: State, t: Tally, r: Reading, bytes: &[u8], out: &mut [u8]) -> Ran
-    ensures answer { λ n. ⌜ n ≡ ranBy (enough (now (bytes .entry)) (now (out .entry))) (deskOf given t) r (now (bytes .entry)) ⌝ }
-    ensures output { λ n. ⌜ now (out .exit) ≡ outputBy (enough (now (bytes .entry)) (now (out .entry)))
-        (texts (deskOf given t) r (now (bytes .entry))) (now (out .entry)) ⌝ }
+    ensures answer { λ n. ⌜ n ≡ ranBy (written (deskOf given t) r (now (bytes .entry)) (now (out .entry))) (deskOf given t) r (now (bytes .entry)) ⌝ }
+    ensures output { λ n. ⌜ now (out .exit) ≡ writingOutput
+        (written (deskOf given t) r (now (bytes .entry)) (now (out .entry))) (now (out .entry)) ⌝ }
     ensures room { λ n. ⌜ Counts (n .written) (now (out .exit)) ⌝ }
 {
     // no line is longer than 32 bytes, and none is without a byte of input
@@ -155,8 +155,8 @@ fn put_station(out: &mut [u8], at: usize, i: u8, links: u8, counters: [u16; 64])
 // One line per station.
 // Promise: one line per station, its number and its counters by link.
 pub fn put_stations(s: State, out: &mut [u8]) -> Wrote
-    ensures answer { λ r. ⌜ r ≡ wroteBy (leb stationsMost (length (now (out .entry)))) (stationsText s) ⌝ }
-    ensures output { λ r. ⌜ now (out .exit) ≡ outputBy (leb stationsMost (length (now (out .entry)))) (stationsText s)
+    ensures answer { λ r. ⌜ r ≡ wroteBy (withRoom stationsMost (stationsText s) (now (out .entry))) ⌝ }
+    ensures output { λ r. ⌜ now (out .exit) ≡ writingOutput (withRoom stationsMost (stationsText s) (now (out .entry)))
         (now (out .entry)) ⌝ }
     ensures room { λ r. ⌜ Counts (r .written) (now (out .exit)) ⌝ }
 {

@@ -1,23 +1,24 @@
--- What writing to lent output gives: bytes over its front, or 10 where it is too short; for sheets, letters and the report alike.
+-- What writing to lent output gives: bytes over its front, or 10 where it is too short; for sheets, letters, the report and the programs' texts
+-- alike.
 use Prim.Native.Nat.{ℕ}
-use mathlib.Core.Bool.{Bool}
 use mathlib.Core.List.{List, [], _∷_}
 use lib.Dec.{eqb, ltb}
 use lib.ListN.{length}
 use Rattle.lists.specs.Lists.{if_then_else_}
 use Rattle.fields.specs.Fields.{onto}
 
-abbrev pub tooShort : List ℕ → List ℕ → Bool
-tooShort new old = ltb (length old) (length new)
-
 -- the number of a refusal, or the bytes that are written
 pub data Writing : Type 0 where
   denied : ℕ → Writing
   writes : List ℕ → Writing
 
--- bytes for an output: 10 where it is too short
+-- bytes for an output that is asked to have so much room: 10 where it is shorter
+abbrev pub withRoom : ℕ → List ℕ → List ℕ → Writing
+withRoom room new old = if ltb (length old) room then denied 10 else writes new
+
+-- the same where no more room is asked than the bytes take
 unfoldable pub fitting : List ℕ → List ℕ → Writing
-fitting new old = if tooShort new old then denied 10 else writes new
+fitting new old = withRoom (length new) new old
 
 -- the same where a number may refuse before
 abbrev pub fittingUnless : ℕ → List ℕ → List ℕ → Writing

@@ -14,10 +14,11 @@ use Rattle.net.specs.declared.Net.{Net}
 use Rattle.net.specs.Network.{Ends, ends}
 use Rattle.net.specs.Values.{networkOf}
 use Rattle.net.proofs.ValueLaws.{stations-of, links-of, ends-of}
-use Rattle.console.specs.Outputs.{Counts, Put}
+use Rattle.fields.specs.Output.{writingOutput}
+use Rattle.console.specs.Outputs.{Counts, Put, wroteBy}
 use Rattle.console.proofs.Puts.{put-next, chain-same, wrote-short, wrote-all}
 use Rattle.page_part.specs.Texts.{stillText, reachText, lowestText, seenText, linkText, stationsSeen, linksSeen, liveText}
-use Rattle.page_part.specs.Parts.{isThere, partText, partMost, partWrote, partOutput}
+use Rattle.page_part.specs.Parts.{isThere, partText, partMost, partWriting}
 use Rattle.page_part.proofs.Texts.{put-lines}
 
 -- ---- which numbers say that a station is there
@@ -29,17 +30,18 @@ there-other n h = simp (ne-eqb n 0 h)
 
 -- ---- the answer and the output, return by return
 module _ (number : ℕ) (text old : List ℕ) (b : Bool) (p : b ≡ isThere number) where
-  pub part-refused : b ≡ false → (record { answer = number; written = 0 } ≡ partWrote number text
-      old) × ((old ≡ partOutput number text old) × Counts 0 old)
+  pub part-refused : b ≡ false → (record { answer = number; written = 0 } ≡ wroteBy (partWriting number text old))
+      × ((old ≡ writingOutput (partWriting number text old) old) × Counts 0 old)
   part-refused q = let e : isThere number ≡ false = sym p ∙ q in simp e (refl, (refl, (omega arith, refl)))
 
   module _ (q : b ≡ true) where
-    pub part-short : length old < partMost → (record { answer = 10; written = 0 } ≡ partWrote number text
-        old) × ((old ≡ partOutput number text old) × Counts 0 old)
+    pub part-short : length old < partMost → (record { answer = 10; written = 0 } ≡ wroteBy (partWriting number text old))
+        × ((old ≡ writingOutput (partWriting number text old) old) × Counts 0 old)
     part-short h = let e : isThere number ≡ true = sym p ∙ q in simp e (wrote-short partMost text old h)
 
     pub part-put : (other : List ℕ) (r : ℕ) (new : List ℕ) → partMost ≤ length old → other ≡ text → Put other partMost 0 old r new
-        → (record { answer = 0; written = r } ≡ partWrote number text old) × ((new ≡ partOutput number text old) × Counts r new)
+        → (record { answer = 0; written = r } ≡ wroteBy (partWriting number text old))
+        × ((new ≡ writingOutput (partWriting number text old) old) × Counts r new)
     part-put other r new h same k =
         let e : isThere number ≡ true = sym p ∙ q in
         simp e (wrote-all partMost text old r new h (subst (λ (x : List ℕ). Put x partMost 0 old r new) same k))

@@ -2,13 +2,11 @@
 use Prim.Native.Nat.{ℕ}
 use mathlib.Core.Bool.{Bool, _||_}
 use mathlib.Core.List.{List}
-use lib.Dec.{eqb, leb}
-use lib.ListN.{length}
+use lib.Dec.{eqb}
 use Rattle.lists.specs.Lists.{if_then_else_}
 use Rattle.net.specs.declared.Net.{Net}
 use Rattle.net.specs.Values.{networkOf}
-use Rattle.console.specs.declared.Wrote.{Wrote}
-use Rattle.console.specs.Outputs.{wroteBy, outputBy}
+use Rattle.fields.specs.Output.{Writing, denied, withRoom}
 use Rattle.page_part.specs.Texts.{stillText, liveText}
 
 -- a station is there: live (0) or not (7)
@@ -24,9 +22,5 @@ abbrev pub partMost : ℕ
 partMost = 4096
 
 -- refusals in their order: 11, 6, 10
-abbrev pub partWrote : ℕ → List ℕ → List ℕ → Wrote
-partWrote number text old =
-    if isThere number then wroteBy (leb partMost (length old)) text else (record { answer = number; written = 0 })
-
-abbrev pub partOutput : ℕ → List ℕ → List ℕ → List ℕ
-partOutput number text old = if isThere number then outputBy (leb partMost (length old)) text old else old
+abbrev pub partWriting : ℕ → List ℕ → List ℕ → Writing
+partWriting number text old = if isThere number then withRoom partMost text old else denied number

@@ -7,9 +7,10 @@ ghost use lib.ListN.{length, getD};
 ghost use Rattle.lists.specs.Lists.{if_then_else_, below};
 ghost use Rattle.lists.specs.Places.{collect};
 ghost use Rattle.text.specs.Text.{placeAfter, putAt};
-ghost use Rattle.console.specs.Outputs.{Counts, Put};
+ghost use Rattle.console.specs.Outputs.{Counts, Put, wroteBy};
+ghost use Rattle.fields.specs.Output.{writingOutput};
 ghost use Rattle.page_part.specs.Texts.{stillText, reachText, lowestText, stationShown, linkShown, seenText, linkText};
-ghost use Rattle.page_part.specs.Parts.{isThere, partText, partWrote, partOutput};
+ghost use Rattle.page_part.specs.Parts.{isThere, partText, partWriting};
 ghost use Rattle.page_part.specs.Words.{waitingWord, downWord};
 use console::Wrote;
 use net::Net;
@@ -164,8 +165,9 @@ pub fn put_part(
     seen: [u8; 96],
     out: &mut [u8],
 ) -> Wrote
-    ensures answer { λ r. ⌜ r ≡ partWrote number (partText number net s ones lowest waiting seen) (now (out .entry)) ⌝ }
-    ensures output { λ r. ⌜ now (out .exit) ≡ partOutput number (partText number net s ones lowest waiting seen) (now (out .entry)) ⌝ }
+    ensures answer { λ r. ⌜ r ≡ wroteBy (partWriting number (partText number net s ones lowest waiting seen) (now (out .entry))) ⌝ }
+    ensures output { λ r. ⌜ now (out .exit) ≡ writingOutput
+        (partWriting number (partText number net s ones lowest waiting seen) (now (out .entry))) (now (out .entry)) ⌝ }
     ensures room { λ r. ⌜ Counts (r .written) (now (out .exit)) ⌝ }
 {
     if !is_there(number) {

@@ -16,7 +16,7 @@ use Rattle.report.specs.declared.Asked.{Asked}
 use Rattle.report.specs.Answers.{askedOf}
 use Rattle.report.proofs.WordShown.{answer-number}
 use Rattle.report.specs.ReportsAnswers.{outputOf}
-use Rattle.page_part.specs.Parts.{isThere, partText, partWrote, partOutput}
+use Rattle.page_part.specs.Parts.{isThere, partText, partWriting}
 use Rattle.page_program.specs.Page.{reportRoom, stationPart}
 
 module _ (s : State) (i : ℕ) where
@@ -42,17 +42,9 @@ module _ (s : State) (i : ℕ) where
         (pw ∙ ap (λ (j : ℕ). isWaiting (stationIn s j .condition)) here)
 
     by-there : (b : Bool) → isThere (askedOf s i .answer) ≡ b
-        → (partWrote (asked .answer) given old ≡ partWrote (askedOf s i .answer) (stationPart s i) old) × (partOutput (asked .answer) given
-        old ≡ partOutput (askedOf s i .answer) (stationPart s i) old)
-    by-there true e = (
-      ap₂ (λ (x : Asked) (y : List ℕ). partWrote (x .answer) y old) pa (same-text e),
-      ap₂ (λ (x : Asked) (y : List ℕ). partOutput (x .answer) y old) pa (same-text e),
-    )
-    by-there false e = (
-      ap (λ (x : Asked). partWrote (x .answer) given old) pa ∙ simp e,
-      ap (λ (x : Asked). partOutput (x .answer) given old) pa ∙ simp e,
-    )
+        → partWriting (asked .answer) given old ≡ partWriting (askedOf s i .answer) (stationPart s i) old
+    by-there true e = ap₂ (λ (x : Asked) (y : List ℕ). partWriting (x .answer) y old) pa (same-text e)
+    by-there false e = ap (λ (x : Asked). partWriting (x .answer) given old) pa ∙ simp e
 
-    pub station-given : (partWrote (asked .answer) given old ≡ partWrote (askedOf s i .answer) (stationPart s i) old)
-        × (partOutput (asked .answer) given old ≡ partOutput (askedOf s i .answer) (stationPart s i) old)
+    pub station-given : partWriting (asked .answer) given old ≡ partWriting (askedOf s i .answer) (stationPart s i) old
     station-given = by-there (isThere (askedOf s i .answer)) refl

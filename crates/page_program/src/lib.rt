@@ -4,11 +4,11 @@ ghost use mathlib.Core.Path.{_≡_};
 ghost use Rattle.station.specs.Holding.{isWaiting};
 ghost use Rattle.sets.specs.Rooms.{inRoom};
 ghost use Rattle.report.specs.Answers.{askedOf};
-ghost use Rattle.console.specs.Outputs.{Counts, wroteBy, outputBy};
-ghost use Rattle.page_part.specs.Parts.{partWrote, partOutput};
+ghost use Rattle.console.specs.Outputs.{Counts, wroteBy};
+ghost use Rattle.fields.specs.Output.{withRoom, writingOutput};
+ghost use Rattle.page_part.specs.Parts.{partWriting};
 ghost use Rattle.page_program.specs.Page.{stationPart};
 ghost use mathlib.Core.Bool.{true};
-ghost use lib.Dec.{leb};
 ghost use lib.ListN.{length};
 ghost use Rattle.tally.specs.Sums.{added};
 ghost use Rattle.page_program.specs.Counting.{byteCounted, counting, countsText};
@@ -25,8 +25,9 @@ fn place_of(i: u8) -> usize
 // Station i's part of the page. Refusals in their order: 11, 6, 10; none of them touches the output.
 // Promise: the part of station i, from the answers of `report::reach` and `report::report` for it.
 pub fn put_station(s: State, i: u8, out: &mut [u8]) -> Wrote
-    ensures answer { λ r. ⌜ r ≡ partWrote (askedOf s i .answer) (stationPart s i) (now (out .entry)) ⌝ }
-    ensures output { λ r. ⌜ now (out .exit) ≡ partOutput (askedOf s i .answer) (stationPart s i) (now (out .entry)) ⌝ }
+    ensures answer { λ r. ⌜ r ≡ wroteBy (partWriting (askedOf s i .answer) (stationPart s i) (now (out .entry))) ⌝ }
+    ensures output { λ r. ⌜ now (out .exit) ≡ writingOutput (partWriting (askedOf s i .answer) (stationPart s i) (now (out .entry)))
+        (now (out .entry)) ⌝ }
     ensures room { λ r. ⌜ Counts (r .written) (now (out .exit)) ⌝ }
 {
     let asked = report::reach(s, i as u32);
@@ -42,7 +43,7 @@ pub fn put_station(s: State, i: u8, out: &mut [u8]) -> Wrote
         i,
         asked.reached.ones,
         asked.reached.lowest,
-        station::is_waiting(condition),
+        station_kinds::is_waiting(condition),
         seen,
         out,
     )
@@ -103,8 +104,8 @@ pub fn count_answers(bytes: &[u8], before: Answers) -> Answers
 // The page's first line.
 // Promise: `T events taken, R refused`.
 pub fn put_counts(a: Answers, out: &mut [u8]) -> Wrote
-    ensures answer { λ r. ⌜ r ≡ wroteBy (leb 64 (length (now (out .entry)))) (countsText (a .taken) (a .refused)) ⌝ }
-    ensures output { λ r. ⌜ now (out .exit) ≡ outputBy (leb 64 (length (now (out .entry)))) (countsText (a .taken) (a .refused))
+    ensures answer { λ r. ⌜ r ≡ wroteBy (withRoom 64 (countsText (a .taken) (a .refused)) (now (out .entry))) ⌝ }
+    ensures output { λ r. ⌜ now (out .exit) ≡ writingOutput (withRoom 64 (countsText (a .taken) (a .refused)) (now (out .entry)))
         (now (out .entry)) ⌝ }
     ensures room { λ r. ⌜ Counts (r .written) (now (out .exit)) ⌝ }
 {

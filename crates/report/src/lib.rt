@@ -68,7 +68,8 @@ fn number_of(good: bool, stations: u8, a: u32, condition: Condition) -> u8
     if stations as u32 <= a {
         return 6;
     }
-    if station::is_live(condition) { 0 } else { 7 }
+    let live = station_kinds::is_live(condition);
+    if live { 0 } else { 7 }
 }
 
 // ---- The reach report of a live station, as bytes. The call reads the state it is given and changes nothing of it. Only the public

@@ -50,7 +50,7 @@ fn is_blank(st: Station) -> bool
     ensures { λ r. ⌜ r ≡ isBlank st ⌝ }
 {
     let condition = st.condition;
-    if !sets::both(station::is_down(condition), no_words(st.marks)) {
+    if !sets::both(station_kinds::is_down(condition), no_words(st.marks)) {
         return false;
     }
     for k in 0..MOST_LINKS {
@@ -172,7 +172,7 @@ fn down_station(net: Net) -> Station
 {
     Station {
         condition: Condition::Down,
-        counters: station::fresh_counters(net.links),
+        counters: station_table::fresh_counters(net.links),
         marks: Words {
             token: 0,
             turn: 0,

@@ -102,7 +102,7 @@ pub fn station_formed(net: Net, s: u8, st: Station) -> bool
         return false;
     }
     let m = sets::at_most_64(net.links);
-    let live = station::is_live(condition);
+    let live = station_kinds::is_live(condition);
     for k in 0..MOST_LINKS {
         let i = k as usize;
         if !counter_formed(k < m, live, st.counters[i]) {

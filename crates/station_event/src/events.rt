@@ -146,7 +146,7 @@ fn tests_on(own: u64, w: Words) -> u64
 fn may_end(condition: Condition, m: Marks) -> bool
     ensures { λ r. ⌜ r ≡ mayEnd condition m ⌝ }
 {
-    if !station::is_live(condition) {
+    if !station_kinds::is_live(condition) {
         return false;
     }
     if m.testing {
@@ -159,7 +159,7 @@ fn may_end(condition: Condition, m: Marks) -> bool
 fn plan_start(own: u64, condition: Condition, w: Words) -> Plan
     ensures { λ r. ⌜ r ≡ ownPlan Start own 0 0 condition w ⌝ }
 {
-    if !station::is_down(condition) {
+    if !station_kinds::is_down(condition) {
         return crate::staying(7, 0, 0, condition, w);
     }
     let token = Words {
@@ -176,7 +176,7 @@ fn plan_start(own: u64, condition: Condition, w: Words) -> Plan
 fn plan_stop(condition: Condition, w: Words) -> Plan
     ensures { λ r. ⌜ r ≡ ownPlan Stop 0 0 0 condition w ⌝ }
 {
-    if station::is_down(condition) {
+    if station_kinds::is_down(condition) {
         return crate::staying(7, 0, 0, condition, w);
     }
     let none = Words {
@@ -193,7 +193,7 @@ fn plan_stop(condition: Condition, w: Words) -> Plan
 fn plan_recovery(own: u64, condition: Condition, w: Words) -> Plan
     ensures { λ r. ⌜ r ≡ ownPlan Recovery own 0 0 condition w ⌝ }
 {
-    if !station::is_waiting(condition) {
+    if !station_kinds::is_waiting(condition) {
         return crate::staying(7, 0, 0, condition, w);
     }
     let requests = tests_on(own, w);

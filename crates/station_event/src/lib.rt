@@ -174,7 +174,7 @@ fn hearing(
 ) -> Heard
     ensures { λ r. ⌜ r ≡ (if hears condition (marksAt w k) then bodyAnswer me sender (marksAt w k) c told body else Gone) ⌝ }
 {
-    if !station::is_live(condition) {
+    if !station_kinds::is_live(condition) {
         return Heard::Gone;
     }
     if sets::has(w.quiet, k) {

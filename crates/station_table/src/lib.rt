@@ -2,12 +2,14 @@
 // leaves. Inner doors: the call is the network's step.
 ghost use mathlib.Core.Path.{_≡_};
 ghost use Prim.Native.Nat.{min};
-ghost use lib.ListN.{getD};
+ghost use lib.ListN.{getD, replicate};
 ghost use Rattle.net.specs.Sizes.{linkRoom};
 ghost use Rattle.station_plan.specs.Carrying.{toldBy, narrowed, keptBy};
+ghost use Rattle.station.specs.Values.{freshTable};
 ghost use lib.Dec.{ltb};
 ghost use Rattle.sets.specs.Sets.{wordBy, upTo};
 use counters::Counters;
+use net::LINK_ROOM;
 use net::MOST_LINKS;
 use net::Net;
 use station::Sending;
@@ -56,7 +58,7 @@ pub fn kept_table(net: Net, me: u8, resets: bool, purges: bool, table: Counters)
     ensures { λ r. ⌜ r ≡ keptBy net me resets purges table ⌝ }
 {
     if resets {
-        return station::fresh_counters(net.links);
+        return fresh_counters(net.links);
     }
     if purges {
         let working = reach::working_links(net.links, table);
@@ -77,4 +79,24 @@ fn known_links(links: u8, counters: Counters) -> u64
         known = sets::put(known, k, 1 < c);
     }
     known
+}
+
+fn no_counters() -> Counters
+    ensures { λ r. ⌜ r ≡ replicate linkRoom 0 ⌝ }
+{
+    [0u16; LINK_ROOM]
+}
+
+// The table of a station that knows of no link: every counter 1.
+// Promise: equals `Values.freshTable`: counter 1 for each link that is there, the unused room zero.
+pub fn fresh_counters(links: u8) -> Counters
+    ensures { λ r. ⌜ r ≡ freshTable (min links linkRoom) ⌝ }
+{
+    let there = sets::at_most_64(links);
+    let mut counters = no_counters();
+    for k in 0..there {
+        let i = k as usize;
+        counters[i] = 1;
+    }
+    counters
 }

@@ -223,10 +223,27 @@ fn number_of(planned: u8, left: u16, count: u16) -> u8
     }
 }
 
-fn pick(on: bool, a: usize, b: usize) -> usize
-    ensures { λ r. ⌜ r ≡ (if on then a else b) ⌝ }
+// Where a letter leaves, the later ones close up from its place on, and the last place falls free. Where none does, none moves, and what is
+// laid down again stands where it was.
+struct Gap {
+    from: usize,
+    free: usize,
+}
+
+fn gap_of(leaves: bool, place: usize, last: usize) -> Gap
+    ensures from { λ r. ⌜ r .from ≡ (if leaves then place else last) ⌝ }
+    ensures free { λ r. ⌜ r .free ≡ (if leaves then last else place) ⌝ }
 {
-    if on { a } else { b }
+    if leaves {
+        return Gap {
+            from: place,
+            free: last,
+        };
+    }
+    Gap {
+        from: last,
+        free: place,
+    }
 }
 
 // What stands at the place that falls free: nothing, or where none does, the letter that is there.
@@ -262,7 +279,7 @@ pub fn step(mut s: State, kind: u32, a: u32, b: u32) -> Stepped
     }
     let net = s.net;
     let flying = s.flying;
-    let what = station::kind_of(kind);
+    let what = station_kinds::kind_of(kind);
     // what the event names
     let place = place_of(a);
     let x = s.letters[place];
@@ -320,14 +337,14 @@ pub fn step(mut s: State, kind: u32, a: u32, b: u32) -> Stepped
     };
     // the later letters close up
     let last = left as usize;
-    let from = pick(leaves, place, last);
-    for i in from..last {
+    let gap = gap_of(leaves, place, last);
+    for i in gap.from..last {
         let j = i + 1;
         let y = s.letters[j];
         s.letters[i] = y;
     }
-    let free = pick(leaves, last, place);
     let unused = freed(leaves, x);
+    let free = gap.free;
     s.letters[free] = unused;
     // new letters go to the end
     let mut post = post::begun(send);

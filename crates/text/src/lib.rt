@@ -5,6 +5,7 @@ ghost use mathlib.Core.Path.{_≡_};
 ghost use Prim.Native.Nat.{_≤_, _<_};
 ghost use lib.ListN.{length, drop};
 ghost use Rattle.text.specs.Text.{digits, hexDigit, hexPair, putAt, placeAfter};
+ghost use Rattle.text.specs.Parts.{fieldText, hexText};
 
 // A word as it stands.
 // Promise: the word at that place, all else as it was, and the place behind it; a place past the end where it does not fit.
@@ -35,8 +36,7 @@ fn hex_digit(n: u8) -> u8
 }
 
 // A byte as two hexadecimal digits, upper case.
-// Promise: two hexadecimal digits at that place, all else as it was, and the place behind it; a place past the end where they do not fit.
-pub fn put_hex(out: &mut [u8], at: usize, byte: u8) -> usize
+fn put_hex(out: &mut [u8], at: usize, byte: u8) -> usize
     ensures place { λ r. ⌜ r ≡ placeAfter (hexPair byte) at (now (out .entry)) ⌝ }
     ensures output { λ r. ⌜ now (out .exit) ≡ putAt (hexPair byte) at (now (out .entry)) ⌝ }
 {
@@ -72,4 +72,39 @@ pub fn put_number(out: &mut [u8], at: usize, n: u64) -> usize
     let mut room = [0u8; 20];
     let start = spell(&mut room, n);
     put_word(out, at, &room[start..])
+}
+
+// Bytes in hexadecimal, two digits each, upper case.
+// Promise: two hexadecimal digits for each byte at that place, all else as it was, and the place behind them; a place past the end where they
+// do not all fit.
+pub fn put_bytes(out: &mut [u8], at: usize, bytes: &[u8]) -> usize
+    ensures place { λ r. ⌜ r ≡ placeAfter (hexText (now (bytes .entry))) at (now (out .entry)) ⌝ }
+    ensures output { λ r. ⌜ now (out .exit) ≡ putAt (hexText (now (bytes .entry))) at (now (out .entry)) ⌝ }
+{
+    // all the digits or none
+    if out.len() < at {
+        return out.len() + 1;
+    }
+    if (out.len() - at) / 2 < bytes.len() {
+        return out.len() + 1;
+    }
+    let mut to = at;
+    for i in 0..bytes.len() {
+        to = put_hex(out, to, bytes[i]);
+    }
+    to
+}
+
+// A number and a space.
+// Promise: the number's decimal digits and a space at that place, all else as it was, and the place behind them; a place past the end where
+// they do not fit.
+pub fn put_field(out: &mut [u8], at: usize, n: u16) -> usize
+    ensures place { λ r. ⌜ r ≡ placeAfter (fieldText n) at (now (out .entry)) ⌝ }
+    ensures output { λ r. ⌜ now (out .exit) ≡ putAt (fieldText n) at (now (out .entry)) ⌝ }
+{
+    // no 16-bit number has more than five digits; spelled here first, so that it is put whole or not at all
+    let mut room = [0u8; 6];
+    let digits = put_number(&mut room, 0, n as u64);
+    let end = put_word(&mut room, digits, b" ");
+    put_word(out, at, &room[..end])
 }

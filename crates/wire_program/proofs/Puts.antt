@@ -8,9 +8,9 @@ use Rattle.text.specs.Text.{putAt, placeAfter}
 use Rattle.text.proofs.Puts.{same-text}
 use Rattle.console.specs.Outputs.{Put}
 use Rattle.console.proofs.Puts.{put-of, put-then, put-size}
-use Rattle.wire_program.specs.Parts.{fieldText, hexText}
+use Rattle.text.specs.Parts.{fieldText, hexText}
 use Rattle.wire_program.proofs.Rooms.{Back}
-use Rattle.wire_program.proofs.Texts.{text-length, field-length}
+use Rattle.text.proofs.Parts.{text-length, field-length}
 
 module _ {xs : List ℕ} {m at : ℕ} {old : List ℕ} {a : ℕ} {mid : List ℕ} (p : Put xs m at old a mid) where
   pub text-more : (ys : List ℕ) (n : ℕ) {b : ℕ} {new : List ℕ} → length ys ≤ n → at + (m + n) ≤ length old

@@ -24,7 +24,7 @@ use Rattle.text.specs.Text.{digits}
 use Rattle.console.specs.declared.Opened.{Opened}
 use Rattle.console.specs.Sheets.{fileSheet, openedBy}
 use Rattle.console.proofs.Goods.{file-holds}
-use Rattle.wire_program.specs.Parts.{newline}
+use Rattle.text.specs.Parts.{newline}
 use Rattle.wire_program.proofs.Rooms.{Back, back}
 use Rattle.wire_program.specs.Line.{sheetWord, sheetText}
 

@@ -16,7 +16,7 @@ use Rattle.net.specs.Values.{networkOf}
 use Rattle.letters.specs.Letters.{Letters, refused, letter, writeLetter}
 use Rattle.letters.specs.Values.{reading}
 use Rattle.console.specs.Sheets.{refusalText}
-use Rattle.wire_program.specs.Parts.{fieldText, hexText, newline}
+use Rattle.text.specs.Parts.{fieldText, hexText, newline}
 
 -- "0 request ", "0 reply ", "0 notice "
 abbrev pub kindWord : Body → List ℕ

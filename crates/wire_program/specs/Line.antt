@@ -4,7 +4,7 @@ use mathlib.Core.List.{List, [], _∷_, _++_}
 use lib.ListN.{length}
 use Rattle.text.specs.Text.{digits}
 use Rattle.sheet.specs.Sheet as Sheets
-use Rattle.wire_program.specs.Parts.{fieldText, hexText, newline}
+use Rattle.text.specs.Parts.{fieldText, hexText, newline}
 
 -- "sheet ", "sheet 0 "
 abbrev pub sheetWord : List ℕ

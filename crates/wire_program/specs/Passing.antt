@@ -1,11 +1,9 @@
 -- What the code answers for a piece of the input, and for every network value. proofs/Program.antt: the pieces of an input give what
 -- specs/Wire.antt says of the whole of it.
-use Prim.Native.Nat.{ℕ, _/_}
-use mathlib.Core.Bool.{Bool}
+use Prim.Native.Nat.{ℕ, _*_}
 use mathlib.Core.List.{List}
-use lib.Dec.{leb}
 use lib.ListN.{length}
-use Rattle.lists.specs.Lists.{if_then_else_}
+use Rattle.fields.specs.Output.{Writing, denied, writes, withRoom}
 use Rattle.hex_lines.specs.declared.HexReading.{HexReading}
 use Rattle.hex_lines.specs.Hex.{HexText, malformed, octets}
 use Rattle.hex_lines.specs.HexSteps.{hexStart, readHex, hexEnd, hexSays}
@@ -35,11 +33,12 @@ abbrev pub texts : Net → HexReading → List ℕ → List ℕ
 texts = textAfter hexStart readHex saidBy acted spoken
 
 -- ---- with lent output: 64 bytes for each byte of the input, or 10
-abbrev pub enough : List ℕ → List ℕ → Bool
-enough bytes old = leb (length bytes) (length old / 64)
+abbrev pub written : Net → HexReading → List ℕ → List ℕ → Writing
+written net r bytes old = withRoom (64 * length bytes) (texts net r bytes) old
 
 abbrev pub passedAs : ℕ → ℕ → HexReading → Passed
 passedAs answer written r = record { answer = answer; written = written; reading = r }
 
-abbrev pub passedBy : Bool → Net → HexReading → List ℕ → Passed
-passedBy enough net r bytes = if enough then passedAs 0 (length (texts net r bytes)) (lineAfter net r bytes) else passedAs 10 0 r
+abbrev pub passedBy : Writing → Net → HexReading → List ℕ → Passed
+passedBy (denied k) net r bytes = passedAs k 0 r
+passedBy (writes text) net r bytes = passedAs 0 (length text) (lineAfter net r bytes)

@@ -3,11 +3,10 @@
 ghost use mathlib.Core.Path.{_≡_};
 ghost use Prim.Native.Nat.{_+_, _≤_};
 ghost use lib.ListN.{length, getD};
-ghost use Rattle.console.specs.Outputs.{Counts, outputBy, Put, wroteBy};
-ghost use Rattle.wire_program.specs.Passing.{saidBy, spoken, texts, enough, passedBy};
-ghost use Rattle.text.specs.Text.{putAt, placeAfter};
-ghost use Rattle.wire_program.specs.Parts.{fieldText, hexText};
-ghost use lib.Dec.{T, leb};
+ghost use Rattle.console.specs.Outputs.{Counts, Put, wroteBy};
+ghost use Rattle.fields.specs.Output.{withRoom, writingOutput};
+ghost use Rattle.wire_program.specs.Passing.{saidBy, spoken, written, passedBy};
+ghost use lib.Dec.{T};
 ghost use Rattle.net.specs.Values.{networkOf};
 ghost use Rattle.sheet_rules.specs.Values.{netHolds};
 ghost use Rattle.sheet.specs.Sheet.{sheet};
@@ -46,9 +45,9 @@ pub struct Passed {
 // Reads and writes back the letters whose lines end in these bytes.
 // Promise: that line for each letter whose line ends in these bytes.
 pub fn run_letters(net: Net, r: HexReading, bytes: &[u8], out: &mut [u8]) -> Passed
-    ensures answer { λ n. ⌜ n ≡ passedBy (enough (now (bytes .entry)) (now (out .entry))) net r (now (bytes .entry)) ⌝ }
-    ensures output { λ n. ⌜ now (out .exit) ≡ outputBy (enough (now (bytes .entry)) (now (out .entry)))
-        (texts net r (now (bytes .entry))) (now (out .entry)) ⌝ }
+    ensures answer { λ n. ⌜ n ≡ passedBy (written net r (now (bytes .entry)) (now (out .entry))) net r (now (bytes .entry)) ⌝ }
+    ensures output { λ n. ⌜ now (out .exit) ≡ writingOutput (written net r (now (bytes .entry)) (now (out .entry)))
+        (now (out .entry)) ⌝ }
     ensures room { λ n. ⌜ Counts (n .written) (now (out .exit)) ⌝ }
 {
     // no line is longer than 64 bytes, and none is without a byte of input
@@ -79,40 +78,6 @@ pub fn run_letters(net: Net, r: HexReading, bytes: &[u8], out: &mut [u8]) -> Pas
     }
 }
 
-// ---- The parts of the wire program's lines, put like crate `text`'s words: where a part does not fit whole, nothing is touched and the
-// answer is one beyond the output's end.
-
-// Bytes in hexadecimal, two digits each, upper case, put as crate `text` puts a word.
-fn put_bytes(out: &mut [u8], at: usize, bytes: &[u8]) -> usize
-    ensures place { λ r. ⌜ r ≡ placeAfter (hexText (now (bytes .entry))) at (now (out .entry)) ⌝ }
-    ensures output { λ r. ⌜ now (out .exit) ≡ putAt (hexText (now (bytes .entry))) at (now (out .entry)) ⌝ }
-{
-    // all the digits or none
-    if out.len() < at {
-        return out.len() + 1;
-    }
-    if (out.len() - at) / 2 < bytes.len() {
-        return out.len() + 1;
-    }
-    let mut to = at;
-    for i in 0..bytes.len() {
-        to = text::put_hex(out, to, bytes[i]);
-    }
-    to
-}
-
-// A number and a space, put as crate `text` puts a word.
-fn put_field(out: &mut [u8], at: usize, n: u16) -> usize
-    ensures place { λ r. ⌜ r ≡ placeAfter (fieldText n) at (now (out .entry)) ⌝ }
-    ensures output { λ r. ⌜ now (out .exit) ≡ putAt (fieldText n) at (now (out .entry)) ⌝ }
-{
-    // no 16-bit number has more than five digits; spelled here first, so that it is put whole or not at all
-    let mut room = [0u8; 6];
-    let digits = text::put_number(&mut room, 0, n as u64);
-    let end = text::put_word(&mut room, digits, b" ");
-    text::put_word(out, at, &room[..end])
-}
-
 // ---- The wire program's first line, on bytes and values alone: the sheet written back, or the number of a refused one.
 
 // No sheet is longer: the first field, 64 links, the last field.
@@ -139,18 +104,18 @@ fn put_network(out: &mut [u8], net: Net) -> usize
     let mut room = sheet_room();
     let n = sheet_size(sheet::write(net, &mut room));
     let a = text::put_word(out, 0, b"sheet 0 ");
-    let b = put_field(out, a, net.stations as u16);
-    let c = put_field(out, b, net.links as u16);
-    let d = put_bytes(out, c, &room[..n]);
+    let b = text::put_field(out, a, net.stations as u16);
+    let c = text::put_field(out, b, net.links as u16);
+    let d = text::put_bytes(out, c, &room[..n]);
     text::put_word(out, d, b"\n")
 }
 
 // `sheet 0 STATIONS LINKS HEX`, or `sheet N` for a refused one.
 // Promise: the wire program's first line.
 pub fn put_sheet(file: &[u8], out: &mut [u8]) -> Wrote
-    ensures answer { λ r. ⌜ r ≡ wroteBy (leb sheetMost (length (now (out .entry)))) (sheetText (fileSheet (now (file .entry)))) ⌝ }
-    ensures output { λ r. ⌜ now (out .exit) ≡ outputBy (leb sheetMost (length (now (out .entry))))
-        (sheetText (fileSheet (now (file .entry)))) (now (out .entry)) ⌝ }
+    ensures answer { λ r. ⌜ r ≡ wroteBy (withRoom sheetMost (sheetText (fileSheet (now (file .entry)))) (now (out .entry))) ⌝ }
+    ensures output { λ r. ⌜ now (out .exit) ≡ writingOutput
+        (withRoom sheetMost (sheetText (fileSheet (now (file .entry)))) (now (out .entry))) (now (out .entry)) ⌝ }
     ensures room { λ r. ⌜ Counts (r .written) (now (out .exit)) ⌝ }
 {
     if out.len() < 700 {
@@ -197,10 +162,10 @@ fn put_body(out: &mut [u8], at: usize, body: Body) -> usize
 {
     match body {
         Body::Request => at,
-        Body::Reply(c) => put_field(out, at, c),
+        Body::Reply(c) => text::put_field(out, at, c),
         Body::Notice(j, c) => {
-            let to = put_field(out, at, j as u16);
-            put_field(out, to, c)
+            let to = text::put_field(out, at, j as u16);
+            text::put_field(out, to, c)
         }
     }
 }
@@ -231,10 +196,10 @@ fn put_letter(out: &mut [u8], at: usize, net: Net, letter: Letter) -> usize
     let n = letter_size(letters::write(net, letter, &mut room));
     let body = letter.body;
     let a = put_kind(out, at, body);
-    let b = put_field(out, a, letter.link);
-    let c = put_field(out, b, letter.sender);
+    let b = text::put_field(out, a, letter.link);
+    let c = text::put_field(out, b, letter.sender);
     let d = put_body(out, c, body);
-    let e = put_bytes(out, d, &room[..n]);
+    let e = text::put_bytes(out, d, &room[..n]);
     text::put_word(out, e, b"\n")
 }
 

@@ -1,7 +1,9 @@
+use Rattle.fields.specs.Output.{Writing, writingOutput}
 use Rattle.report.proofs.AskingHelpers.{place-few}
+use Rattle.console.specs.Outputs.{wroteBy}
 use Rattle.page_program.proofs.Given.{station-given}
 use denote.Ref.{now}
-use mathlib.Core.Path.{_∙_}
+use mathlib.Core.Path.{ap, _∙_}
 use native.Mathlib.Omega.{arith}
 use borrow.Author.Needs.{needs}
 use Rattle.page_program.proofs.put_station.Statement.{statement}
@@ -46,7 +48,7 @@ returns c =
     let p = at-part .put-part .ensures in
     let same = station-given (a .t1) (a .i) (now (a .out)) _ _ _ _ (at-reach .reach .ensures) (at-report .report .ensures .1)
     (at-place-of .place-of .ensures) (at-is-waiting .is-waiting .ensures) in
-    (p .0 ∙ same .0, (p .1 .0 ∙ same .1, p .1 .1))
+    (p .0 ∙ ap wroteBy same, (p .1 .0 ∙ ap (λ (w : Writing). writingOutput w (now (a .out))) same, p .1 .1))
 
 pub put-station-spec : {M : Type 1} → statement M
 put-station-spec =

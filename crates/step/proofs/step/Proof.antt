@@ -32,22 +32,22 @@ use Rattle.step.proofs.step.Statement.{statement}
 use Rattle.step.proofs.step.Tie as tie
 
 abbrev Inv-loop : tie.InvT-loop
-Inv-loop kind a b s₀ flying place x me named k about own who on of plan told send count leaves left answer last from i₀ s i =
-    (from ≤ i) × (i ≤ last) × (from < last → last < letterRoom) × (length (s₀ .letters) ≡ letterRoom)
-    × (s ≡ withLetters s₀ (closing from (s₀ .letters) i))
+Inv-loop kind a b s₀ flying place x me named k about own who on of plan told send count leaves left answer last gap i₀ s i =
+    (gap .from ≤ i) × (i ≤ last) × (gap .from < last → last < letterRoom) × (length (s₀ .letters) ≡ letterRoom)
+    × (s ≡ withLetters s₀ (closing (gap .from) (s₀ .letters) i))
 
 abbrev μ-loop : tie.MeasureT-loop
-μ-loop kind a b s₀ flying place x me named k about own who on of plan told send count leaves left answer last from i₀ s i = last - i
+μ-loop kind a b s₀ flying place x me named k about own who on of plan told send count leaves left answer last gap i₀ s i = last - i
 
 abbrev Inv-loop2 : tie.InvT-loop2
-Inv-loop2 kind a b s₀ flying place me named k about own who on of plan told count leaves left answer last from free post₀ i₀ s post i =
+Inv-loop2 kind a b s₀ flying place me named k about own who on of plan told count leaves left answer last free post₀ i₀ s post i =
     (i ≤ count) × (last + count ≤ letterRoom) × (count ≡ length (posted me told post₀)) × Going post
     × (posted me told post ≡ drop i (posted me told post₀)) × (s ≡ withLetters s₀ (s .letters)) × (length told ≡ linkRoom)
     × ((ls : List Letter) → s₀ .letters ≡ roomed letterRoom noLetter ls → length ls ≡ last
     → s .letters ≡ roomed letterRoom noLetter (ls ++ take i (posted me told post₀)))
 
 abbrev μ-loop2 : tie.MeasureT-loop2
-μ-loop2 kind a b s₀ flying place me named k about own who on of plan told count leaves left answer last from free post₀ i₀ s post i =
+μ-loop2 kind a b s₀ flying place me named k about own who on of plan told count leaves left answer last free post₀ i₀ s post i =
     count - i
 
 -- what is read is within its room
@@ -145,14 +145,14 @@ told-size : (c : tie.After-told-table Inv-loop μ-loop Inv-loop2 μ-loop2) → l
 told-size c = search needs
 
 -- the answer, from where the letters begin to close up and from where new letters begin to be put
-abbrev closes : tie.After-pick Inv-loop μ-loop Inv-loop2 μ-loop2 → Answered
+abbrev closes : tie.After-gap-of Inv-loop μ-loop Inv-loop2 μ-loop2 → Answered
 closes c = c .before .before .before .before
 
-abbrev puts : tie.After-begun Inv-loop μ-loop Inv-loop2 μ-loop2 → tie.After-pick Inv-loop μ-loop Inv-loop2 μ-loop2
-puts c = c .before .before .before .before .before
+abbrev puts : tie.After-begun Inv-loop μ-loop Inv-loop2 μ-loop2 → tie.After-gap-of Inv-loop μ-loop Inv-loop2 μ-loop2
+puts c = c .before .before .before .before
 
 -- the state at these two
-abbrev closesFrom : tie.After-pick Inv-loop μ-loop Inv-loop2 μ-loop2 → State
+abbrev closesFrom : tie.After-gap-of Inv-loop μ-loop Inv-loop2 μ-loop2 → State
 closesFrom c =
     let a = begunAt (closes c) .args in
     let p = planAt (closes c) .plan-event .result in
@@ -161,8 +161,8 @@ closesFrom c =
 
 abbrev putsFrom : tie.After-begun Inv-loop μ-loop Inv-loop2 μ-loop2 → State
 putsFrom c =
-    withLetters (c .before .before .before .before .loop .s)
-    (set (c .before .before .before .before .loop .s .letters) (c .before .before .pick2 .result) (c .before .freed .result))
+    withLetters (c .before .before .before .loop .s)
+    (set (c .before .before .before .loop .s .letters) (puts c .gap-of .result .free) (c .before .freed .result))
 
 well-formed-requires : tie.Need-well-formed-requires Inv-loop μ-loop Inv-loop2 μ-loop2
 well-formed-requires c κs = search needs
@@ -264,15 +264,15 @@ element-set-from-s c = who-within (meAt (c .before .before .before))
 cast-last : tie.Need-cast-last Inv-loop μ-loop Inv-loop2 μ-loop2
 cast-last c = omega arith
 
-pick-requires : tie.Need-pick-requires Inv-loop μ-loop Inv-loop2 μ-loop2
-pick-requires c κs = search needs
+gap-of-requires : tie.Need-gap-of-requires Inv-loop μ-loop Inv-loop2 μ-loop2
+gap-of-requires c κs = search needs
 
 loop-holds : tie.Need-loop-holds Inv-loop μ-loop Inv-loop2 μ-loop2
 loop-holds c =
     let f = facts (closes c) in
-    let r = closes-within f (c .before .before .before .if2 .left) (c .pick .result) (closes c .before .left-of .result) refl
-    (c .pick .ensures) in
-    (omega arith, r .0, r .1, f .seen .sized .letters, not-shifted (closesFrom c) (c .pick .result))
+    let r = closes-within f (c .before .before .before .if2 .left) (c .gap-of .result .from) (closes c .before .left-of .result) refl
+    (c .gap-of .ensures .0) in
+    (omega arith, r .0, r .1, f .seen .sized .letters, not-shifted (closesFrom c) (c .gap-of .result .from))
 
 add-j : tie.Need-add-j Inv-loop μ-loop Inv-loop2 μ-loop2
 add-j c = omega arith
@@ -303,30 +303,27 @@ loop-again c =
       omega arith,
       l .inv .2,
       l .inv .3,
-      shifted (closesFrom (c .before .before .before)) (l .s) (c .before .before .before .pick .result) (l .i) (l .inv .0)
+      shifted (closesFrom (c .before .before .before)) (l .s) (c .before .before .before .gap-of .result .from) (l .i) (l .inv .0)
           (omega (arith, l .inv .3, few)) (l .inv .4),
     )
-
-pick-requires-2 : tie.Need-pick-requires-2 Inv-loop μ-loop Inv-loop2 μ-loop2
-pick-requires-2 c κs = search needs
 
 freed-requires : tie.Need-freed-requires Inv-loop μ-loop Inv-loop2 μ-loop2
 freed-requires c κs = search needs
 
 mul-unused : tie.Need-mul-unused Inv-loop μ-loop Inv-loop2 μ-loop2
 mul-unused c =
-    let p = c .before .before .before .before in
+    let p = c .before .before .before in
     let left = closes p .before .left-of .result in
     omega (
       arith,
-      free-within (facts (closes p)) (p .before .before .before .if2 .left) left (c .before .pick2 .result) refl
-          (c .before .pick2 .ensures),
+      free-within (facts (closes p)) (p .before .before .before .if2 .left) left (p .gap-of .result .free) refl
+          (p .gap-of .ensures .1),
     )
 
 element-set-from-unused : tie.Need-element-set-from-unused Inv-loop μ-loop Inv-loop2 μ-loop2
 element-set-from-unused c =
-    let p = c .before .before .before .before in
-    free-within (facts (closes p)) (p .before .before .before .if2 .left) _ _ refl (c .before .pick2 .ensures)
+    let p = c .before .before .before in
+    free-within (facts (closes p)) (p .before .before .before .if2 .left) _ _ refl (p .gap-of .ensures .1)
 
 begun-requires : tie.Need-begun-requires Inv-loop μ-loop Inv-loop2 μ-loop2
 begun-requires c κs = search needs
@@ -416,7 +413,7 @@ returns-3 c =
     let f = facts n in
     let q = puts b .before .before .before .if2 .left in
     let l = c .before .before .loop2 in
-    let m = b .before .before .before .before .loop in
+    let m = b .before .before .before .loop in
     let me = meOf n in
     let told = toldOf n in
     let left = n .before .left-of .result in
@@ -425,13 +422,13 @@ returns-3 c =
     let new = g .0 ∙ new-are f q in
     let end : m .i ≡ left = omega arith in
     let all : l .i ≡ length (posted me told post) = omega (arith, l .inv .2) in
-    let from = puts b .pick .result in
-    let free = b .before .before .pick2 .result in
+    let from = puts b .gap-of .result .from in
+    let free = puts b .gap-of .result .free in
     let unused = b .before .freed .result in
     let kept = puts b .before .before in
     let closed = ap (λ (x : State). set (x .letters) free unused) (m .inv .4)
     ∙ ap (λ (i : ℕ). set (closing from (a .t1 .letters) i) free unused) end
-    ∙ closed-up f q from left free unused refl (puts b .pick .ensures) (b .before .before .pick2 .ensures) (b .before .freed .ensures) in
+    ∙ closed-up f q from left free unused refl (puts b .gap-of .ensures .0) (puts b .gap-of .ensures .1) (b .before .freed .ensures) in
     let put = l .inv .7 (leftLetters f q) closed (left-length f q)
     ∙ ap (λ (x : List Letter). roomed letterRoom noLetter (leftLetters f q ++ x))
     (ap (λ (i : ℕ). take i (posted me told post)) all ∙ take-length (posted me told post) ∙ new) in
@@ -479,7 +476,7 @@ step-spec =
     mul-t52
     element-set-from-s
     cast-last
-    pick-requires
+    gap-of-requires
     loop-holds
     add-j
     mul-y
@@ -489,7 +486,6 @@ step-spec =
     add-i
     loop-less
     loop-again
-    pick-requires-2
     freed-requires
     mul-unused
     element-set-from-unused

@@ -1,6 +1,6 @@
 use Rattle.wire_program.proofs.LetterLineWritten.{letter-back}
 use Rattle.wire_program.specs.LetterLineLine.{kindWord, bodyText, letterText}
-use Rattle.wire_program.specs.Parts.{fieldText, newline}
+use Rattle.text.specs.Parts.{fieldText, newline}
 use Rattle.wire_program.proofs.Rooms.{Back}
 use Rattle.wire_program.proofs.Puts.{text-more, field-more, room-more}
 use Rattle.console.proofs.Puts.{put-then, put-size, put-wider}

@@ -1,6 +1,6 @@
 use Rattle.wire_program.proofs.Written.{sheet-back, stations-said, links-said}
 use Rattle.wire_program.specs.Line.{goodWord, sheetText, sheetMost}
-use Rattle.wire_program.specs.Parts.{fieldText, hexText, newline}
+use Rattle.text.specs.Parts.{fieldText, hexText, newline}
 use Rattle.wire_program.proofs.Rooms.{Back}
 use Rattle.wire_program.proofs.Puts.{text-more, field-more, room-more}
 use Rattle.console.proofs.Puts.{put-of, put-same, put-wider}

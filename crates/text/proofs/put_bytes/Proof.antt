@@ -1,8 +1,8 @@
-use Rattle.wire_program.proofs.Texts.{text-length, bytes-more, bytes-all}
-use Rattle.wire_program.specs.Parts.{hexText}
+use Rattle.text.proofs.Parts.{text-length, bytes-more, bytes-all}
+use Rattle.text.specs.Parts.{hexText}
 use Rattle.text.proofs.Chains.{Chain, chain-none}
 use Rattle.text.proofs.Puts.{left-over}
 use Rattle.text.specs.Text.{hexPair}
 use Rattle.lists.specs.Places.{collect}
 use denote.Ref.{now}
 use lib.ListN.{length, take}
@@ -10,8 +10,8 @@ use mathlib.Core.Path.{_≡_}
 use Prim.Native.Nat.{_≤_, _-_}
 use native.Mathlib.Omega.{arith}
 use borrow.Author.Needs.{needs}
-use Rattle.wire_program.proofs.put_bytes.Statement.{statement}
-use Rattle.wire_program.proofs.put_bytes.Tie as tie
+use Rattle.text.proofs.put_bytes.Statement.{statement}
+use Rattle.text.proofs.put_bytes.Tie as tie
 
 abbrev Inv-loop : tie.InvT-loop
 Inv-loop out₀ at bytes to₀ i₀ i-end out to i = (i ≤ i-end) × (i-end ≡ length bytes) × Chain (collect hexPair (take i bytes)) at out₀ to out

@@ -7,9 +7,9 @@ use borrow.Author.Needs.{needs}
 use Rattle.net.specs.Sizes.{linkRoom}
 use Rattle.lists.specs.Lists.{filled}
 use Rattle.lists.proofs.Fill.{filled-more}
 use Rattle.station.specs.Values.{freshTable}
-use Rattle.station.proofs.fresh_counters.Statement.{statement}
-use Rattle.station.proofs.fresh_counters.Tie as tie
+use Rattle.station_table.proofs.fresh_counters.Statement.{statement}
+use Rattle.station_table.proofs.fresh_counters.Tie as tie
 
 abbrev Inv-loop : tie.InvT-loop
 Inv-loop links m counters₀ k₀ counters k = (counters ≡ filled (λ j. 1) counters₀ k) × (k ≤ m)

@@ -4,11 +4,11 @@ use mathlib.Core.List.{List, [], _∷_}
 use native.Mathlib.Decide.{ℕ-discrete}
 use native.Mathlib.Omega.{arith}
 use lib.ListN.{List·getD-eq-default}
 use Rattle.station.specs.declared.Kind.{Kind}
 use Rattle.station.specs.declared.Kind.the-variants.{NoSuch, Start, Stop, Recovery, IntervalEnd, TimeoutEnd, QuietEnd, Delivery, Loss}
 use Rattle.station.specs.Events.{kindOf}
-use Rattle.station.proofs.kind_of.Statement.{statement}
-use Rattle.station.proofs.kind_of.Tie as tie
+use Rattle.station_kinds.proofs.kind_of.Statement.{statement}
+use Rattle.station_kinds.proofs.kind_of.Tie as tie
 
 returns : tie.Need-returns
 returns c = sym (ap kindOf (c .match .keys1))

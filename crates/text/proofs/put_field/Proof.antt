@@ -1,12 +1,12 @@
-use Rattle.wire_program.proofs.Texts.{Spelled, field-spelled}
+use Rattle.text.proofs.Parts.{Spelled, field-spelled}
 use Rattle.text.proofs.Puts.{same-text}
 use lib.Seq.{length-take-le}
 use mathlib.Core.Path.{sym}
 use Prim.Native.Nat.{_<_}
 use native.Mathlib.Omega.{arith}
 use borrow.Author.Needs.{needs}
-use Rattle.wire_program.proofs.put_field.Statement.{statement}
-use Rattle.wire_program.proofs.put_field.Tie as tie
+use Rattle.text.proofs.put_field.Statement.{statement}
+use Rattle.text.proofs.put_field.Tie as tie
 
 few : (c : tie.Start) → c .args .n < 65536
 few c = search needs

@@ -1,8 +1,8 @@
--- The parts of the wire program's lines. Their laws: proofs/Texts.antt.
+-- Parts of a line: a number and a space, bytes in hexadecimal, the end. Their laws: proofs/Parts.antt.
 use Prim.Native.Nat.{ℕ}
 use mathlib.Core.List.{List, [], _∷_, _++_}
 use Rattle.lists.specs.Places.{collect}
 use Rattle.text.specs.Text.{digits, hexPair}
 
 -- a number and a space
 unfoldable pub fieldText : ℕ → List ℕ

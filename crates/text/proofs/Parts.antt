@@ -1,4 +1,4 @@
--- The parts of a wire line: bytes in hexadecimal, put one after the other, and a number with its space, spelled into a room of six bytes.
+-- The parts of a line: bytes in hexadecimal, put one after the other, and a number with its space, spelled into a room of six bytes.
 use Prim.Native.Nat.{ℕ, _+_, _*_, _≤_, _<_}
 use mathlib.Core.Path.{_≡_, refl, sym, ap, _∙_, subst}
 use mathlib.Core.List.{List, [], _∷_, _++_, append-nil}
@@ -8,11 +8,11 @@ use lib.ListN.{length, getD, take, drop, length-append}
 use lib.Seq.{take-suc, take-length, take-at}
 use Rattle.lists.specs.Places.{collect}
 use Rattle.lists.proofs.Places.{collect-append}
 use Rattle.text.specs.Text.{digits, hexPair, putAt, placeAfter}
 use Rattle.text.proofs.Digits.{digits-at-most}
 use Rattle.text.proofs.Puts.{place-fits, put-fits}
 use Rattle.text.proofs.Chains.{Chain, chain-none, chain-next}
-use Rattle.wire_program.specs.Parts.{fieldText, hexText}
+use Rattle.text.specs.Parts.{fieldText, hexText}
 
 -- ---- bytes
 hex-more : (bytes : List ℕ) (i : ℕ) → i < length bytes
