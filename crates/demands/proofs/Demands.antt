@@ -57,7 +57,7 @@ use Rattle.laws.specs.Tallied.{everCounted}
 use Rattle.laws.proofs.Demand3 as Flood
 use Rattle.laws.proofs.Demand3.{DiesOut}
 use Rattle.laws.proofs.Neighbours.{neighbours-count}
-use Rattle.laws.proofs.Tallies.{Fits}
+use Rattle.tally.proofs.Sums.{Fits}
 use Rattle.laws.proofs.Joined as Joined
 use Rattle.laws.proofs.Joined.{Calls, Comes}
 use Rattle.laws.proofs.Cases as Cases

@@ -37,7 +37,7 @@ use Rattle.state.specs.declared.Begun.{Begun}
 use Rattle.step_rules.specs.declared.Stepped.{Stepped}
 use Rattle.step_rules.proofs.Bridge.{Good, IsStep, countsBy}
 use Rattle.laws.specs.Flood.{onlyNotices, carried, highest, neighbours, distance, share, bound}
-use Rattle.laws.proofs.Tallies.{Fits}
+use Rattle.tally.proofs.Sums.{Fits}
 use Rattle.laws.proofs.Demand3.{flood-of-notices-dies-out, at-the-end}
 use Rattle.laws.proofs.Calls as C
 use Rattle.laws.proofs.Joined as Joined

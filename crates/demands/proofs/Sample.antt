@@ -1,5 +1,5 @@
--- Document 01's own example, byte for byte: the event program's definition (crate `event_program`) is given the example's sheet and the text
--- of its events, and the checker computes the whole output.
+-- Document 01's own example, byte for byte: the event program's definition (crate `event_program`) is given the example's sheet and the
+-- text of its events, and the checker computes the whole output.
 use mathlib.Core.Path.{_≡_, refl}
 use Rattle.fields.specs.Fields.{firstField}
 use Rattle.sheet.specs.Sheet.{opened, judged, readLinks, readSheet}

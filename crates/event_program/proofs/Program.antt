@@ -28,7 +28,7 @@ use Rattle.state.specs.declared.State.{State}
 use Rattle.state.specs.State.{stateOf, Ends64}
 use Rattle.state.specs.declared.Begun.{Begun}
 use Rattle.state.specs.Beginning.{begunOf}
-use Rattle.laws.proofs.Tallies.{Fits}
+use Rattle.tally.proofs.Sums.{Fits}
 use Rattle.event_lines.specs.Begun.{isBegun}
 use Rattle.console.specs.Sheets.{fileSheet, openedBy, refusalText}
 use Rattle.console.proofs.Lines.{joined, whole-text, whole-held}

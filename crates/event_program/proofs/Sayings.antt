@@ -15,7 +15,8 @@ use Rattle.world.specs.World.{World, exists, comes, refusal}
 use Rattle.world.specs.History.{run, everSettled}
 use Rattle.world.proofs.Steps.{is-refused, step-refuses}
 use Rattle.laws.specs.Tallied.{acceptedCounts, tallyBy, tallyAfter}
-use Rattle.laws.proofs.Tallies.{Fits, tally-is-history}
+use Rattle.tally.proofs.Sums.{Fits}
+use Rattle.laws.proofs.Tallies.{tally-is-history}
 use Rattle.event_program.specs.Events.{Standing, eventBy, answerText, done, printedFor, doneAll}
 use Rattle.event_program.specs.Runs.{Desk, texts, written}
 

@@ -13,9 +13,8 @@ use Rattle.lists.specs.Lists.{if_then_else_, below, from}
 use Rattle.lists.specs.Places.{collect}
 use Rattle.lists.proofs.Tests.{T-is}
 use Rattle.tally.specs.declared.Tally.{Tally}
-use Rattle.tally.specs.Sums.{largest, added, tallied}
-use Rattle.tally.proofs.Plain.{noCounts}
-use Rattle.tally.proofs.Sums.{added-fits}
+use Rattle.tally.specs.Sums.{tallied}
+use Rattle.tally.proofs.Sums.{Fits, tallied-fits, nothing-more}
 use Rattle.event_lines.specs.Steps.{start, readOn, lineEnd}
 use Rattle.net.specs.declared.Net.{Net}
 use Rattle.net.specs.Values.{networkOf}
@@ -25,7 +24,7 @@ use Rattle.reach.specs.Values.{tableOf}
 use Rattle.station.specs.declared.Station.{Station}
 use Rattle.station.specs.Holding.{Holding}
 use Rattle.station.specs.Values.{holdingOf}
-use Rattle.world.specs.World.{World, Event, accepted, next, comes, refusal, after, settled, raised, dropped, holdingAt}
+use Rattle.world.specs.World.{World, Event, accepted, next, comes, refusal, after, holdingAt}
 use Rattle.world.proofs.Keeps.{Formed, step-formed}
 use Rattle.world.proofs.Steps.{passes, accepted-passes, is-accepted, is-refused, step-accepts, step-refuses, after-net}
 use Rattle.world.proofs.OneRaised.{counts-are}
@@ -36,7 +35,6 @@ use Rattle.state.proofs.Meaning.{count-is, world-holding}
 use Rattle.step_rules.specs.declared.Stepped.{Stepped}
 use Rattle.step_rules.specs.Step as Step
 use Rattle.laws.specs.Tallied.{acceptedCounts, tallyBy}
-use Rattle.laws.proofs.Tallies.{Fits}
 use Rattle.console.specs.Feeding as Feeding
 use Rattle.event_program.specs.Stations.{stationText, stationLine, stationsText}
 use Rattle.event_program.specs.Events.{Standing, eventBy, answerText, done, printedFor, printed, doneAll, endText}
@@ -88,18 +86,6 @@ module _ (v : Net) (w : World) (c : Carried v w) (kind a b : ℕ) where
 abbrev standing : World → Tally → Standing
 standing w t = record { world = w; tally = t }
 
-nothing-more : (t : Tally) → Fits t → tallied t noCounts ≡ t
-nothing-more t f =
-    λ i. record {
-      settled = same (t .settled) (f .settled) i;
-      raised = same (t .raised) (f .raised) i;
-      dropped = same (t .dropped)
-          (f .dropped) i;
-    }
-  where
-    same : (n : ℕ) → n ≤ largest → added n 0 ≡ n
-    same n h = omega arith
-
 -- what holds after a line as before it, what the code does and prints, and what document 01 says
 pub record Line (v : Net) (w : World) (t : Tally) (said : List ℕ) : Type 0 where
   pub carried : Carried v (done (standing w t) (eventBy said) .world)
@@ -132,13 +118,7 @@ module _ (v : Net) (w : World) (c : Carried v w) (t : Tally) (f : Fits t) (said 
                   ∙ sym (after-net w ev);
               formed = step-formed w ev (c .formed) z;
             });
-        fits =
-            subst⁻¹ Fits tally (record {
-              settled = added-fits (t .settled) (settled w ev);
-              raised = added-fits (t .raised)
-                  (raised w ev);
-              dropped = added-fits (t .dropped) (dropped w ev);
-            });
+        fits = subst⁻¹ Fits tally (tallied-fits t (acceptedCounts w ev));
         acts =
             ap (λ (x : Stepped). deskOf (x .state) (tallied t (x .counts))) d
             ∙ sym (ap₂ (λ (x : World) (u : Tally). deskOf (stateOf v x) u) world tally);

@@ -19,7 +19,8 @@ use Rattle.world.proofs.Ledger.{letters-conserved}
 use Rattle.laws.specs.Flood.{onlyNotices, Begins, highest, bound}
 use Rattle.laws.specs.Tallied.{acceptedCounts, countsOf, everCounted, tallyBy, tallyAfter}
 use Rattle.laws.proofs.Demand3.{flood-of-notices-dies-out}
-use Rattle.laws.proofs.Tallies.{Fits, taken-is, tally-is-history}
+use Rattle.tally.proofs.Sums.{Fits}
+use Rattle.laws.proofs.Tallies.{taken-is, tally-is-history}
 
 -- one call from the state s for the event e handed back the state t and the counts n
 module _ {S : Type 0} (worldOf : S → World) (Call : S → Event → S → Tally → Type 0) where

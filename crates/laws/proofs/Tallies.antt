@@ -1,44 +1,18 @@
 -- The tally after a history has the history's three counts added to it, each staying at its largest value.
-use Prim.Native.Nat.{ℕ, _+_, _≤_}
+use Prim.Native.Nat.{ℕ, _+_}
 use mathlib.Core.Bool.{Bool, true, false}
-use mathlib.Core.Path.{_≡_, refl, ap, _∙_}
+use mathlib.Core.Path.{_≡_, refl, sym, ap, _∙_}
 use mathlib.Core.List.{List, [], _∷_}
 use native.Mathlib.Omega.{arith}
 use Rattle.lists.specs.Lists.{if_then_else_}
 use Rattle.tally.specs.declared.Tally.{Tally}
-use Rattle.tally.specs.Sums.{largest, added, tallied}
+use Rattle.tally.specs.Sums.{tallied}
 use Rattle.tally.proofs.Plain.{noCounts, plus}
-use Rattle.tally.proofs.Sums.{added-fits, tallied-twice}
+use Rattle.tally.proofs.Sums.{Fits, tallied-fits, nothing-more, tallied-twice}
 use Rattle.station.specs.Events.{counting}
 use Rattle.world.specs.World.{World, Event, accepted, next}
 use Rattle.world.specs.History.{total}
 use Rattle.laws.specs.Tallied.{acceptedCounts, everCounted, tallyBy, tallyAfter}
-
--- three counts of 64 bits
-pub record Fits (t : Tally) : Type 0 where
-  pub settled : t .settled ≤ largest
-  pub raised : t .raised ≤ largest
-  pub dropped : t .dropped ≤ largest
-
-nothing-more : (t : Tally) → Fits t → t ≡ tallied t noCounts
-nothing-more t f =
-    λ i. record {
-      settled = same (t .settled) (f .settled) i;
-      raised = same (t .raised) (f .raised) i;
-      dropped = same (t .dropped)
-          (f .dropped) i;
-    }
-  where
-    same : (c : ℕ) → c ≤ largest → c ≡ added c 0
-    same c h = omega arith
-
-tallied-fits : (t n : Tally) → Fits (tallied t n)
-tallied-fits t n =
-    record {
-      settled = added-fits (t .settled) (n .settled);
-      raised = added-fits (t .raised) (n .raised);
-      dropped = added-fits (t .dropped) (n .dropped);
-    }
 
 by-fits : (b : Bool) (t n : Tally) → Fits t → Fits (tallyBy b t n)
 by-fits true t n f = tallied-fits t n
@@ -67,7 +41,7 @@ by-then false t n m = ap (tallied t) (none-and m)
 -- THE TALLY AFTER A HISTORY: what it was, with the notices settled, the counters raised and the letters dropped in that history.
 pub tally-is-history : (t : Tally) (w : World) (es : List Event) → Fits t → tallyAfter t w es ≡ tallied t (everCounted w es)
 unfolding tallyAfter total
-tally-is-history t w [] f = nothing-more t f
+tally-is-history t w [] f = sym (nothing-more t f)
 tally-is-history t w (e ∷ es) f =
     tally-is-history (tallyBy (accepted w e) t (acceptedCounts w e)) (next w e) es (by-fits (accepted w e) t (acceptedCounts w e) f)
     ∙ by-then (accepted w e) t (acceptedCounts w e) (everCounted (next w e) es)

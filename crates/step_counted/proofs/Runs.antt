@@ -17,7 +17,7 @@ use Rattle.step_rules.specs.declared.Stepped.{Stepped}
 use Rattle.step_rules.specs.Step.{steppedOf}
 use Rattle.step_rules.proofs.Bridge.{Good, is-step}
 use Rattle.laws.specs.Tallied.{acceptedCounts, countsOf, everCounted, tallyBy}
-use Rattle.laws.proofs.Tallies.{Fits}
+use Rattle.tally.proofs.Sums.{Fits}
 use Rattle.laws.proofs.Calls as C
 use Rattle.step_rules.specs.Counting.{talliedBy}
 

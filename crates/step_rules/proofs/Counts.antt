@@ -1,35 +1,17 @@
 -- What a step's counts do to a tally: where the step says no they are zeros, and the tally is as it was.
-use Prim.Native.Nat.{ℕ, _<_, _^_}
+use Prim.Native.Nat.{ℕ}
 use mathlib.Core.Path.{_≡_, refl, _∙_}
 use mathlib.Core.Bool.{Bool, true, false}
-use native.Mathlib.Omega.{arith}
 use lib.Dec.{eqb}
 use Rattle.lists.specs.Lists.{if_then_else_}
 use Rattle.tally.specs.declared.Tally.{Tally}
-use Rattle.tally.specs.Sums.{added, tallied}
+use Rattle.tally.specs.Sums.{tallied}
 use Rattle.tally.proofs.Plain.{noCounts}
+use Rattle.tally.proofs.Sums.{Fits, nothing-more}
 use Rattle.state.specs.declared.State.{State}
 use Rattle.step_rules.specs.declared.Stepped.{Stepped}
 use Rattle.step_rules.specs.Step.{event, refusing, accepting, numberOf, steppedOf}
 use Rattle.step_rules.specs.Counting.{talliedBy}
-
--- three counts of 64 bits
-pub record Fits (t : Tally) : Type 0 where
-  pub settled : t .settled < 2 ^ 64
-  pub raised : t .raised < 2 ^ 64
-  pub dropped : t .dropped < 2 ^ 64
-
-nothing-more : (t : Tally) → Fits t → tallied t noCounts ≡ t
-nothing-more t f =
-    λ i. record {
-      settled = same (t .settled) (f .settled) i;
-      raised = same (t .raised) (f .raised) i;
-      dropped = same (t .dropped)
-          (f .dropped) i;
-    }
-  where
-    same : (c : ℕ) → c < 2 ^ 64 → added c 0 ≡ c
-    same c h = omega arith
 
 -- adding the counts is what the tally is to be
 abbrev Adds : Tally → Stepped → Type 0

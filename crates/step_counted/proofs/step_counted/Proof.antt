@@ -47,6 +47,7 @@ use Rattle.state.specs.declared.State.{State}
 use Rattle.step_rules.specs.declared.Stepped.{Stepped}
 use Rattle.step_rules.specs.Step.{steppedOf}
 use Rattle.step_rules.specs.Counting.{talliedBy}
+use Rattle.tally.proofs.Sums.{below-fits}
 use Rattle.step_rules.proofs.Counts.{added-by}
 use Rattle.tally.proofs.Tally as T
 use Rattle.tally.proofs.Tally.Laws as T′
@@ -209,7 +210,7 @@ module _ {M : Type 1} (𝓤 : URA M) (H : Heap 𝓤) (A : Atoms 𝓤) (W : Given
         ! $ move ! (5 ∷ 6 ∷ []) $ free1 ! $ free0 ! $
         keep ! (0 ∷ 2 ∷ 4 ∷ []) $ by ! (exits g r (LL.val P.the-type P′.the-laws r) (zs .0) (
           e,
-          added-by h (record { settled = is .1 .1 .0 .1; raised = is .1 .1 .1 .0 .1; dropped = is .1 .1 .1 .1 .0 .1 }) s k a c r e (zs .0)
+          added-by h (below-fits h (is .1 .1 .0 .1) (is .1 .1 .1 .0 .1) (is .1 .1 .1 .1 .0 .1)) s k a c r e (zs .0)
               e′,
         )))))))))))))))))))))))
 
