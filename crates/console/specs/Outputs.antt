@@ -1,5 +1,5 @@
--- What a part of a program answers when it writes to lent output (`fields/specs/Output`: a text at its front, or 10 where the output has less
--- room than the longest such text takes).
+-- What a part of a program answers when it writes to lent output (`fields/specs/Output`: a text at its front, or 10 where the output has
+-- less room than the longest such text takes).
 use Prim.Native.Nat.{ℕ, _+_, _≤_}
 use mathlib.Core.Path.{_≡_}
 use mathlib.Core.List.{List}

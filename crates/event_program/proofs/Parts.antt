@@ -69,4 +69,5 @@ module _ (s : State) (t : Tally) (r : Reading) (bytes old : List ℕ) where
       bytes) × ((out ≡ writingOutput (written first r bytes old) old) × Counts at out)
   ran-all out d q at from g end is line reads e h =
       let w = Feeding.going-done start readOn lineEnd acted spoken 32 bytes old first r out d q at from g end is line reads e in
-      simp (le-ltb (length old) (32 * length bytes) (omega arith)) ((λ i. ranAs 0 (w .written i) (w .read i) (w .held i)), (w .output, w .counts))
+      simp (le-ltb (length old) (32 * length bytes) (omega arith))
+      ((λ i. ranAs 0 (w .written i) (w .read i) (w .held i)), (w .output, w .counts))

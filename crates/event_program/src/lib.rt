@@ -91,7 +91,8 @@ pub fn begin(net: Net) -> Ran
 // Promise: for the lines that end in these bytes: what document 01's event program prints for each, and the state, tally and reading after
 // them.
 pub fn run_events(given: State, t: Tally, r: Reading, bytes: &[u8], out: &mut [u8]) -> Ran
-    ensures answer { λ n. ⌜ n ≡ ranBy (written (deskOf given t) r (now (bytes .entry)) (now (out .entry))) (deskOf given t) r (now (bytes .entry)) ⌝ }
+    ensures answer { λ n. ⌜ n ≡ ranBy (written (deskOf given t) r (now (bytes .entry)) (now (out .entry))) (deskOf given t) r
+        (now (bytes .entry)) ⌝ }
     ensures output { λ n. ⌜ now (out .exit) ≡ writingOutput
         (written (deskOf given t) r (now (bytes .entry)) (now (out .entry))) (now (out .entry)) ⌝ }
     ensures room { λ n. ⌜ Counts (n .written) (now (out .exit)) ⌝ }

@@ -1,5 +1,5 @@
--- What writing to lent output gives: bytes over its front, or 10 where it is too short; for sheets, letters, the report and the programs' texts
--- alike.
+-- What writing to lent output gives: bytes over its front, or 10 where it is too short; for sheets, letters, the report and the programs'
+-- texts alike.
 use Prim.Native.Nat.{ℕ}
 use mathlib.Core.List.{List, [], _∷_}
 use lib.Dec.{eqb, ltb}

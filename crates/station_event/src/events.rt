@@ -266,7 +266,8 @@ pub fn plan_event(
     condition: Condition,
     w: Words,
 ) -> Plan
-    ensures { λ r. ⌜ (r ≡ eventPlan there kind own me k letter c told condition w) × EventPlans there kind own me k letter c told condition w r ⌝ }
+    ensures { λ r. ⌜ (r ≡ eventPlan there kind own me k letter c told condition w)
+        × EventPlans there kind own me k letter c told condition w r ⌝ }
 {
     if !there {
         return crate::staying(6, 0, 0, condition, w);

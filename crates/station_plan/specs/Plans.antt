@@ -66,7 +66,14 @@ module _ (own : ℕ) (w : Words) where
   sendingBy (notices j c ways) = telling (putting 0 j true) (linksWord ways)
   sendingBy (allKnown ways) = telling everyLink (linksWord ways)
   sendingBy (reply tells k c) =
-      record { requests = 0; subjects = if tells then putting everyLink k false else 0; ways = putting 0 k true; replies = true; reply = c; link = k }
+      record {
+        requests = 0;
+        subjects = if tells then putting everyLink k false else 0;
+        ways = putting 0 k true;
+        replies = true;
+        reply = c;
+        link = k;
+      }
 
   module _ (d : Due) where
     abbrev made : Bool → Bool → ℕ → ℕ → Bool → Plan

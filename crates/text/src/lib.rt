@@ -75,8 +75,8 @@ pub fn put_number(out: &mut [u8], at: usize, n: u64) -> usize
 }
 
 // Bytes in hexadecimal, two digits each, upper case.
-// Promise: two hexadecimal digits for each byte at that place, all else as it was, and the place behind them; a place past the end where they
-// do not all fit.
+// Promise: two hexadecimal digits for each byte at that place, all else as it was, and the place behind them; a place past the end where
+// they do not all fit.
 pub fn put_bytes(out: &mut [u8], at: usize, bytes: &[u8]) -> usize
     ensures place { λ r. ⌜ r ≡ placeAfter (hexText (now (bytes .entry))) at (now (out .entry)) ⌝ }
     ensures output { λ r. ⌜ now (out .exit) ≡ putAt (hexText (now (bytes .entry))) at (now (out .entry)) ⌝ }

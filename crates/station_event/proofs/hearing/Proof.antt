@@ -51,48 +51,47 @@ is-newer-requires c κs = search needs
 
 returns-3 : tie.Need-returns-3
 returns-3 c =
-    let a = c .before .before .before .before .before .before .before .before .args in
+    let hears = c .before .before .before .before in
+    let a = hears .before .before .before .before .args in
     asks (a .me) (a .sender) (a .condition) (marksAt (a .w) (a .k)) (a .c) (a .told) (a .body)
-    (sym (c .before .before .before .before .before .before .before .is-live .ensures)
-    ∙ not-false _ (c .before .before .before .before .before .before .if1 .left))
-    (sym (c .before .before .before .before .before .has .ensures) ∙ c .before .before .before .before .if2 .left) _ _
+    (sym (hears .before .before .before .is-live .ensures) ∙ not-false _ (hears .before .before .if1 .left))
+    (sym (hears .before .has .ensures) ∙ hears .if2 .left) _ _
     (c .before .before .enum-told .given .1) (c .before .has2 .ensures) (c .request-heard .ensures)
 
 returns-4 : tie.Need-returns-4
 returns-4 c =
-    let a = c .before .before .before .before .before .before .before .before .before .before .args in
+    let hears = c .before .before .before .before .before .before in
+    let a = hears .before .before .before .before .args in
     replies (a .me) (a .sender) (a .condition) (marksAt (a .w) (a .k)) (a .c) (a .told) (a .body)
-    (sym (c .before .before .before .before .before .before .before .before .before .is-live .ensures)
-    ∙ not-false _ (c .before .before .before .before .before .before .before .before .if1 .left))
-    (sym (c .before .before .before .before .before .before .before .has .ensures)
-    ∙ c .before .before .before .before .before .before .if2 .left) _ _ (c .before .before .before .before .body .given .1)
+    (sym (hears .before .before .before .is-live .ensures) ∙ not-false _ (hears .before .before .if1 .left))
+    (sym (hears .before .has .ensures) ∙ hears .if2 .left) _ _ (c .before .before .before .before .body .given .1)
     (sym (c .before .before .has3 .ensures) ∙ c .before .if3 .taken) (c .reply-heard .ensures)
 
 returns-5 : tie.Need-returns-5
 returns-5 c =
-    let a = c .before .before .before .before .before .before .before .before .before .args in
+    let hears = c .before .before .before .before .before in
+    let a = hears .before .before .before .before .args in
     idles (a .me) (a .sender) (a .condition) (marksAt (a .w) (a .k)) (a .c) (a .told) (a .body)
-    (sym (c .before .before .before .before .before .before .before .before .is-live .ensures)
-    ∙ not-false _ (c .before .before .before .before .before .before .before .if1 .left))
-    (sym (c .before .before .before .before .before .before .has .ensures) ∙ c .before .before .before .before .before .if2 .left) _
+    (sym (hears .before .before .before .is-live .ensures) ∙ not-false _ (hears .before .before .if1 .left))
+    (sym (hears .before .has .ensures) ∙ hears .if2 .left) _
     (c .before .before .before .body .given .1) (sym (c .before .has3 .ensures) ∙ c .if3 .left)
 
 returns-6 : tie.Need-returns-6
 returns-6 c =
-    let a = c .before .before .before .before .before .before .before .before .before .args in
+    let hears = c .before .before .before .before .before in
+    let a = hears .before .before .before .before .args in
     news (a .me) (a .sender) (a .condition) (marksAt (a .w) (a .k)) (a .c) (a .told) (a .body)
-    (sym (c .before .before .before .before .before .before .before .before .is-live .ensures)
-    ∙ not-false _ (c .before .before .before .before .before .before .before .if1 .left))
-    (sym (c .before .before .before .before .before .before .has .ensures) ∙ c .before .before .before .before .before .if2 .left) _ _
+    (sym (hears .before .before .before .is-live .ensures) ∙ not-false _ (hears .before .before .if1 .left))
+    (sym (hears .before .has .ensures) ∙ hears .if2 .left) _ _
     (c .before .before .before .body2 .given .1) (sym (c .before .is-newer .ensures) ∙ c .if4 .taken)
 
 returns-7 : tie.Need-returns-7
 returns-7 c =
-    let a = c .before .before .before .before .before .before .before .before .before .args in
+    let hears = c .before .before .before .before .before in
+    let a = hears .before .before .before .before .args in
     no-news (a .me) (a .sender) (a .condition) (marksAt (a .w) (a .k)) (a .c) (a .told) (a .body)
-    (sym (c .before .before .before .before .before .before .before .before .is-live .ensures)
-    ∙ not-false _ (c .before .before .before .before .before .before .before .if1 .left))
-    (sym (c .before .before .before .before .before .before .has .ensures) ∙ c .before .before .before .before .before .if2 .left) _ _
+    (sym (hears .before .before .before .is-live .ensures) ∙ not-false _ (hears .before .before .if1 .left))
+    (sym (hears .before .has .ensures) ∙ hears .if2 .left) _ _
     (c .before .before .before .body2 .given .1) (sym (c .before .is-newer .ensures) ∙ c .if4 .left)
 
 pub hearing-spec : {M : Type 1} → statement M

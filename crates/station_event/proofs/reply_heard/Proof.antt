@@ -26,17 +26,17 @@ is-even-requires-2 c κs = search needs
 
 returns-2 : tie.Need-returns-2
 returns-2 c =
-    let a = c .before .before .before .before .before .before .before .before .before .args in
-    reply-equal (a .own) (a .c) _ (sym (c .before .before .before .before .before .before .before .before .heal .ensures)
-    ∙ c .before .before .before .before .before .before .new .given .1)
+    let told = c .before .before .before .before .before .before in
+    let a = told .before .before .before .args in
+    reply-equal (a .own) (a .c) _ (sym (told .before .before .heal .ensures) ∙ told .new .given .1)
     (sym (c .before .before .before .before .is-even .ensures) ∙ c .before .before .before .if1 .taken)
     (sym (c .before .before .is-even2 .ensures) ∙ c .before .if2 .taken) (c .if3 .taken)
 
 returns-3 : tie.Need-returns-3
 returns-3 c =
-    let a = c .before .before .before .before .before .before .before .before .before .args in
-    reply-level (a .own) (a .c) _ (sym (c .before .before .before .before .before .before .before .before .heal .ensures)
-    ∙ c .before .before .before .before .before .before .new .given .1)
+    let told = c .before .before .before .before .before .before in
+    let a = told .before .before .before .args in
+    reply-level (a .own) (a .c) _ (sym (told .before .before .heal .ensures) ∙ told .new .given .1)
     (sym (c .before .before .before .before .is-even .ensures) ∙ c .before .before .before .if1 .taken)
     (sym (c .before .before .is-even2 .ensures) ∙ c .before .if2 .taken) (c .if3 .left)
 

@@ -55,12 +55,11 @@ telling-requires c κs = search needs
 
 returns-3 : tie.Need-returns-3
 returns-3 c =
-    let a = c .before .before .before .before .before .before .before .before .before .before .args in
+    let tested = c .before .before .before .before .before .before in
+    let a = tested .before .before .before .before .args in
     timeout-even (a .condition) (a .w) (a .k) (a .own) (a .c) _
-    (sym (c .before .before .before .before .before .before .before .before .before .has .ensures)
-    ∙ not-false _ (c .before .before .before .before .before .before .before .before .if1 .left))
-    (c .before .before .before .before .before .before .before .is-even .ensures) _ _ _ _ _ _
-    (not-false _ (c .before .before .before .before .before .before .if2 .left))
+    (sym (tested .before .before .before .has .ensures) ∙ not-false _ (tested .before .before .if1 .left))
+    (tested .before .is-even .ensures) _ _ _ _ _ _ (not-false _ (tested .if2 .left))
     (c .before .before .before .before .before .failed-words .ensures) (c .before .before .before .before .put .ensures)
     (c .before .before .before .without .ensures) (c .before .before .put2 .ensures) (c .before .timed-out .ensures) (c .telling .ensures)
 
