@@ -16,9 +16,10 @@ use Rattle.text.proofs.Puts.{put-fits, length-put}
 use Rattle.fields.specs.Fields.{onto}
 use Rattle.console.specs.Outputs.{Counts, Put}
 use Rattle.event_lines.specs.Split.{fedBy}
-use Rattle.console.specs.declared.End.{End}
-use Rattle.console.specs.Feeding.{lineSize, lineEnds, endFrom, heldAfter, readAfter, textAfter}
-use Rattle.console.proofs.Reading.{ends-is, line-is, line-whole, end-after, end-inside, end-behind}
+use Rattle.event_lines.specs.declared.End.{End}
+use Rattle.event_lines.specs.Ends.{lineSize, lineEnds, endFrom}
+use Rattle.console.specs.Feeding.{heldAfter, readAfter, textAfter}
+use Rattle.event_lines.proofs.Ends.{ends-is, line-is, line-whole, end-after, end-inside, end-behind}
 
 module _ {Y R A : Type 0} (fresh : R) (on : R → ℕ → R) (ends : R → A) (act : Y → A → Y) (say : Y → A → List ℕ) where
   abbrev held : Y → R → List ℕ → Y

@@ -1,6 +1,5 @@
 pub mod Files
 pub mod Puts
-pub mod Reading
 pub mod Feeding
 pub mod Lines
 pub mod Faults

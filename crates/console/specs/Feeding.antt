@@ -1,26 +1,11 @@
 -- A program that takes its input byte by byte and prints where a line ends. It holds a value of its own beside the reading of the line
 -- under way. proofs/Lines.antt: in all it prints for each line of the input, whatever the pieces that the input comes in.
-use Prim.Native.Nat.{ℕ, suc, _+_}
-use mathlib.Core.Bool.{Bool, true, false}
+use Prim.Native.Nat.{ℕ}
+use mathlib.Core.Bool.{Bool}
 use mathlib.Core.List.{List, [], _∷_, _++_}
 use lib.Dec.{eqb, ltb}
-use lib.ListN.{length, take, drop}
+use lib.ListN.{length, take}
 use Rattle.lists.specs.Lists.{if_then_else_}
-use Rattle.console.specs.declared.End.{End}
-
--- the line at the front of the bytes to come: how many bytes it has before its newline, or as far as they go
-abbrev pub lineSize : List ℕ → ℕ
-lineSize [] = 0
-lineSize (b ∷ bytes) = if eqb b 10 then 0 else suc (lineSize bytes)
-
--- whether there is that newline
-abbrev pub lineEnds : List ℕ → Bool
-lineEnds [] = false
-lineEnds (b ∷ bytes) = if eqb b 10 then true else lineEnds bytes
-
--- where the line ends that begins or goes on at a place
-abbrev pub endFrom : List ℕ → ℕ → End
-endFrom bytes from = record { stop = from + lineSize (drop from bytes); ended = lineEnds (drop from bytes) }
 
 -- "the last newline may be missing": where a line is begun at the end of the input, one newline more is fed
 abbrev pub closingBy : Bool → List ℕ

@@ -7,7 +7,7 @@ ghost use Rattle.console.specs.Sheets.{fileSheet, openedBy, refusalText}
 ghost use Rattle.text.specs.Text.{putAt};
 ghost use Rattle.fields.specs.Output.{withRoom, writingOutput};
 ghost use Rattle.console.specs.Outputs.{Counts, wroteBy};
-ghost use Rattle.console.specs.Feeding.{pieceOf, endFrom};
+ghost use Rattle.console.specs.Feeding.{pieceOf};
 use net::Net;
 
 // ---- the sheet
@@ -92,35 +92,7 @@ pub fn put_refusal(n: u8, out: &mut [u8]) -> Wrote
     }
 }
 
-// ---- a piece of the input, and the lines in it
-
-// Where a line ends: the place of its newline, or the end of the bytes.
-pub struct End {
-    pub stop: usize,
-    pub ended: bool,
-}
-
-// The end of the line that begins or goes on at a place.
-// Promise: the place of the first newline from there on; where there is none, the end of the bytes (or the place given, where that lies
-// beyond it).
-pub fn find_end(bytes: &[u8], from: usize) -> End
-    ensures { λ r. ⌜ r ≡ endFrom (now (bytes .entry)) from ⌝ }
-{
-    let mut i = from;
-    while i < bytes.len() {
-        if bytes[i] == 10 {
-            return End {
-                stop: i,
-                ended: true,
-            };
-        }
-        i += 1;
-    }
-    End {
-        stop: i,
-        ended: false,
-    }
-}
+// ---- a piece of the input
 
 // After a read of n bytes into a room. None are the end of the input, where the last line's newline may be missing.
 // Promise: the piece of the input stands at the room's front, so many bytes of it: those that were read, or at the end one newline where

@@ -3,3 +3,4 @@ pub mod Split
 pub mod Cases
 pub mod Unique
 pub mod Begun
+pub mod Ends

@@ -2,3 +2,4 @@ pub mod Events
 pub mod Steps
 pub mod Split
 pub mod Begun
+pub mod Ends

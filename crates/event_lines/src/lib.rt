@@ -1,9 +1,11 @@
-// Lines of three decimal numbers, read byte by byte: a line may be of any length, and its bytes arrive in pieces.
+// Lines: where one ends in a piece of the input; and lines of three decimal numbers, read byte by byte: a line may be of any length, and
+// its bytes arrive in pieces.
 // Inner doors: the calls are in docs/CALLS.md.
 ghost use mathlib.Core.Path.{_≡_};
 ghost use Prim.Native.Nat.{_≤_};
 ghost use Rattle.event_lines.specs.Steps.{start, spoilt, withDigit, nextNumber, readOn, fed, lineEnd, lineNumbers};
 ghost use Rattle.event_lines.specs.Begun.{isBegun};
+ghost use Rattle.event_lines.specs.Ends.{endFrom};
 
 // How far an event line has been read.
 pub struct Reading {
@@ -148,4 +150,34 @@ pub fn is_begun(r: Reading) -> bool
         return true;
     }
     r.digits != 0
+}
+
+// ---- a piece of the input
+
+// Where a line ends: the place of its newline, or the end of the bytes.
+pub struct End {
+    pub stop: usize,
+    pub ended: bool,
+}
+
+// The end of the line that begins or goes on at a place.
+// Promise: the place of the first newline from there on; where there is none, the end of the bytes (or the place given, where that lies
+// beyond it).
+pub fn find_end(bytes: &[u8], from: usize) -> End
+    ensures { λ r. ⌜ r ≡ endFrom (now (bytes .entry)) from ⌝ }
+{
+    let mut i = from;
+    while i < bytes.len() {
+        if bytes[i] == 10 {
+            return End {
+                stop: i,
+                ended: true,
+            };
+        }
+        i += 1;
+    }
+    End {
+        stop: i,
+        ended: false,
+    }
 }

@@ -13,8 +13,8 @@ use Rattle.event_lines.specs.Steps.{start, readOn, fed, lineEnd}
 use Rattle.state.specs.declared.State.{State}
 use Rattle.step_rules.specs.declared.Stepped.{Stepped}
 use Rattle.fields.specs.Output.{writingOutput}
-use Rattle.console.specs.declared.End.{End}
-use Rattle.console.specs.Feeding.{endFrom}
+use Rattle.event_lines.specs.declared.End.{End}
+use Rattle.event_lines.specs.Ends.{endFrom}
 use Rattle.console.specs.Outputs.{Counts, Put}
 use Rattle.console.proofs.Feeding as Feeding
 use Rattle.event_program.specs.Events.{answerText}

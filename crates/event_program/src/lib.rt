@@ -113,7 +113,7 @@ pub fn run_events(given: State, t: Tally, r: Reading, bytes: &[u8], out: &mut [u
     let mut at: usize = 0;
     let mut from: usize = 0;
     loop {
-        let end = console::find_end(bytes, from);
+        let end = event_lines::find_end(bytes, from);
         let stop = end.stop;
         let line = event_lines::read_bytes(reading, &bytes[from..stop]);
         if !end.ended {

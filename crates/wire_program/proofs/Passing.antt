@@ -10,8 +10,8 @@ use Rattle.hex_lines.specs.declared.HexReading.{HexReading}
 use Rattle.hex_lines.specs.HexSteps.{hexStart, readHex, fedHex}
 use Rattle.net.specs.declared.Net.{Net}
 use Rattle.fields.specs.Output.{writes, writingOutput}
-use Rattle.console.specs.declared.End.{End}
-use Rattle.console.specs.Feeding.{endFrom}
+use Rattle.event_lines.specs.declared.End.{End}
+use Rattle.event_lines.specs.Ends.{endFrom}
 use Rattle.console.specs.Outputs.{Counts}
 use Rattle.console.proofs.Feeding.{Going, going-done}
 use Rattle.wire_program.specs.Passing.{saidBy, acted, spoken, texts, written, passedAs, passedBy}

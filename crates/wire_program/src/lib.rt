@@ -62,7 +62,7 @@ pub fn run_letters(net: Net, r: HexReading, bytes: &[u8], out: &mut [u8]) -> Pas
     let mut at: usize = 0;
     let mut from: usize = 0;
     loop {
-        let end = console::find_end(bytes, from);
+        let end = event_lines::find_end(bytes, from);
         let stop = end.stop;
         let line = hex_lines::read_hex_bytes(reading, &bytes[from..stop]);
         if !end.ended {

@@ -1,7 +1,7 @@
 use Rattle.event_program.proofs.Parts.{Going, turn-room, turn-more, ran-short, ran-all}
 use Rattle.event_program.specs.Runs.{deskOf, stepBy, acted, spoken}
 use Rattle.event_program.specs.declared.Asked.{Asked}
-use Rattle.console.proofs.Reading.{end-after, end-within, end-inside}
+use Rattle.event_lines.proofs.Ends.{end-after, end-within, end-inside}
 use Rattle.console.proofs.Feeding.{going-begins}
 use Rattle.event_lines.specs.Steps.{start, readOn, lineEnd}
 use Rattle.step_rules.specs.Step.{steppedOf}

@@ -1,6 +1,6 @@
 use Rattle.wire_program.proofs.Passing.{passed-short, passed-all}
 use Rattle.wire_program.specs.Passing.{saidBy, acted, spoken}
-use Rattle.console.proofs.Reading.{end-after, end-within, end-inside}
+use Rattle.event_lines.proofs.Ends.{end-after, end-within, end-inside}
 use Rattle.console.proofs.Feeding.{Going, going-begins, going-room, going-more}
 use Rattle.hex_lines.specs.HexSteps.{hexStart, readHex}
 use denote.Ref.{now}

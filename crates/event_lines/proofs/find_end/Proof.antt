@@ -1,12 +1,12 @@
-use Rattle.console.proofs.Reading.{end-found, end-more, end-none}
-use Rattle.console.specs.Feeding.{endFrom}
+use Rattle.event_lines.proofs.Ends.{end-found, end-more, end-none}
+use Rattle.event_lines.specs.Ends.{endFrom}
 use denote.Ref.{now}
 use lib.ListN.{length}
 use mathlib.Core.Path.{_≡_, refl, sym, _∙_}
 use Prim.Native.Nat.{_-_}
 use native.Mathlib.Omega.{arith}
-use Rattle.console.proofs.find_end.Statement.{statement}
-use Rattle.console.proofs.find_end.Tie as tie
+use Rattle.event_lines.proofs.find_end.Statement.{statement}
+use Rattle.event_lines.proofs.find_end.Tie as tie
 
 abbrev Inv-loop : tie.InvT-loop
 Inv-loop bytes from i₀ i = endFrom bytes from ≡ endFrom bytes i

@@ -9,8 +9,8 @@ use native.Mathlib.Omega.{arith}
 use lib.ListN.{length, getD, drop, take, length-drop, drop-of-length-le}
 use lib.Seq.{drop-cons, drop-drop, take-all}
 use borrow.Author.Tests.{eq-eqb, ne-eqb}
-use Rattle.console.specs.declared.End.{End}
-use Rattle.console.specs.Feeding.{lineSize, lineEnds, endFrom}
+use Rattle.event_lines.specs.declared.End.{End}
+use Rattle.event_lines.specs.Ends.{lineSize, lineEnds, endFrom}
 
 -- ---- the ways of the loop
 module _ (bytes : List ℕ) (i : ℕ) where
