@@ -4,11 +4,14 @@ use Prim.Native.Nat.{ℕ, _/_, _%_, _≤_, _<_}
 use mathlib.Core.Bool.{Bool, true, false, not, _&&_}
 use mathlib.Core.Path.{_≡_, refl, sym, ap, _∙_, subst, subst⁻¹}
 use mathlib.Core.Logic.{_↔_}
-use mathlib.Core.List.{List, [], _∷_}
+use mathlib.Core.List.{List, [], _∷_, map}
 use native.Mathlib.Omega.{arith}
-use lib.Dec.{T, eqb, leb, ltb, ltb→lt, lt→ltb, leb→le, le→leb, eqb→eq}
+use lib.Dec.{T, leb, ltb, ltb→lt, lt→ltb, leb→le, le→leb}
 use lib.ListN.{length, getD}
 use Rattle.lists.proofs.Tests.{T-is, T-not-is, is-T, and-l, and-r, and-i, if-elim}
+use Rattle.lists.specs.Lists.{below}
+use Rattle.lists.proofs.Fill.{by-places}
+use Rattle.fields.proofs.Seen.{tag-is, size-is}
 use Rattle.fields.specs.Fields.{Field, wide, firstField, writeField, isField, isEmpty, areBytes}
 use Rattle.fields.proofs.Law.{parts-bytes}
 use Rattle.net.specs.declared.Body.{Body}
@@ -30,50 +33,24 @@ use Rattle.demands.specs.LetterReasons.{Form, BodyInRange, InRange, Lett
 use Rattle.demands.proofs.Fronts.{no-test, test-no, front-cut, cut-front, ends-short, short-ends, field-no, no-field}
 
 -- ---- the forms
-request-as : (v : List ℕ) → length v ≡ 2 → Form 33 v (getD v 0 0) (getD v 1 0) Request
-request-as [] e = absurd (omega arith)
-request-as (k ∷ []) e = absurd (omega arith)
-request-as (k ∷ s ∷ []) e = W.request
-request-as (k ∷ s ∷ x ∷ v) e = absurd (omega arith)
-
-reply-as : (v : List ℕ) → length v ≡ 4 → Form 34 v (getD v 0 0) (getD v 1 0) (Reply (wide (getD v 2 0) (getD v 3 0)))
-reply-as [] e = absurd (omega arith)
-reply-as (k ∷ []) e = absurd (omega arith)
-reply-as (k ∷ s ∷ []) e = absurd (omega arith)
-reply-as (k ∷ s ∷ h ∷ []) e = absurd (omega arith)
-reply-as (k ∷ s ∷ h ∷ l ∷ []) e = W.reply
-reply-as (k ∷ s ∷ h ∷ l ∷ x ∷ v) e = absurd (omega arith)
-
-notice-as : (v : List ℕ) → length v ≡ 5 → Form 35 v (getD v 0 0) (getD v 1 0) (Notice (getD v 2 0) (wide (getD v 3 0) (getD v 4 0)))
-notice-as [] e = absurd (omega arith)
-notice-as (k ∷ []) e = absurd (omega arith)
-notice-as (k ∷ s ∷ []) e = absurd (omega arith)
-notice-as (k ∷ s ∷ j ∷ []) e = absurd (omega arith)
-notice-as (k ∷ s ∷ j ∷ h ∷ []) e = absurd (omega arith)
-notice-as (k ∷ s ∷ j ∷ h ∷ l ∷ []) e = W.notice
-notice-as (k ∷ s ∷ j ∷ h ∷ l ∷ x ∷ v) e = absurd (omega arith)
-
 module _ (t : ℕ) (v : List ℕ) where
-  tag-is : (tag n : ℕ) → T (isField tag n t v) → tag ≡ t
-  tag-is tag n h = sym (eqb→eq t tag (and-l (eqb t tag) _ h))
-
-  size-is : (tag n : ℕ) → T (isField tag n t v) → length v ≡ n
-  size-is tag n h = eqb→eq (length v) n (and-r (eqb t tag) _ h)
-
   abbrev Here : ℕ → Body → Type 0
   Here tag b = Form tag v (getD v 0 0) (getD v 1 0) b
+
+  -- a field of this tag and of n bytes has the form that its bytes make
+  of-bytes : (tag n : ℕ) (b : Body) → T (isField tag n t v) → Form tag (map (λ i. getD v i 0) (below n)) (getD v 0 0) (getD v 1 0) b → Here t b
+  of-bytes tag n b h f =
+      subst⁻¹ (λ (m : ℕ). Here m b) (tag-is tag n t v h)
+      (subst⁻¹ (λ (l : List ℕ). Form tag l (getD v 0 0) (getD v 1 0) b) (by-places 0 n v (size-is tag n t v h)) f)
 
   form-told : (b : Body) → formOf t v ≡ says b → Here t b
   unfolding formOf
   form-told b e =
-      if-elim P (isField 33 2 t v) (λ h q. subst (Here t) (body q)
-      (subst (λ (n : ℕ). Here n Request) (tag-is 33 2 h) (request-as v (size-is 33 2 h))))
+      if-elim P (isField 33 2 t v) (λ h q. subst (Here t) (body q) (of-bytes 33 2 Request h W.request))
       (λ _. if-elim P (isField 34 4 t v)
-      (λ h q. subst (Here t) (body q) (subst (λ (n : ℕ). Here n (Reply (wide (getD v 2 0) (getD v 3 0)))) (tag-is 34 4 h)
-      (reply-as v (size-is 34 4 h))))
+      (λ h q. subst (Here t) (body q) (of-bytes 34 4 (Reply (wide (getD v 2 0) (getD v 3 0))) h W.reply))
       (λ _. if-elim P (isField 35 5 t v)
-      (λ h q. subst (Here t) (body q) (subst (λ (n : ℕ). Here n (Notice (getD v 2 0) (wide (getD v 3 0) (getD v 4 0)))) (tag-is 35 5 h)
-      (notice-as v (size-is 35 5 h))))
+      (λ h q. subst (Here t) (body q) (of-bytes 35 5 (Notice (getD v 2 0) (wide (getD v 3 0) (getD v 4 0))) h W.notice))
       (λ _ q. let z : _≡_ {A = ℕ} 0 1 = cc in absurd (omega arith)))) e
     where
       P : L.Form → Type 0

@@ -6,7 +6,7 @@ use Rattle.sheet.specs.Sheet.{opened, judged, readLinks, readSheet}
 use Rattle.counters.specs.Counters.{healed, healing}
 use Rattle.reach.specs.Reach.{spread, within, reach, purge}
 use Rattle.station.specs.Done.{known, doneBy, ownLinks}
-use Rattle.station.proofs.Doing.{openLinks, started, recovered, interval, answer, effectOn, received}
+use Rattle.station.proofs.Doing.{answer}
 use Rattle.station.specs.Events.{dueOf}
 use Rattle.world.specs.World.{exists, concerned, rule, comes, left, after, fits, refusal, fresh, raised}
 use Rattle.world.specs.World as W
@@ -19,5 +19,7 @@ use Rattle.event_program.specs.Events.{answerText, done, printedFor, printed, d
 use Rattle.demands.specs.Sample.{sheet, events, output}
 
 pub sample-is : eventProgram sheet events ≡ output
-unfolding sheet events output eventProgram fileSheet readSheet firstField opened judged readLinks linesOf eventLine isEvent pieces printed printedFor done doneAll endText answerText stationText digits digitsIn fresh exists concerned rule comes W.done dueOf left after fits refusal raised doneBy answer healed healing ownLinks known purge reach within spread
+unfolding sheet events output eventProgram fileSheet readSheet firstField opened judged readLinks linesOf eventLine isEvent pieces
+    printed printedFor done doneAll endText answerText stationText digits digitsIn fresh exists concerned rule comes W.done dueOf left
+    after fits refusal raised doneBy answer healed healing ownLinks known purge reach within spread
 sample-is = refl

@@ -6,10 +6,12 @@ use mathlib.Core.Path.{_≡_, refl, sym, ap, _∙_, subst, subst⁻¹}
 use mathlib.Core.Logic.{_↔_}
 use mathlib.Core.List.{List, [], _∷_, _++_}
 use native.Mathlib.Omega.{arith}
-use lib.Dec.{T, eqb, leb, ltb, ltb→lt, lt→ltb, leb→le, le→leb, eqb→eq}
+use lib.Dec.{T, eqb, leb, ltb, ltb→lt, lt→ltb, leb→le, le→leb}
 use lib.ListN.{length, getD}
 use Rattle.net.specs.Sizes.{stationRoom, linkRoom}
 use Rattle.lists.proofs.Tests.{T-is, T-not-is, is-T, and-l, and-r, and-i, or-left, or-right, eq→eqb}
+use Rattle.lists.proofs.Fill.{by-places}
+use Rattle.fields.proofs.Seen.{tag-is, size-is, empty-is}
 use Rattle.fields.specs.Fields.{Field, field, firstField, writeField, isField, isEmpty, areBytes}
 use Rattle.net.specs.Network.{Ends, Network}
 use Rattle.sheet_rules.specs.Rules.{precedes, endsHold}
@@ -25,24 +27,6 @@ use Rattle.demands.specs.SheetReasons as W
 use Rattle.demands.specs.SheetReasons.{FirstFault, GoodEnds, After, NotAfter, LinkFront, LaterFault, SheetRead}
 use Rattle.demands.proofs.Fronts.{no-test, test-no, front-cut, cut-front, ends-short, short-ends, field-no, no-field}
 
--- ---- values of one and of two bytes
-one-byte : (v : List ℕ) → length v ≡ 1 → v ≡ getD v 0 0 ∷ []
-one-byte [] e = absurd (omega arith)
-one-byte (x ∷ []) e = refl
-one-byte (x ∷ y ∷ v) e = absurd (omega arith)
-
-two-bytes : (v : List ℕ) → length v ≡ 2 → v ≡ getD v 0 0 ∷ getD v 1 0 ∷ []
-two-bytes [] e = absurd (omega arith)
-two-bytes (x ∷ []) e = absurd (omega arith)
-two-bytes (x ∷ y ∷ []) e = refl
-two-bytes (x ∷ y ∷ z ∷ v) e = absurd (omega arith)
-
-tag-is : (tag n t : ℕ) (v : List ℕ) → isField tag n t v ≡ true → t ≡ tag
-tag-is tag n t v h = eqb→eq t tag (and-l (eqb t tag) _ (is-T (isField tag n t v) h))
-
-size-is : (tag n t : ℕ) (v : List ℕ) → isField tag n t v ≡ true → length v ≡ n
-size-is tag n t v h = eqb→eq (length v) n (and-r (eqb t tag) _ (is-T (isField tag n t v) h))
-
 -- ---- the first field
 count-no : (n : ℕ) → stationsHold n ≡ false → (1 ≤ n) × (n ≤ stationRoom) → ⊥
 count-no n e p = no-test (stationsHold n) e (and-i (leb 1 n) _ (le→leb 1 n (p .0)) (le→leb n stationRoom (p .1)))
@@ -54,7 +38,7 @@ first-told : (bytes : List ℕ) → T (areBytes bytes) → {k : ℕ} (f : Field)
 first-told bytes b f e R.cut-off = W.one (short-ends bytes e)
 first-told bytes b f e (R.unfit {t} {v} {rest} p) = W.two t v rest (cut-front bytes b e) (field-no 1 1 t v p)
 first-told bytes b f e (R.no-count {t} {v} {rest} p q) =
-    W.three (getD v 0 0) rest (cut-front bytes b (e ∙ (λ i. field (tag-is 1 1 t v p i) (one-byte v (size-is 1 1 t v p) i) rest)))
+    W.three (getD v 0 0) rest (cut-front bytes b (e ∙ (λ i. field (tag-is 1 1 t v (is-T _ p) i) (by-places 0 1 v (size-is 1 1 t v (is-T _ p)) i) rest)))
     (count-no (getD v 0 0) q)
 
 first-when : {bytes : List ℕ} {k : ℕ} → FirstFault bytes k → R.FirstFault (firstField bytes) k
@@ -143,16 +127,12 @@ module _ (net : Network) where
   no-last t v rest f =
       test-no (isField 15 0 t v && isEmpty rest)
       (λ h. let i = T-is (isField 15 0 t v) (and-l (isField 15 0 t v) _ h) in f
-      (tag-is 15 0 t v i, size-is 15 0 t v i, empty rest (and-r (isField 15 0 t v) _ h)))
-    where
-      empty : (l : List ℕ) → T (isEmpty l) → l ≡ []
-      empty [] t = refl
-      empty (x ∷ l) t = absurd t
+      (tag-is 15 0 t v (is-T _ i), size-is 15 0 t v (is-T _ i), empty-is rest (and-r (isField 15 0 t v) _ h)))
 
   -- the field of a link, cut off the front
   link-front : (bytes : List ℕ) → T (areBytes bytes) → (t : ℕ) (v rest : List ℕ) → firstField bytes ≡ field t v rest
       → isField 2 2 t v ≡ true → LinkFront bytes (linkOf v) rest
-  link-front bytes b t v rest e p = cut-front bytes b (e ∙ (λ i. field (tag-is 2 2 t v p i) (two-bytes v (size-is 2 2 t v p) i) rest))
+  link-front bytes b t v rest e p = cut-front bytes b (e ∙ (λ i. field (tag-is 2 2 t v (is-T _ p) i) (by-places 0 2 v (size-is 2 2 t v (is-T _ p)) i) rest))
 
   later-told : (bytes : List ℕ) → T (areBytes bytes) → {k : ℕ} (f : Field) → firstField bytes ≡ f → R.Fault (net .stations) prev f k
       → LaterFault net bytes k
@@ -171,7 +151,7 @@ module _ (net : Network) where
       let w = is-link (net .stations) prev (firstField bytes) e more q in
       let g = ends-good (net .stations) e (w .good) in
       W.five e more (cut-front bytes b (w .cut ∙ ap (λ (v : List ℕ). field 2 v more)
-      (two-bytes (w .value) (w .size) ∙ ap {B = List ℕ} (λ (x : Ends). x .low ∷ x .high ∷ []) (w .ends)))) g
+      (by-places 0 2 (w .value) (w .size) ∙ ap {B = List ℕ} (λ (x : Ends). x .low ∷ x .high ∷ []) (w .ends)))) g
       (after-told (net .links) e (g .0) (w .after)) l
 
   judged-link : (bytes : List ℕ) (e : Ends) (rest : List ℕ) → LinkFront bytes e rest → T (endsHold (net .stations) e)

@@ -1,14 +1,16 @@
 -- For callers: what an answer of `cut_first` says of the bytes, and what `put` leaves where the field fits.
 use Prim.Native.Nat.{ℕ, _+_, _-_, _≤_, _<_}
 use mathlib.Core.Path.{_≡_, refl, sym, ap, ap₂, _∙_}
-use mathlib.Core.List.{List, [], _++_, append-assoc, append-nil}
+use mathlib.Core.List.{List, [], _∷_, _++_, append-assoc, append-nil}
 use native.Mathlib.Decide.{decLt}
 use native.Mathlib.Omega.{arith}
+use lib.Dec.{T, eqb, eqb→eq}
 use lib.ListN.{length, getD, take, drop, length-drop, length-append, drop-of-length-le}
 use lib.Seq.{take-at, drop-at, take-all, drop-drop, length-take-le, getD-take, getD-drop}
 use borrow.Author.Tests.{lt-ltb, le-ltb, le-leb}
+use Rattle.lists.proofs.Tests.{and-l, and-r}
 use Rattle.fields.specs.declared.Cut.the-variants.{Short, Whole}
-use Rattle.fields.specs.Fields.{Field, short, field, wide, cutValue, firstField, writeField}
+use Rattle.fields.specs.Fields.{Field, short, field, wide, cutValue, firstField, writeField, isField, isEmpty}
 use Rattle.fields.specs.Fields.{onto, cutOf, putField, putSize, longestValue}
 use Rattle.fields.proofs.Law.{value-cut}
 use Rattle.fields.proofs.Steps.{head-short, head-whole}
@@ -70,6 +72,17 @@ field-size bytes t v r e = go (decLt (length bytes) 3)
         let parts = value-cut (getD bytes 0 0) (wide (getD bytes 1 0) (getD bytes 2 0)) (drop 3 bytes) t v r
         (sym (head-whole bytes g) ∙ e) in
         omega (arith, ap length (parts .2), length-append v r, length-drop 3 bytes)
+
+-- a field of this tag and of this length
+pub tag-is : (tag n t : ℕ) (v : List ℕ) → T (isField tag n t v) → t ≡ tag
+tag-is tag n t v h = eqb→eq t tag (and-l (eqb t tag) _ h)
+
+pub size-is : (tag n t : ℕ) (v : List ℕ) → T (isField tag n t v) → length v ≡ n
+size-is tag n t v h = eqb→eq (length v) n (and-r (eqb t tag) _ h)
+
+pub empty-is : (l : List ℕ) → T (isEmpty l) → l ≡ []
+empty-is [] t = refl
+empty-is (x ∷ l) t = absurd t
 
 -- a byte of the value
 pub value-at : (bytes : List ℕ) (n i : ℕ) → i < n → getD (take n (drop 3 bytes)) i 0 ≡ getD bytes (3 + i) 0

@@ -24,7 +24,7 @@ use Rattle.reach.proofs.Cases.{Case}
 use Rattle.station.specs.declared.Condition.the-variants.{Live}
 use Rattle.station.specs.Holding.{Holding, noMarks, setToken, setTesting, holdingHolds}
 use Rattle.station.specs.Done.{letter, known, doneBy, ownLinks}
-use Rattle.station.proofs.Doing.{openLinks, started, recovered, interval, timeout, answer, effectOn, received}
+use Rattle.station.proofs.Doing.{timeout, answer}
 use Rattle.station.specs.Events.{dueOf}
 use Rattle.station.proofs.Cases.{bodyNumbers, letterNumbers}
 use Rattle.world.specs.World.{World, Event, holdingAt, exists, concerned, rule, comes, done, left, after, fits, refusal, accepted, next}
@@ -70,7 +70,8 @@ middle h xs = record { net = line; holdings = live false 1 1 ∷ h ∷ live fals
 -- 1 if the world before is well formed; the answer; the counters of station 1 after the event; then the letters in flight, each
 -- as link, sender, tag and what it carries
 seen : World → Event → List ℕ
-unfolding wellFormed holdingHolds letterHolds refusal exists concerned rule comes done dueOf left after fits answer doneBy healed healing ownLinks known purge reach within spread letterNumbers bodyNumbers
+unfolding wellFormed holdingHolds letterHolds refusal exists concerned rule comes done dueOf left after fits answer doneBy healed
+    healing ownLinks known purge reach within spread letterNumbers bodyNumbers
 seen w e = bit (wellFormed w) ∷ refusal w e ∷ (holdingAt (next w e) 1 .table ++ letterNumbers (next w e .letters))
 
 -- station 1 times out on link 0, on which it tests
@@ -109,7 +110,8 @@ flood = event 7 0 0 ∷ event 7 0 0 ∷ []
 -- 1 if well formed; 1 if the run is made only of notices; the bound; how many are settled; letters in flight at the end; then
 -- every table at the end
 floods : List ℕ
-unfolding flooded flood line live event wellFormed holdingHolds letterHolds refusal exists concerned rule comes done dueOf left after fits answer doneBy ownLinks run total onlyNotices highest distance share bound
+unfolding flooded flood line live event wellFormed holdingHolds letterHolds refusal exists concerned rule comes done dueOf left after
+    fits answer doneBy ownLinks run total onlyNotices highest distance share bound
 floods =
     bit (wellFormed flooded) ∷ bit (onlyNotices flooded flood) ∷ bound flooded ∷ everSettled flooded flood ∷ length
     (run flooded flood .letters)
@@ -118,7 +120,8 @@ floods =
 -- ---- document 01's own run: for each event the answer, letters in flight, notices settled so far; at the end each station's
 -- number and counters
 lines : ℕ → World → List Event → List ℕ
-unfolding refusal exists concerned rule comes done dueOf left after fits doneBy answer healed healing ownLinks known purge reach within spread
+unfolding refusal exists concerned rule comes done dueOf left after fits doneBy answer healed healing
+    ownLinks known purge reach within spread
 lines n w [] = collect (λ s. s ∷ holdingAt w s .table) (below (w .net .stations))
 lines n w (e ∷ es) =
     let m = n + (if accepted w e then settled w e else 0) in
@@ -221,7 +224,8 @@ unfolding flooded flood line live event refusal exists concerned rule comes done
 flood-only-notices = tt
 
 pub bound-is-met : everSettled flooded flood ≡ bound flooded
-unfolding flooded flood line live event refusal exists concerned rule comes done dueOf left after fits answer doneBy ownLinks total highest distance share bound
+unfolding flooded flood line live event refusal exists concerned rule comes done dueOf left after fits answer doneBy ownLinks total
+    highest distance share bound
 bound-is-met = refl
 
 -- ---- the edge of 9: with 4,095 letters in flight a request may still be sent, with 4,096 no more

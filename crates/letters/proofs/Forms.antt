@@ -1,11 +1,13 @@
 -- What a known form says of the field: read backwards.
 use Prim.Native.Nat.{ℕ, _/_, _%_, _≤_, _<_}
-use mathlib.Core.Path.{_≡_, refl, sym, ap, ap₂, _∙_, subst}
+use mathlib.Core.Path.{_≡_, refl, sym, ap₂, _∙_, subst}
 use mathlib.Core.List.{List, [], _∷_}
 use native.Mathlib.Omega.{arith}
-use lib.Dec.{T, eqb, ltb, ltb→lt, eqb→eq}
-use lib.ListN.{length, getD, drop}
-use Rattle.lists.proofs.Tests.{and-l, and-r, if-elim, every-at}
+use lib.Dec.{T, ltb, ltb→lt}
+use lib.ListN.{length, getD}
+use Rattle.lists.proofs.Tests.{if-elim, every-at}
+use Rattle.lists.proofs.Fill.{by-places}
+use Rattle.fields.proofs.Seen.{tag-is, size-is}
 use Rattle.fields.specs.Fields.{wide, writeField, isField, areBytes}
 use Rattle.net.specs.declared.Body.{Body}
 use Rattle.net.specs.declared.Body.the-variants.{Request, Reply, Notice}
@@ -40,61 +42,30 @@ high-low v i j t h g =
     let b = ltb→lt (getD v j 0) 256 (every-at (λ b. ltb b 256) v j 0 t g) in
     (omega arith, omega arith)
 
-two : (v : List ℕ) → length v ≡ 2 → v ≡ getD v 0 0 ∷ getD v 1 0 ∷ []
-two [] e = absurd (omega arith)
-two (a ∷ []) e = absurd (omega arith)
-two (a ∷ b ∷ []) e = refl
-two (a ∷ b ∷ c ∷ v) e = absurd (omega arith)
-
-more-than-two : (v : List ℕ) → 2 < length v → v ≡ getD v 0 0 ∷ getD v 1 0 ∷ drop 2 v
-more-than-two [] h = absurd (omega arith)
-more-than-two (a ∷ []) h = absurd (omega arith)
-more-than-two (a ∷ b ∷ v) h = refl
-
-four : (v : List ℕ) → length v ≡ 4 → drop 2 v ≡ getD v 2 0 ∷ getD v 3 0 ∷ []
-four [] e = absurd (omega arith)
-four (a ∷ []) e = absurd (omega arith)
-four (a ∷ b ∷ v) e = two v (omega arith)
-
-five : (v : List ℕ) → length v ≡ 5 → drop 2 v ≡ getD v 2 0 ∷ getD v 3 0 ∷ getD v 4 0 ∷ []
-five [] e = absurd (omega arith)
-five (a ∷ []) e = absurd (omega arith)
-five (a ∷ b ∷ []) e = absurd (omega arith)
-five (a ∷ b ∷ c ∷ v) e = ap {B = List ℕ} (λ (l : List ℕ). c ∷ l) (two v (omega arith))
-
 module _ (t : ℕ) (v : List ℕ) where
-  tag-is : (tag n : ℕ) → T (isField tag n t v) → t ≡ tag
-  tag-is tag n h = eqb→eq t tag (and-l (eqb t tag) _ h)
-
-  size-is : (tag n : ℕ) → T (isField tag n t v) → length v ≡ n
-  size-is tag n h = eqb→eq (length v) n (and-r (eqb t tag) _ h)
-
   is-request : T (isField requestTag 2 t v) → IsForm t v Request
-  is-request h = let n = size-is requestTag 2 h in record { tag = tag-is requestTag 2 h; size = omega arith; value = λ w. two v n }
+  is-request h = let n = size-is requestTag 2 t v h in record { tag = tag-is requestTag 2 t v h; size = omega arith; value = λ w. by-places 0 2 v n }
 
   is-reply : T (isField replyTag 4 t v) → IsForm t v (Reply (wide (getD v 2 0) (getD v 3 0)))
   is-reply h =
-      let n = size-is replyTag 4 h in
+      let n = size-is replyTag 4 t v h in
       record {
-        tag = tag-is replyTag 4 h;
+        tag = tag-is replyTag 4 t v h;
         size = omega arith;
         value =
             λ w. let c = high-low v 2 3 w (omega arith) (omega arith) in
-            more-than-two v (omega arith)
-            ∙ ap (λ (l : List ℕ). getD v 0 0 ∷ getD v 1 0 ∷ l) (four v n ∙ ap₂ (λ (x y : ℕ). x ∷ y ∷ []) (sym (c .0)) (sym (c .1)));
+            by-places 0 4 v n ∙ ap₂ (λ (x y : ℕ). getD v 0 0 ∷ getD v 1 0 ∷ x ∷ y ∷ []) (sym (c .0)) (sym (c .1));
       }
 
   is-notice : T (isField noticeTag 5 t v) → IsForm t v (Notice (getD v 2 0) (wide (getD v 3 0) (getD v 4 0)))
   is-notice h =
-      let n = size-is noticeTag 5 h in
+      let n = size-is noticeTag 5 t v h in
       record {
-        tag = tag-is noticeTag 5 h;
+        tag = tag-is noticeTag 5 t v h;
         size = omega arith;
         value =
             λ w. let c = high-low v 3 4 w (omega arith) (omega arith) in
-            more-than-two v (omega arith)
-            ∙ ap (λ (l : List ℕ). getD v 0 0 ∷ getD v 1 0 ∷ l)
-            (five v n ∙ ap₂ (λ (x y : ℕ). getD v 2 0 ∷ x ∷ y ∷ []) (sym (c .0)) (sym (c .1)));
+            by-places 0 5 v n ∙ ap₂ (λ (x y : ℕ). getD v 0 0 ∷ getD v 1 0 ∷ getD v 2 0 ∷ x ∷ y ∷ []) (sym (c .0)) (sym (c .1));
       }
 
   pub is-form : (b : Body) → formOf t v ≡ says b → IsForm t v b

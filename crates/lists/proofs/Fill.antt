@@ -23,6 +23,12 @@ module _ {ℓ} {A : Type ℓ} where
   getD-any (x ∷ l) (suc k) d e h = getD-any l k d e (le-of-suc-le-suc h)
 
 module _ {A : Type 0} where
+  -- a list of n elements, place by place
+  pub by-places : (d : A) (n : ℕ) (xs : List A) → length xs ≡ n → xs ≡ map (λ i. getD xs i d) (below n)
+  by-places d n xs e =
+      let f : ℕ → A = λ i. getD xs i d in
+      ext-getD d xs (map f (below n)) (e ∙ sym (length-map-below f n)) (λ i h. sym (getD-map-below f n i d (omega arith)))
+
   -- two functions that agree below n give the same list
   pub map-below-same : (f g : ℕ → A) (n : ℕ) → ((k : ℕ) → k < n → f k ≡ g k) → map f (below n) ≡ map g (below n)
   map-below-same f g zero h = refl

@@ -2,12 +2,14 @@
 use Prim.Native.Nat.{ℕ, zero, suc}
 use mathlib.Core.Bool.{Bool, true, false, not, _&&_}
 use mathlib.Core.Path.{_≡_, refl, ap, subst}
-use mathlib.Core.List.{List, [], _∷_}
+use mathlib.Core.List.{List, []}
 use native.Mathlib.Omega.{arith}
-use lib.Dec.{T, eqb, eqb→eq}
+use lib.Dec.{T}
 use lib.ListN.{length, getD}
 use Rattle.lists.proofs.Tests.{and-l, and-r, if-elim}
+use Rattle.lists.proofs.Fill.{by-places}
 use Rattle.fields.specs.Fields.{Field, short, field, isField, isEmpty}
+use Rattle.fields.proofs.Seen.{tag-is, size-is, empty-is}
 use Rattle.net.specs.Network.{Ends}
 use Rattle.sheet_rules.specs.Rules.{precedes, endsHold}
 use Rattle.sheet.specs.Sheet.{refused, sheet, Opening, stations, stationsHold, opened, Verdict, wrong}
@@ -16,20 +18,6 @@ use Rattle.sheet.specs.Sheet.{link, last, linkOf, judged, readLinks, sta
 not-not : (b : Bool) → T (not (not b)) → T b
 not-not true t = tt
 not-not false t = t
-
-empty-is : (l : List ℕ) → T (isEmpty l) → l ≡ []
-empty-is [] t = refl
-empty-is (x ∷ l) t = absurd t
-
-none-is : (l : List ℕ) → length l ≡ 0 → l ≡ []
-none-is [] e = refl
-none-is (x ∷ l) e = absurd (omega arith)
-
-tag-is : (tag n t : ℕ) (v : List ℕ) → T (isField tag n t v) → t ≡ tag
-tag-is tag n t v h = eqb→eq t tag (and-l (eqb t tag) _ h)
-
-size-is : (tag n t : ℕ) (v : List ℕ) → T (isField tag n t v) → length v ≡ n
-size-is tag n t v h = eqb→eq (length v) n (and-r (eqb t tag) _ h)
 
 -- ---- the first field
 pub record IsStations (f : Field) (n : ℕ) (rest : List ℕ) : Type 0 where
@@ -105,7 +93,7 @@ is-last n prev (field t v r) p =
     (λ _. if-elim P (isField endTag 0 t v && isEmpty r)
     (λ h q.
     let g : t ≡ endTag = tag-is endTag 0 t v (and-l (isField endTag 0 t v) _ h) in
-    let w : v ≡ [] = none-is v (size-is endTag 0 t v (and-l (isField endTag 0 t v) _ h)) in
+    let w : v ≡ [] = by-places 0 0 v (size-is endTag 0 t v (and-l (isField endTag 0 t v) _ h)) in
     let u : r ≡ [] = empty-is r (and-r (isField endTag 0 t v) _ h) in
     cc)
     (λ _ q. let z : _≡_ {A = ℕ} 0 1 = cc in absurd (omega arith))) p

@@ -6,8 +6,9 @@ use mathlib.Core.Path.{_≡_, refl, sym, ap, _∙_, subst, subst⁻¹}
 use mathlib.Core.List.{List, [], _∷_, _++_, append-nil, append-assoc}
 use native.Mathlib.Omega.{arith}
 use lib.Dec.{T, ltb, lt→ltb}
-use lib.ListN.{length, getD}
+use lib.ListN.{length}
 use Rattle.lists.proofs.Tests.{and-l, and-r, and-i, T-is}
+use Rattle.lists.proofs.Fill.{by-places}
 use Rattle.fields.specs.Fields.{firstField, writeField, areBytes}
 use Rattle.fields.proofs.Law.{cut-written, written-cut, parts-bytes, bytes-append, field-bytes}
 use Rattle.net.specs.Network.{Ends, Network}
@@ -89,30 +90,19 @@ reads-back net t =
     ∙ last-read (linkRoom - length (net .links)) (net .stations) (net .links)
 
 -- ---- what is read was written, and is good
-one-byte : (v : List ℕ) → length v ≡ 1 → v ≡ getD v 0 0 ∷ []
-one-byte [] e = absurd (omega arith)
-one-byte (x ∷ []) e = refl
-one-byte (x ∷ y ∷ v) e = absurd (omega arith)
-
-two-bytes : (v : List ℕ) → length v ≡ 2 → v ≡ getD v 0 0 ∷ getD v 1 0 ∷ []
-two-bytes [] e = absurd (omega arith)
-two-bytes (x ∷ []) e = absurd (omega arith)
-two-bytes (x ∷ y ∷ []) e = refl
-two-bytes (x ∷ y ∷ z ∷ v) e = absurd (omega arith)
-
 pub stations-written : (bytes : List ℕ) (n : ℕ) (rest : List ℕ) → T (areBytes bytes) → opened (firstField bytes) ≡ stations n rest
     → bytes ≡ writeField stationsTag (n ∷ []) ++ rest
 stations-written bytes n rest t e =
     let w = is-stations (firstField bytes) n rest e in
     written-cut bytes stationsTag (w .value) rest t (w .cut)
-    ∙ ap (λ (v : List ℕ). writeField stationsTag v ++ rest) (one-byte (w .value) (w .size) ∙ ap {B = List ℕ} (λ (x : ℕ). x ∷ []) (w .count))
+    ∙ ap (λ (v : List ℕ). writeField stationsTag v ++ rest) (by-places 0 1 (w .value) (w .size) ∙ ap {B = List ℕ} (λ (x : ℕ). x ∷ []) (w .count))
 
 pub link-written : (n : ℕ) (prev : Ends) (bytes : List ℕ) (e : Ends) (rest : List ℕ) → T (areBytes bytes)
     → judged n prev (firstField bytes) ≡ link e rest → bytes ≡ linkBytes e ++ rest
 link-written n prev bytes e rest t p =
     let w = is-link n prev (firstField bytes) e rest p in
     written-cut bytes linkTag (w .value) rest t (w .cut)
-    ∙ ap (λ (v : List ℕ). writeField linkTag v ++ rest) (two-bytes (w .value) (w .size)
+    ∙ ap (λ (v : List ℕ). writeField linkTag v ++ rest) (by-places 0 2 (w .value) (w .size)
     ∙ ap (λ (x : Ends). x .low ∷ x .high ∷ []) (w .ends))
 
 pub rest-bytes : (bytes front rest : List ℕ) → T (areBytes bytes) → bytes ≡ front ++ rest → T (areBytes rest)

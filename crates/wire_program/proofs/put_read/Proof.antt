@@ -1,9 +1,7 @@
 use Rattle.wire_program.proofs.LetterLineWritten.{was-read}
-use Rattle.wire_program.proofs.Lined.{lined-short, lined-put}
-use Rattle.wire_program.specs.LetterLineLine.{readText, readLine}
-use Rattle.console.proofs.Puts.{put-same}
+use Rattle.wire_program.proofs.Lined.{lined-short, lined-read}
+use Rattle.wire_program.specs.LetterLineLine.{readLine}
 use Rattle.letters.specs.Values.{lettersOf}
-use Rattle.net.specs.Values.{networkOf}
 use denote.Ref.{now}
 use mathlib.Core.Path.{sym, ap, _∙_}
 use native.Mathlib.Omega.{arith}
@@ -30,6 +28,10 @@ returns-2 c =
 read-requires : tie.Need-read-requires
 read-requires c κs = search needs
 
+-- from what was read back to the beginning
+abbrev entry : tie.After-read → tie.Start
+entry c = c .before .before .before .before .before
+
 enum-known-letter : tie.Need-enum-known-letter
 enum-known-letter c = search needs
 
@@ -37,8 +39,7 @@ put-letter-requires : tie.Need-put-letter-requires
 put-letter-requires c κs =
     let at-letter = c .before .before in
     let at-read = at-letter .before .before in
-    let start = at-read .before .before .before .before .before in
-    let a = start .args in (
+    let a = entry at-read .args in (
       omega arith,
       was-read (a .net)
           (now (a .bytes)) _ (sym (at-read .read .ensures) ∙ ap lettersOf (at-letter .letter .given .1)),
@@ -73,70 +74,60 @@ same-length c = search needs
 
 returns-3 : tie.Need-returns-3
 returns-3 c =
-    let at-letter = c .before .before in
-    let at-given = at-letter .before .before .before in
-    let at-read = at-given .before .before in
-    let start = at-read .before .before .before .before .before in
-    let a = start .args in
-    let text = ap (readText (networkOf (a .net))) (sym (ap lettersOf (at-given .letter .given .1)) ∙ at-read .read .ensures) in
-    lined-put (readLine (a .net) (now (a .bytes))) (a .at) (now (a .out)) _ _ (omega arith)
-    (put-same _ _ 64 (a .at) (now (a .out)) _ _ text (at-letter .put-letter .ensures))
+    let line = c .before .before in
+    let told = line .before .before .before in
+    let read = told .before .before in
+    let a = entry read .args in
+    lined-read (a .net) (now (a .bytes)) _ (a .at) (now (a .out)) _ _ (omega arith)
+    (sym (ap lettersOf (told .letter .given .1)) ∙ read .read .ensures) (line .put-letter .ensures)
 
 same-length-2 : tie.Need-same-length-2
 same-length-2 c = search needs
 
 returns-4 : tie.Need-returns-4
 returns-4 c =
-    let at-number-line = c .before .before in
-    let at-enum-told = at-number-line .before .before in
-    let at-read = at-enum-told .before .before in
-    let start = at-read .before .before .before .before .before in
-    let a = start .args in
-    let text = ap (readText (networkOf (a .net))) (sym (ap lettersOf (at-enum-told .enum-told .given .1)) ∙ at-read .read .ensures) in
-    lined-put (readLine (a .net) (now (a .bytes))) (a .at) (now (a .out)) _ _ (omega arith)
-    (put-same _ _ 64 (a .at) (now (a .out)) _ _ text (at-number-line .put-number-line .ensures))
+    let line = c .before .before in
+    let told = line .before .before in
+    let read = told .before .before in
+    let a = entry read .args in
+    lined-read (a .net) (now (a .bytes)) _ (a .at) (now (a .out)) _ _ (omega arith)
+    (sym (ap lettersOf (told .enum-told .given .1)) ∙ read .read .ensures) (line .put-number-line .ensures)
 
 same-length-3 : tie.Need-same-length-3
 same-length-3 c = search needs
 
 returns-5 : tie.Need-returns-5
 returns-5 c =
-    let at-number-line2 = c .before .before in
-    let at-enum-told2 = at-number-line2 .before .before in
-    let at-read = at-enum-told2 .before .before in
-    let start = at-read .before .before .before .before .before in
-    let a = start .args in
-    let text = ap (readText (networkOf (a .net))) (sym (ap lettersOf (at-enum-told2 .enum-told2 .given .1)) ∙ at-read .read .ensures) in
-    lined-put (readLine (a .net) (now (a .bytes))) (a .at) (now (a .out)) _ _ (omega arith)
-    (put-same _ _ 64 (a .at) (now (a .out)) _ _ text (at-number-line2 .put-number-line2 .ensures))
+    let line = c .before .before in
+    let told = line .before .before in
+    let read = told .before .before in
+    let a = entry read .args in
+    lined-read (a .net) (now (a .bytes)) _ (a .at) (now (a .out)) _ _ (omega arith)
+    (sym (ap lettersOf (told .enum-told2 .given .1)) ∙ read .read .ensures) (line .put-number-line2 .ensures)
 
 same-length-4 : tie.Need-same-length-4
 same-length-4 c = search needs
 
 returns-6 : tie.Need-returns-6
 returns-6 c =
-    let at-number-line3 = c .before .before in
-    let at-enum-told3 = at-number-line3 .before .before in
-    let at-read = at-enum-told3 .before .before in
-    let start = at-read .before .before .before .before .before in
-    let a = start .args in
-    let text = ap (readText (networkOf (a .net))) (sym (ap lettersOf (at-enum-told3 .enum-told3 .given .1)) ∙ at-read .read .ensures) in
-    lined-put (readLine (a .net) (now (a .bytes))) (a .at) (now (a .out)) _ _ (omega arith)
-    (put-same _ _ 64 (a .at) (now (a .out)) _ _ text (at-number-line3 .put-number-line3 .ensures))
+    let line = c .before .before in
+    let told = line .before .before in
+    let read = told .before .before in
+    let a = entry read .args in
+    lined-read (a .net) (now (a .bytes)) _ (a .at) (now (a .out)) _ _ (omega arith)
+    (sym (ap lettersOf (told .enum-told3 .given .1)) ∙ read .read .ensures) (line .put-number-line3 .ensures)
 
 same-length-5 : tie.Need-same-length-5
 same-length-5 c = search needs
 
 returns-7 : tie.Need-returns-7
 returns-7 c =
-    let at-number-line4 = c .before .before in
-    let at-enum-told4 = at-number-line4 .before .before in
-    let at-read = at-enum-told4 .before .before in
-    let start = at-read .before .before .before .before .before in
-    let a = start .args in
-    let text = ap (readText (networkOf (a .net))) (sym (ap lettersOf (at-enum-told4 .enum-told4 .given .1)) ∙ at-read .read .ensures) in
-    lined-put (readLine (a .net) (now (a .bytes))) (a .at) (now (a .out)) _ _ (omega arith)
-    (put-same _ _ 64 (a .at) (now (a .out)) _ _ text (at-number-line4 .put-number-line4 .ensures))
+    let line = c .before .before in
+    let told = line .before .before in
+    let read = told .before .before in
+    let a = entry read .args in
+    lined-read (a .net) (now (a .bytes)) _ (a .at) (now (a .out)) _ _ (omega arith)
+    (sym (ap lettersOf (told .enum-told4 .given .1)) ∙ read .read .ensures) (line .put-number-line4 .ensures)
 
 pub put-read-spec : {M : Type 1} → statement M
 put-read-spec =
