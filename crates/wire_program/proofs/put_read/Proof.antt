@@ -1,9 +1,14 @@
 use Rattle.wire_program.proofs.LetterLineWritten.{was-read}
-use Rattle.wire_program.proofs.Lined.{lined-short, lined-read}
-use Rattle.wire_program.specs.LetterLineLine.{readLine}
+use Rattle.wire_program.proofs.Lined.{Lined, lined-short, lined-read}
+use Rattle.wire_program.specs.LetterLineLine.{readText, readLine}
 use Rattle.letters.specs.Values.{lettersOf}
+use Rattle.letters.specs.declared.Answer.{Answer}
+use Rattle.net.specs.Values.{networkOf}
+use Rattle.console.specs.Outputs.{Put}
 use denote.Ref.{now}
-use mathlib.Core.Path.{sym, ap, _∙_}
+use Prim.Native.Nat.{ℕ}
+use mathlib.Core.List.{List}
+use mathlib.Core.Path.{_≡_, sym, ap, _∙_}
 use native.Mathlib.Omega.{arith}
 use borrow.Author.Needs.{needs}
 use Rattle.wire_program.proofs.put_read.Statement.{statement}
@@ -31,6 +36,16 @@ read-requires c κs = search needs
 -- from what was read back to the beginning
 abbrev entry : tie.After-read → tie.Start
 entry c = c .before .before .before .before .before
+
+-- there is room for a line, and what was read is put as its text
+as-read : (c : tie.After-read) (x : Answer) (r : ℕ) (new : List ℕ) → c .read .result ≡ x
+    → let a = entry c .args in
+    Put (readText (networkOf (a .net)) (lettersOf x)) 64 (a .at) (now (a .out)) r new
+    → Lined (readLine (a .net) (now (a .bytes))) (a .at) (now (a .out)) r new
+as-read c x r new e p =
+    let a = entry c .args in
+    lined-read (a .net) (now (a .bytes)) (lettersOf x) (a .at) (now (a .out)) r new (omega arith)
+    (sym (ap lettersOf e) ∙ c .read .ensures) p
 
 enum-known-letter : tie.Need-enum-known-letter
 enum-known-letter c = search needs
@@ -76,10 +91,7 @@ returns-3 : tie.Need-returns-3
 returns-3 c =
     let line = c .before .before in
     let told = line .before .before .before in
-    let read = told .before .before in
-    let a = entry read .args in
-    lined-read (a .net) (now (a .bytes)) _ (a .at) (now (a .out)) _ _ (omega arith)
-    (sym (ap lettersOf (told .letter .given .1)) ∙ read .read .ensures) (line .put-letter .ensures)
+    as-read (told .before .before) _ _ _ (told .letter .given .1) (line .put-letter .ensures)
 
 same-length-2 : tie.Need-same-length-2
 same-length-2 c = search needs
@@ -88,10 +100,7 @@ returns-4 : tie.Need-returns-4
 returns-4 c =
     let line = c .before .before in
     let told = line .before .before in
-    let read = told .before .before in
-    let a = entry read .args in
-    lined-read (a .net) (now (a .bytes)) _ (a .at) (now (a .out)) _ _ (omega arith)
-    (sym (ap lettersOf (told .enum-told .given .1)) ∙ read .read .ensures) (line .put-number-line .ensures)
+    as-read (told .before .before) _ _ _ (told .enum-told .given .1) (line .put-number-line .ensures)
 
 same-length-3 : tie.Need-same-length-3
 same-length-3 c = search needs
@@ -100,10 +109,7 @@ returns-5 : tie.Need-returns-5
 returns-5 c =
     let line = c .before .before in
     let told = line .before .before in
-    let read = told .before .before in
-    let a = entry read .args in
-    lined-read (a .net) (now (a .bytes)) _ (a .at) (now (a .out)) _ _ (omega arith)
-    (sym (ap lettersOf (told .enum-told2 .given .1)) ∙ read .read .ensures) (line .put-number-line2 .ensures)
+    as-read (told .before .before) _ _ _ (told .enum-told2 .given .1) (line .put-number-line2 .ensures)
 
 same-length-4 : tie.Need-same-length-4
 same-length-4 c = search needs
@@ -112,10 +118,7 @@ returns-6 : tie.Need-returns-6
 returns-6 c =
     let line = c .before .before in
     let told = line .before .before in
-    let read = told .before .before in
-    let a = entry read .args in
-    lined-read (a .net) (now (a .bytes)) _ (a .at) (now (a .out)) _ _ (omega arith)
-    (sym (ap lettersOf (told .enum-told3 .given .1)) ∙ read .read .ensures) (line .put-number-line3 .ensures)
+    as-read (told .before .before) _ _ _ (told .enum-told3 .given .1) (line .put-number-line3 .ensures)
 
 same-length-5 : tie.Need-same-length-5
 same-length-5 c = search needs
@@ -124,10 +127,7 @@ returns-7 : tie.Need-returns-7
 returns-7 c =
     let line = c .before .before in
     let told = line .before .before in
-    let read = told .before .before in
-    let a = entry read .args in
-    lined-read (a .net) (now (a .bytes)) _ (a .at) (now (a .out)) _ _ (omega arith)
-    (sym (ap lettersOf (told .enum-told4 .given .1)) ∙ read .read .ensures) (line .put-number-line4 .ensures)
+    as-read (told .before .before) _ _ _ (told .enum-told4 .given .1) (line .put-number-line4 .ensures)
 
 pub put-read-spec : {M : Type 1} → statement M
 put-read-spec =
