@@ -38,7 +38,8 @@ module _ (t : ℕ) (v : List ℕ) where
   Here tag b = Form tag v (getD v 0 0) (getD v 1 0) b
 
   -- a field of this tag and of n bytes has the form that its bytes make
-  of-bytes : (tag n : ℕ) (b : Body) → T (isField tag n t v) → Form tag (map (λ i. getD v i 0) (below n)) (getD v 0 0) (getD v 1 0) b → Here t b
+  of-bytes : (tag n : ℕ) (b : Body) → T (isField tag n t v)
+      → Form tag (map (λ i. getD v i 0) (below n)) (getD v 0 0) (getD v 1 0) b → Here t b
   of-bytes tag n b h f =
       subst⁻¹ (λ (m : ℕ). Here m b) (tag-is tag n t v h)
       (subst⁻¹ (λ (l : List ℕ). Form tag l (getD v 0 0) (getD v 1 0) b) (by-places 0 n v (size-is tag n t v h)) f)

@@ -38,7 +38,8 @@ first-told : (bytes : List ℕ) → T (areBytes bytes) → {k : ℕ} (f : Field)
 first-told bytes b f e R.cut-off = W.one (short-ends bytes e)
 first-told bytes b f e (R.unfit {t} {v} {rest} p) = W.two t v rest (cut-front bytes b e) (field-no 1 1 t v p)
 first-told bytes b f e (R.no-count {t} {v} {rest} p q) =
-    W.three (getD v 0 0) rest (cut-front bytes b (e ∙ (λ i. field (tag-is 1 1 t v (is-T _ p) i) (by-places 0 1 v (size-is 1 1 t v (is-T _ p)) i) rest)))
+    let h = is-T _ p in
+    W.three (getD v 0 0) rest (cut-front bytes b (e ∙ (λ i. field (tag-is 1 1 t v h i) (by-places 0 1 v (size-is 1 1 t v h) i) rest)))
     (count-no (getD v 0 0) q)
 
 first-when : {bytes : List ℕ} {k : ℕ} → FirstFault bytes k → R.FirstFault (firstField bytes) k
@@ -132,7 +133,9 @@ module _ (net : Network) where
   -- the field of a link, cut off the front
   link-front : (bytes : List ℕ) → T (areBytes bytes) → (t : ℕ) (v rest : List ℕ) → firstField bytes ≡ field t v rest
       → isField 2 2 t v ≡ true → LinkFront bytes (linkOf v) rest
-  link-front bytes b t v rest e p = cut-front bytes b (e ∙ (λ i. field (tag-is 2 2 t v (is-T _ p) i) (by-places 0 2 v (size-is 2 2 t v (is-T _ p)) i) rest))
+  link-front bytes b t v rest e p =
+      let h = is-T _ p in
+      cut-front bytes b (e ∙ (λ i. field (tag-is 2 2 t v h i) (by-places 0 2 v (size-is 2 2 t v h) i) rest))
 
   later-told : (bytes : List ℕ) → T (areBytes bytes) → {k : ℕ} (f : Field) → firstField bytes ≡ f → R.Fault (net .stations) prev f k
       → LaterFault net bytes k

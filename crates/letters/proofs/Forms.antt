@@ -44,7 +44,9 @@ high-low v i j t h g =
 
 module _ (t : ℕ) (v : List ℕ) where
   is-request : T (isField requestTag 2 t v) → IsForm t v Request
-  is-request h = let n = size-is requestTag 2 t v h in record { tag = tag-is requestTag 2 t v h; size = omega arith; value = λ w. by-places 0 2 v n }
+  is-request h =
+      let n = size-is requestTag 2 t v h in
+      record { tag = tag-is requestTag 2 t v h; size = omega arith; value = λ w. by-places 0 2 v n }
 
   is-reply : T (isField replyTag 4 t v) → IsForm t v (Reply (wide (getD v 2 0) (getD v 3 0)))
   is-reply h =

@@ -95,7 +95,8 @@ pub stations-written : (bytes : List ℕ) (n : ℕ) (rest : List ℕ) → T (are
 stations-written bytes n rest t e =
     let w = is-stations (firstField bytes) n rest e in
     written-cut bytes stationsTag (w .value) rest t (w .cut)
-    ∙ ap (λ (v : List ℕ). writeField stationsTag v ++ rest) (by-places 0 1 (w .value) (w .size) ∙ ap {B = List ℕ} (λ (x : ℕ). x ∷ []) (w .count))
+    ∙ ap (λ (v : List ℕ). writeField stationsTag v ++ rest) (by-places 0 1 (w .value) (w .size)
+    ∙ ap {B = List ℕ} (λ (x : ℕ). x ∷ []) (w .count))
 
 pub link-written : (n : ℕ) (prev : Ends) (bytes : List ℕ) (e : Ends) (rest : List ℕ) → T (areBytes bytes)
     → judged n prev (firstField bytes) ≡ link e rest → bytes ≡ linkBytes e ++ rest
