@@ -33,6 +33,13 @@ three es n h =
     ∙ ap (λ (l : List ℕ). getD es (3 * n) 0 ∷ getD es (3 * n + 1) 0 ∷ l)
     (first-left es (3 * n + 2) (3 * (n + 1)) (omega arith) (omega arith))
 
+-- so many events taken, and no more
+abbrev pub stoppedAt : ℕ → ℕ → Tally → State → Taken
+stoppedAt m n t s = record { answer = m; taken = n; tally = t; state = s }
+
+stopped-here : (m n : ℕ) (t : Tally) (s : State) → andBefore n (stopping m t s) ≡ stoppedAt m n t s
+stopped-here m n t s = ap (λ (k : ℕ). stoppedAt m k t s) (omega arith)
+
 -- ---- R: what the whole call answers. The calls have come to the state s and the tally t after n events
 module _ (R : Taken) (es : List ℕ) (s : State) (t : Tally) (n : ℕ) where
   abbrev pub CameTo : Type 0
@@ -53,8 +60,8 @@ module _ (R : Taken) (es : List ℕ) (s : State) (t : Tally) (n : ℕ) where
         ∙ ap (λ (x : Tally). andBefore (n + 1) (calls (r .state) x (drop (3 * (n + 1)) es))) (sym q)
 
     -- or refused
-    pub stops : (r .answer ≡ 0 → ⊥) → andBefore n (stopping (r .answer) t s) ≡ R
-    stops z = sym (came ∙ ap (andBefore n) (one-refused s t kind a b (drop (3 * (n + 1)) es) r e z))
+    pub stops : (r .answer ≡ 0 → ⊥) → stoppedAt (r .answer) n t s ≡ R
+    stops z = sym (came ∙ ap (andBefore n) (one-refused s t kind a b (drop (3 * (n + 1)) es) r e z) ∙ stopped-here (r .answer) n t s)
 
 -- ---- the end of the list
 -- what is said there: 6 where one or two numbers are left over
@@ -71,12 +78,9 @@ left-over s t (x ∷ y ∷ z ∷ es) h = absurd (never h)
     never : length (x ∷ y ∷ z ∷ es) < 3 → ⊥
     never h = omega arith
 
-pub ends : (R : Taken) (es : List ℕ) (s : State) (t : Tally) (n m : ℕ) → CameTo R es s t n → n ≡ length es / 3 → m ≡ overBy (length es)
-    → record { answer = m; taken = n; tally = t; state = s } ≡ R
-ends R es s t n m c e q =
+pub ends : (R : Taken) (es : List ℕ) (s : State) (t : Tally) (n k m : ℕ) → CameTo R es s t n → n ≡ k → k ≡ length es / 3
+    → m ≡ overBy (length es) → stoppedAt m k t s ≡ R
+ends R es s t n k m c i e q =
     let l : length (drop (3 * n) es) ≡ length es % 3 = length-drop (3 * n) es ∙ omega arith in
-    (λ j. record { answer = (q ∙ sym (ap (λ (k : ℕ). if eqb k 0 then 0 else 6) l)) j; taken = z j; tally = t; state = s })
-    ∙ sym (c ∙ ap (andBefore n) (left-over s t (drop (3 * n) es) (omega arith)))
-  where
-    z : n ≡ n + 0
-    z = omega arith
+    (λ j. stoppedAt ((q ∙ sym (ap (λ (k : ℕ). if eqb k 0 then 0 else 6) l)) j) (sym i j) t s)
+    ∙ sym (c ∙ ap (andBefore n) (left-over s t (drop (3 * n) es) (omega arith)) ∙ stopped-here _ n t s)
