@@ -1,29 +1,10 @@
 // The network's step: one call takes the whole state and one event, and hands back the whole state after it, or the same
-// state and the number that says no. Only `step` itself holds a state: no helper takes or returns one, nor the letters' room. The
-// station that the event concerns is copied once out of the state and stored once into it.
+// state and the number that says no. Only `step` itself holds a state: what it calls takes or returns none, nor the letters' room. The
+// station that the event concerns is copied once out of the state and stored once into it. What the event names, and what becomes of the
+// list of letters, is `step_parts`.
 ghost use mathlib.Core.Path.{_≡_};
-ghost use mathlib.Core.Bool.{Bool, _&&_};
-ghost use Prim.Native.Nat.{_+_, _-_, min, _%_};
-ghost use lib.Dec.{ltb, eqb};
-ghost use Rattle.lists.specs.Lists.{if_then_else_};
-ghost use Rattle.world.specs.World.{noLetter, isLinkAt, receiverIn, concernedBy, existsAs};
 ghost use Rattle.step_rules.specs.Step.{steppedOf};
-ghost use Rattle.step.specs.Parts.{placeBy, fewerBy, numberBy};
-ghost use Rattle.net.specs.Network.{ends};
-ghost use Rattle.net.specs.Sizes.{stationRoom, linkRoom};
-ghost use Rattle.net.specs.Values.{networkOf};
-ghost use Rattle.station.specs.Acts.{subjectOf};
-ghost use Rattle.station.specs.Events.{takesLetter, linkOf};
-ghost use Rattle.sets.specs.Rooms.{inRoom};
-use net::Body;
-use net::LETTER_ROOM;
-use net::LINK_ROOM;
-use net::Letter;
-use net::MOST_LINKS;
-use net::MOST_STATIONS;
-use net::Net;
 use state::State;
-use station::Kind;
 use station::Station;
 use step_rules::Stepped;
 use tally::Tally;
@@ -49,12 +30,10 @@ pub fn step(mut s: State, kind: u32, a: u32, b: u32) -> Stepped
     let flying = s.flying;
     let what = station_kinds::kind_of(kind);
     // what the event names
-    let place = place_of(a);
+    let place = step_parts::place_of(a);
     let x = s.letters[place];
-    let me = concerned(net, what, a, x);
-    let named = there(net, flying, what, a, b);
-    let k = link_of(what, b, x);
-    let about = subject_of(x);
+    let names = step_parts::names_of(net, flying, what, a, b, x);
+    let me = names.station;
     // what it comes to at the station that it concerns
     let own = marks::own_links(net, me);
     let who = me as usize;
@@ -62,14 +41,14 @@ pub fn step(mut s: State, kind: u32, a: u32, b: u32) -> Stepped
     let condition = st.condition;
     let table = st.counters;
     let marks = st.marks;
-    let on = k as usize;
-    let of = about as usize;
+    let on = names.link as usize;
+    let of = names.subject as usize;
     let plan = station_event::events::plan_event(
-        named,
+        names.there,
         what,
         own,
         me,
-        k,
+        names.link,
         x,
         table[on],
         table[of],
@@ -80,12 +59,10 @@ pub fn step(mut s: State, kind: u32, a: u32, b: u32) -> Stepped
     let sends = plan.sends;
     let send = station_table::narrow(plan.knows, net.links, told, sends);
     let count = post::count(send);
-    let leaves = takes_letter(what);
-    let left = left_of(leaves, flying);
-    let answer = number_of(plan.answer, left, count);
-    if answer != 0 {
+    let room = step_parts::room_of(what, flying, place, plan.answer, count, x);
+    if room.answer != 0 {
         return Stepped {
-            answer,
+            answer: room.answer,
             counts: Tally {
                 settled: 0,
                 raised: 0,
@@ -104,15 +81,14 @@ pub fn step(mut s: State, kind: u32, a: u32, b: u32) -> Stepped
         marks: marked,
     };
     // the later letters close up
-    let last = left as usize;
-    let gap = gap_of(leaves, place, last);
-    for i in gap.from..last {
+    let last = room.left as usize;
+    for i in room.from..last {
         let j = i + 1;
         let y = s.letters[j];
         s.letters[i] = y;
     }
-    let unused = freed(leaves, x);
-    let free = gap.free;
+    let free = room.free;
+    let unused = room.unused;
     s.letters[free] = unused;
     // new letters go to the end
     let mut post = post::begun(send);
@@ -123,7 +99,7 @@ pub fn step(mut s: State, kind: u32, a: u32, b: u32) -> Stepped
         s.letters[at] = y;
         post = post::rest(post);
     }
-    s.flying = left + count;
+    s.flying = room.left + count;
     let counts = plan.counts;
     Stepped {
         answer: 0,

@@ -36,16 +36,22 @@ room-few n r e =
     subst⁻¹ (λ (n : ℕ). n < stationRoom) e
     (if-elim (λ (n : ℕ). n < stationRoom) (ltb n stationRoom) (λ t. ltb→lt n stationRoom t) (λ t. omega arith))
 
--- what an event names is in its rooms, whatever the event
-module _ (net : Net) (flying : ℕ) (kind : Kind) (a b : ℕ) (x : Letter) (n : Names) (e : n ≡ namesBy net flying kind a b x) where
-  pub station-few : n .station < stationRoom
-  station-few = room-few (concernedBy kind (networkOf net) a x) (n .station) (ap (λ (y : Names). y .station) e)
+-- what an event names has its places, whatever the event
+pub record Placed (n : Names) : Type 0 where
+  pub station : n .station < stationRoom
+  pub link : n .link < linkRoom
+  pub subject : n .subject < linkRoom
 
-  pub link-few : n .link < linkRoom
-  link-few = let h : n .link ≡ linkOf kind b x % linkRoom = ap (λ (y : Names). y .link) e in omega (arith, h)
-
-  pub subject-few : n .subject < linkRoom
-  subject-few = let h : n .subject ≡ subjectOf (x .body) % linkRoom = ap (λ (y : Names). y .subject) e in omega (arith, h)
+pub placed : (net : Net) (flying : ℕ) (kind : Kind) (a b : ℕ) (x : Letter) (n : Names) → n ≡ namesBy net flying kind a b x → Placed n
+unfolding namesBy
+placed net flying kind a b x n e =
+    let k : n .link ≡ linkOf kind b x % linkRoom = ap (λ (y : Names). y .link) e in
+    let j : n .subject ≡ subjectOf (x .body) % linkRoom = ap (λ (y : Names). y .subject) e in
+    record {
+      station = room-few (concernedBy kind (networkOf net) a x) (n .station) (ap (λ (y : Names). y .station) e);
+      link = omega (arith, k);
+      subject = omega (arith, j);
+    }
 
 module _ (leaves : Bool) where
   pub left-all : (n : ℕ) → leaves ≡ false → n ≡ fewerBy leaves n

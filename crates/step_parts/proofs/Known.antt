@@ -46,7 +46,7 @@ use Rattle.sets.specs.Rooms.{inRoom}
 use Rattle.step_rules.specs.Step.{event}
 use Rattle.step_parts.specs.declared.Names.{Names}
 use Rattle.step_parts.specs.Parts.{placeBy, namesBy}
-use Rattle.step_parts.proofs.Helpers.{room-few}
+use Rattle.step_parts.proofs.Helpers.{placed}
 
 -- ---- by the kind of the event
 -- the link that it names is there
@@ -129,7 +129,7 @@ module _ {s : State} {kind a b : ℕ} {e : Kind} {place : ℕ} {n : Names} {own 
     names-are = f .names ∙ ap (λ (e : Kind). namesBy (s .net) (s .flying) e a b x) (f .decodes)
 
     pub within : me < stationRoom
-    within = room-few (concernedBy K (networkOf (s .net)) a x) me (ap (λ (y : Names). y .station) names-are)
+    within = placed (s .net) (s .flying) K a b x n names-are .station
 
     pub ok : Formed w
     ok = M.world-formed s (f .sized) (f .holds)
@@ -144,7 +144,7 @@ module _ {s : State} {kind a b : ℕ} {e : Kind} {place : ℕ} {n : Names} {own 
     stations-are = (ap (λ (n : Network). n .stations) net-is ∙ M.count-is s (f .sized) (f .holds), M.few s (f .sized) (f .holds))
 
     named-is : named ≡ exists w E
-    unfolding exists
+    unfolding exists namesBy
     named-is =
         ap (λ (y : Names). y .there) names-are
         ∙ ap₂ (λ (n : Network) (m : ℕ). existsAs K n m a b) (sym net-is) (sym (M.world-flying s (f .sized) (f .holds)))
@@ -171,7 +171,7 @@ module _ {s : State} {kind a b : ℕ} {e : Kind} {place : ℕ} {n : Names} {own 
               ∙ sym (List·getD-eq-default (w .letters) noLetter {n = a} (omega (arith, M.world-flying s (f .sized) (f .holds), l)))
 
       pub me-is : me ≡ concerned w E
-      unfolding concerned
+      unfolding concerned namesBy
       me-is =
           ap (λ (y : Names). y .station) names-are ∙ ap₂ (λ (n : Network) (l : Letter). inRoom (concernedBy K n a l)) (sym net-is) letter-is
           ∙ ap (λ (c : Bool). if c then concernedBy K (w .net) a (letterAt w a) else 0)
@@ -194,12 +194,14 @@ module _ {s : State} {kind a b : ℕ} {e : Kind} {place : ℕ} {n : Names} {own 
           (link-few (w .net) (concerned w E) K b (letterAt w a) (names w ok E q) t)
 
       link-is : T (onLink K) → k ≡ linkOf K b x
+      unfolding namesBy
       link-is t = ap (λ (y : Names). y .link) names-are ∙ mod-few (linkOf K b x) (link-there t)
 
       posted : T (takesLetter K) → Posted w x
       posted t = subst⁻¹ (Posted w) letter-is (meant-posted w ok E q t)
 
       meant : Meant (s .net) st K k x (getD (st .counters) about 0)
+      unfolding namesBy
       meant = record {
         link = λ t. omega (arith, link-is t, link-there t, links-are);
         letter = λ t.

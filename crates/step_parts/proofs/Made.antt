@@ -157,6 +157,7 @@ module _ {s : State} {kind a b : ℕ} {e : Kind} {place : ℕ} {n : Names} {own 
   last = fewerBy leaves (s .flying)
 
   stays : r .left ≡ last
+  unfolding roomBy
   stays = ap (λ (y : Room). y .left) room-is
 
   abbrev left₀ : ℕ
@@ -208,6 +209,7 @@ module _ {s : State} {kind a b : ℕ} {e : Kind} {place : ℕ} {n : Names} {own 
   planned = K.number-is (f .seen)
 
   by-plan : (c : Bool) → eqb (p .answer) 0 ≡ c → r .answer ≡ (if c then (if ltb letterRoom (left₀ + count) then 9 else 0) else p .answer)
+  unfolding roomBy
   by-plan c e =
       ap (λ (y : Room). y .answer) room-is
       ∙ ap₂ (λ (m : ℕ) (c : Bool). if c then (if ltb letterRoom (m + count) then 9 else 0) else p .answer) (sym stays) e
@@ -308,7 +310,7 @@ module _ {s : State} {kind a b : ℕ} {e : Kind} {place : ℕ} {n : Names} {own 
 
     -- ---- the letters
     pub closed-up : set (closing (r .from) (s .letters) (r .left)) (r .free) (r .unused) ≡ roomed letterRoom noLetter leftLetters
-    unfolding left
+    unfolding left roomBy
     closed-up =
         ap (λ (y : Room). set (closing (y .from) (s .letters) (y .left)) (y .free) (y .unused)) room-is
         ∙ ap (λ (l : List Letter). set (closing (if leaves then place else last) l last) (if leaves then last else place)
@@ -318,6 +320,7 @@ module _ {s : State} {kind a b : ℕ} {e : Kind} {place : ℕ} {n : Names} {own 
 
     -- a loop that closes up stays within the room
     pub closes-within : (r .from ≤ r .left) × (r .from < r .left → r .left < letterRoom)
+    unfolding roomBy
     closes-within = go leaves refl (ap (λ (y : Room). y .from) room-is) stays
       where
         go : (c : Bool) → leaves ≡ c → r .from ≡ (if c then place else fewerBy c (s .flying)) → left₀ ≡ fewerBy c (s .flying)
@@ -332,6 +335,7 @@ module _ {s : State} {kind a b : ℕ} {e : Kind} {place : ℕ} {n : Names} {own 
             never h = omega (arith, x, y, h)
 
     pub free-within : r .free < letterRoom
+    unfolding roomBy
     free-within = go leaves refl (ap (λ (y : Room). y .free) room-is)
       where
         go : (c : Bool) → leaves ≡ c → r .free ≡ (if c then fewerBy c (s .flying) else place) → r .free < letterRoom

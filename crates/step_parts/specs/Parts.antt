@@ -16,7 +16,7 @@ use Rattle.step_parts.specs.declared.Names.{Names}
 use Rattle.step_parts.specs.declared.Room.{Room}
 
 -- what it names; the station and the links are places in their rooms
-abbrev pub namesBy : Net → ℕ → Kind → ℕ → ℕ → Letter → Names
+unfoldable pub namesBy : Net → ℕ → Kind → ℕ → ℕ → Letter → Names
 namesBy net flying kind a b x =
     record {
       station = inRoom (concernedBy kind (networkOf net) a x);
@@ -38,7 +38,7 @@ numberBy planned left count = if eqb planned 0 then (if ltb letterRoom (left + c
 
 -- where a letter leaves, the later ones close up from its place on, and the last place falls free; where none does, none moves, and what
 -- is laid down again stands where it was
-abbrev pub roomBy : Kind → ℕ → ℕ → ℕ → ℕ → Letter → Room
+unfoldable pub roomBy : Kind → ℕ → ℕ → ℕ → ℕ → Letter → Room
 roomBy kind flying place planned count x =
     record {
       answer = numberBy planned (fewerBy (takesLetter kind) flying) count;

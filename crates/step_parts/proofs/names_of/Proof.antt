@@ -1,3 +1,4 @@
+use Rattle.step_parts.specs.Parts.{namesBy}
 use borrow.Author.Needs.{needs}
 use Rattle.step_parts.proofs.names_of.Statement.{statement}
 use Rattle.step_parts.proofs.names_of.Tie as tie
@@ -15,6 +16,7 @@ subject-of-requires : tie.Need-subject-of-requires
 subject-of-requires c κs = search needs
 
 returns : tie.Need-returns
+unfolding namesBy
 returns c = cc
 
 pub names-of-spec : {M : Type 1} → statement M

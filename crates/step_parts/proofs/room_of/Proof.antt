@@ -1,3 +1,4 @@
+use Rattle.step_parts.specs.Parts.{roomBy}
 use borrow.Author.Needs.{needs}
 use Rattle.step_parts.proofs.room_of.Statement.{statement}
 use Rattle.step_parts.proofs.room_of.Tie as tie
@@ -21,6 +22,7 @@ freed-requires : tie.Need-freed-requires
 freed-requires c κs = search needs
 
 returns : tie.Need-returns
+unfolding roomBy
 returns c = cc
 
 pub room-of-spec : {M : Type 1} → statement M
