@@ -1,11 +1,12 @@
 -- THE DEMANDS, one record for each: the mission's own words, then the claims that meet them, each a field; under the record its one
--- value, which is the proof. They are claimed of the nine calls on sheets, letters and states: a sheet read and written, a letter read
--- and written, the fresh state, the step, the step that is lent a tally, the reach, the report. None of them asks anything of its
--- caller, and a claim about a call holds of EVERY answer that its promise allows (specs/Calls.antt; proofs/Promised.antt: these are
--- the promises of the code). The reasons of the numbers are in the words of document 01 (specs/SheetReasons.antt, LetterReasons.antt,
--- StateReasons.antt). What a claim takes for granted of a value is what its type already says: that bytes are bytes (`areBytes`), that
--- a network's and a state's arrays have their sizes (`Ends64`, `Sized`), that a tally's counts have 64 bits (`Fits`). `Good s`: such a
--- state that is well formed. The rules themselves are world/specs: a world is what a state means.
+-- value, which is the proof. They are claimed of the ten calls on sheets, letters and states: a sheet read and written, a letter read
+-- and written, the fresh state, the step, the step that is lent a tally, the call over many events, the reach, the report. None of
+-- them asks anything of its caller, and a claim about a call holds of EVERY answer that its promise allows (specs/Calls.antt;
+-- proofs/Promised.antt: these are the promises of the code). The reasons of the numbers are in the words of document 01
+-- (specs/SheetReasons.antt, LetterReasons.antt, StateReasons.antt). What a claim takes for granted of a value is what its type already
+-- says: that bytes are bytes (`areBytes`), that a network's and a state's arrays have their sizes (`Ends64`, `Sized`), that a tally's
+-- counts have 64 bits (`Fits`). `Good s`: such a state that is well formed. The rules themselves are world/specs: a world is what a
+-- state means.
 use Prim.Native.Nat.{ℕ, _+_, _*_, _-_, _≤_, _<_, max}
 use mathlib.Core.Bool.{not}
 use mathlib.Core.Path.{_≡_, sym, ap, _∙_}
@@ -67,7 +68,7 @@ use Rattle.event_program.specs.Calls.{callsText}
 use Rattle.event_program.proofs.Program.{event-program}
 use Rattle.demands.specs.Given.{Lawful, GoodNet, BadNet}
 use Rattle.demands.specs.Calls.{ReadsSheet, WritesSheet, ReadsLetter, WritesLetter, Begins, Steps, StepsCounted}
-use Rattle.demands.specs.Calls.{AsksReach, AsksReport}
+use Rattle.demands.specs.Calls.{TakesBacklog, AsksReach, AsksReport}
 use Rattle.demands.specs.Counted.{Counted}
 use Rattle.demands.specs.Sample as Sample
 use Rattle.demands.specs.SheetReasons as Sheet
@@ -412,6 +413,8 @@ pub record OneAnswer : Type 0 where
   pub steps : (s : State) (e : Event) (c d : Steps s e) → c .answer ≡ d .answer
   pub steps-counted : (before : Tally) (s : State) (e : Event) (c d : StepsCounted before s e)
       → (c .answer ≡ d .answer) × (c .tally ≡ d .tally)
+  pub takes-backlog : (before : Tally) (s : State) (events : List ℕ) (c d : TakesBacklog before s events)
+      → (c .answer ≡ d .answer) × (c .tally ≡ d .tally)
   pub asks-reach : (s : State) (a : ℕ) (c d : AsksReach s a) → c .answer ≡ d .answer
   pub asks-report : (s : State) (a : ℕ) (old : List ℕ) (c d : AsksReport s a old) → (c .answer ≡ d .answer) × (c .output ≡ d .output)
 
@@ -427,6 +430,7 @@ one-answer =
       begins = λ net c d. c .promise ∙ sym (d .promise);
       steps = λ s e c d. c .promise ∙ sym (d .promise);
       steps-counted = λ t s e c d. (c .promise ∙ sym (d .promise), c .promise-tally ∙ sym (d .promise-tally));
+      takes-backlog = λ t s events c d. (c .promise ∙ sym (d .promise), c .promise-tally ∙ sym (d .promise-tally));
       asks-reach = λ s a c d. c .promise ∙ sym (d .promise);
       asks-report = λ s a old c d. (c .promise ∙ sym (d .promise), c .promise-output ∙ sym (d .promise-output));
     }

@@ -31,8 +31,10 @@ use Rattle.report.proofs.reach.Reads as Reach
 use Rattle.report.proofs.report.Kinds as ReportKinds
 use Rattle.report.proofs.report.Reads as Report
 use Rattle.step_counted.proofs.step_counted as Counted
+use Rattle.backlog_counted.proofs.backlog as Backlog
 use Rattle.step_rules.specs.Counting.{talliedBy}
 use Rattle.step_rules.specs.Step.{event, steppedOf}
+use Rattle.backlog_rules.specs.Backlog.{backlogOf}
 use Rattle.demands.specs.Calls.{ReadsSheet, WritesSheet, ReadsLetter, WritesLetter, Begins, Steps, AsksReach, AsksReport}
 
 -- sheet::read(bytes)
@@ -90,3 +92,11 @@ pub step-counted : {M : Type 1} (𝓤 : URA M) (H : Heap 𝓤) (A : Atoms 𝓤) 
     ≡ fact 𝓤 ((z ≡ steppedOf (a .1 .0) (a .1 .1 .0) (a .1 .1 .1 .0) (a .1 .1 .1 .1 .0))
     × (now (e .0) ≡ talliedBy (steppedOf (a .1 .0) (a .1 .1 .0) (a .1 .1 .1 .0) (a .1 .1 .1 .1 .0)) (now (a .0))))
 step-counted 𝓤 H A mem run κs a z e = refl
+
+-- backlog_counted::backlog(&mut tally, s, events), proved in the same way
+pub backlog : {M : Type 1} (𝓤 : URA M) (H : Heap 𝓤) (A : Atoms 𝓤) (mem : Memory → SProp 𝓤) (run : Routine → Fun 𝓤) (κs : Lfts 2)
+    (a : Args Backlog.signature κs) (z : Res Backlog.signature κs) (e : AtExit Backlog.ended κs)
+    → Backlog.clauses 𝓤 H A mem run κs a .ensures tt z e
+    ≡ fact 𝓤 ((z ≡ backlogOf (a .1 .0) (now (a .0)) (now (a .1 .1 .0)))
+    × (now (e .0) ≡ backlogOf (a .1 .0) (now (a .0)) (now (a .1 .1 .0)) .tally))
+backlog 𝓤 H A mem run κs a z e = refl

@@ -22,6 +22,8 @@ use Rattle.state.specs.Beginning.{begunOf}
 use Rattle.step_rules.specs.declared.Stepped.{Stepped}
 use Rattle.step_rules.specs.Step.{steppedOf}
 use Rattle.step_rules.specs.Counting.{talliedBy}
+use Rattle.backlog_rules.specs.declared.Taken.{Taken}
+use Rattle.backlog_rules.specs.Backlog.{backlogOf}
 use Rattle.report.specs.declared.Asked.{Asked}
 use Rattle.report.specs.Answers.{askedOf}
 use Rattle.report.specs.ReportsAnswers.{answerOf, outputOf}
@@ -66,6 +68,13 @@ pub record StepsCounted (before : Tally) (s : State) (e : Event) : Type 0 where
   pub tally : Tally
   pub promise : answer ≡ steppedOf s (e .kind) (e .a) (e .b)
   pub promise-tally : tally ≡ talliedBy (steppedOf s (e .kind) (e .a) (e .b)) before
+
+-- backlog_counted::backlog(&mut tally, s, events)
+pub record TakesBacklog (before : Tally) (s : State) (events : List ℕ) : Type 0 where
+  pub answer : Taken
+  pub tally : Tally
+  pub promise : answer ≡ backlogOf s before events
+  pub promise-tally : tally ≡ backlogOf s before events .tally
 
 -- reaching::reach(s, a)
 pub record AsksReach (s : State) (a : ℕ) : Type 0 where
