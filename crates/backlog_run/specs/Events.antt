@@ -1,9 +1,18 @@
 -- What the private steps of the code answer.
-use Prim.Native.Nat.{ℕ, _+_, _*_}
+use Prim.Native.Nat.{ℕ, _+_, _*_, _<_}
 use mathlib.Core.List.{List}
+use mathlib.Core.Path.{_≡_}
 use lib.ListN.{getD}
+use Rattle.net.specs.declared.Net.{Net}
+use Rattle.net.specs.Sizes.{stationRoom}
+use Rattle.sets.specs.Sets.{wordBy}
+use Rattle.marks.specs.Marks.{ownAt}
 use Rattle.backlog_run.specs.declared.Asked.{Asked}
 
 -- the three numbers of event i
 abbrev pub askedAt : List ℕ → ℕ → Asked
 askedAt events i = record { kind = getD events (3 * i) 0; a = getD events (3 * i + 1) 0; b = getD events (3 * i + 2) 0 }
+
+-- at each place a station's own links
+abbrev pub OwnWords : Net → List ℕ → Type 0
+OwnWords net owns = (i : ℕ) → i < stationRoom → getD owns i 0 ≡ wordBy (ownAt net i)

@@ -1,12 +1,16 @@
 // One call for many events: the state is tested once, and then each event is taken.
 ghost use mathlib.Core.Path.{_≡_};
+ghost use mathlib.Core.Bool.{_||_};
 ghost use Prim.Native.Nat.{_+_, _*_, _≤_};
 ghost use lib.ListN.{length};
 ghost use Rattle.backlog_rules.specs.Backlog.{backlogOf};
-ghost use Rattle.backlog_run.specs.Events.{askedAt};
+ghost use Rattle.backlog_run.specs.Events.{askedAt, OwnWords};
 ghost use Rattle.backlog_rules.proofs.Threes.{overBy};
 use backlog_rules::Taken;
+use net::Net;
+use net::STATION_ROOM;
 use state::State;
+use station::Station;
 use tally::Tally;
 
 fn left_over(size: usize) -> u8
@@ -34,35 +38,124 @@ fn event_at(events: &[u32], i: usize) -> Asked
     }
 }
 
+const STATIONS: u8 = 32;
+
+// Each station's own links, found once.
+fn own_words(net: Net) -> [u64; STATION_ROOM]
+    ensures { λ r. ⌜ OwnWords net r ⌝ }
+{
+    let mut owns = [0u64; STATION_ROOM];
+    for i in 0..STATIONS {
+        let at = i as usize;
+        owns[at] = marks::own_links(net, i);
+    }
+    owns
+}
+
+fn either(a: bool, b: bool) -> bool
+    ensures { λ r. ⌜ r ≡ (a || b) ⌝ }
+{
+    if a { true } else { b }
+}
+
 // Promise: equals `Backlog.backlogOf`.
 pub fn run_backlog(given: State, t: Tally, events: &[u32]) -> Taken
     ensures { λ r. ⌜ r ≡ backlogOf given t (now (events .entry)) ⌝ }
 {
-    if !state::well_formed(given) {
+    let mut s = given;
+    if !state::well_formed(s) {
         return Taken {
             answer: 11,
             taken: 0,
             tally: t,
-            state: given,
+            state: s,
         };
     }
-    let mut s = given;
+    let net = s.net;
+    let owns = own_words(net);
     let mut tally = t;
     let n = events.len() / 3;
     for taken in 0..n {
         let e = event_at(events, taken);
-        let r = step::step(s, e.kind, e.a, e.b);
-        if r.answer != 0 {
+        let what = station_kinds::kind_of(e.kind);
+        let place = step_parts::place_of(e.a);
+        let x = s.letters[place];
+        let flying = s.flying;
+        let names = step_parts::names_of(net, flying, what, e.a, e.b, x);
+        let me = names.station;
+        let who = me as usize;
+        let own = owns[who];
+        let st = s.stations[who];
+        let condition = st.condition;
+        let table = st.counters;
+        let marks = st.marks;
+        let on = names.link as usize;
+        let of = names.subject as usize;
+        let plan = station_event::events::plan_event(
+            names.there,
+            what,
+            own,
+            me,
+            names.link,
+            x,
+            table[on],
+            table[of],
+            condition,
+            marks,
+        );
+        let mut told = table;
+        if plan.sets {
+            told = station_table::told_table(plan.sets, plan.at, plan.counter, table);
+        }
+        let mut send = plan.sends;
+        if plan.knows {
+            send = station_table::narrow(plan.knows, net.links, told, send);
+        }
+        let count = post::count(send);
+        let room = step_parts::room_of(what, flying, place, plan.answer, count, x);
+        if room.answer != 0 {
             return Taken {
-                answer: r.answer,
+                answer: room.answer,
                 taken,
                 tally,
                 state: s,
             };
         }
-        let after = r.state;
-        s = after;
-        tally = tally::added(tally, r.counts);
+        let turned = plan.condition;
+        let marked = plan.marks;
+        s.stations[who] = Station {
+            condition: turned,
+            counters: told,
+            marks: marked,
+        };
+        if either(plan.resets, plan.purges) {
+            let kept = station_table::kept_table(net, me, plan.resets, plan.purges, told);
+            s.stations[who] = Station {
+                condition: turned,
+                counters: kept,
+                marks: marked,
+            };
+        }
+        let last = room.left as usize;
+        let from = room.from;
+        for i in from..last {
+            let j = i + 1;
+            let y = s.letters[j];
+            s.letters[i] = y;
+        }
+        let unused = room.unused;
+        let free = room.free;
+        s.letters[free] = unused;
+        let mut post = post::begun(send);
+        for i in 0..count {
+            let at = last + i as usize;
+            let subject = post::subject(post) as usize;
+            let y = post::first(post, me, told[subject]);
+            s.letters[at] = y;
+            post = post::rest(post);
+        }
+        s.flying = room.left + count;
+        tally = tally::added(tally, plan.counts);
     }
     Taken {
         answer: left_over(events.len()),

@@ -1,129 +1,657 @@
-use Prim.Native.Nat.{ℕ, _+_, _-_, _*_, _/_, _≤_, _<_, _^_}
-use mathlib.Core.Bool.{Bool, true, false}
+use Prim.Native.Nat.{ℕ, _+_, _-_, _*_, _/_, _≤_, _<_, _^_, min}
+use mathlib.Core.Bool.{Bool, true, false, _||_}
+use mathlib.Core.Logic.{⊎-elim}
 use mathlib.Core.Path.{_≡_, refl, sym, ap, _∙_, subst, subst⁻¹}
+use mathlib.Core.List.{List, _++_}
 use native.Mathlib.Omega.{arith}
-use lib.ListN.{length}
+use lib.ListN.{length, getD, set, take, drop}
+use lib.Seq.{take-length}
 use denote.Ref.{now}
 use borrow.Author.Needs.{needs}
-use borrow.Author.Tests.{eq-eqb, not-true, not-false}
-use Rattle.lists.specs.Lists.{if_then_else_}
+use borrow.Author.Tests.{not-true, not-false}
+use Rattle.lists.specs.Places.{roomed, closing}
 use Rattle.lists.proofs.Tests.{is-T}
 use Rattle.tally.specs.Sums.{tallied}
+use Rattle.net.specs.declared.Letter.{Letter}
+use Rattle.net.specs.declared.Net.{Net}
+use Rattle.net.specs.Sizes.{linkRoom, letterRoom, stationRoom}
+use Rattle.sets.specs.Sets.{wordBy}
+use Rattle.marks.specs.Marks.{ownAt}
+use Rattle.station.specs.declared.Sending.{Sending}
+use Rattle.station.specs.declared.Station.{Station}
+use Rattle.station_plan.specs.declared.Plan.{Plan}
+use Rattle.station_plan.specs.Carrying.{keptBy, narrowed}
+use Rattle.station_plan.specs.Plans.{toldIn}
+use Rattle.world.specs.World.{noLetter}
 use Rattle.state.specs.declared.State.{State}
+use Rattle.state.specs.State.{letterIn, stationIn}
+use Rattle.post.specs.Post.{posted, Going}
+use Rattle.post.proofs.PostLaws as P
 use Rattle.step_rules.specs.declared.Stepped.{Stepped}
-use Rattle.step_rules.specs.Step.{steppedOf}
+use Rattle.step_rules.specs.Step.{refusing, steppedOf}
 use Rattle.step_rules.proofs.Bridge.{Good, is-step}
-use Rattle.backlog_rules.specs.Backlog.{calls, backlogOf}
+use Rattle.step_parts.specs.declared.Names.{Names}
+use Rattle.step_parts.specs.declared.Room.{Room}
+use Rattle.step_parts.specs.Parts.{namesBy}
+use Rattle.step_parts.proofs.Helpers.{place-few, Placed, placed}
+use Rattle.step_parts.proofs.Made.{refused-event, posted-none, posted-more, Facts, answer-refusal, leftLetters, left-length}
+use Rattle.step_parts.proofs.Made.{new-are, few-after, closed-up, closes-within, free-within, made}
+use Rattle.step_parts.proofs.Loops.{withLetters, shifted, not-shifted, other-letters}
+use Rattle.backlog_rules.specs.Backlog.{backlogOf}
 use Rattle.backlog_rules.proofs.Laws.{bad-state, good-state, before-none}
 use Rattle.backlog_rules.proofs.Threes as Threes
 use Rattle.backlog_rules.proofs.Threes.{CameTo}
 use Rattle.backlog_run.specs.declared.Asked.{Asked}
+use Rattle.backlog_run.proofs.Turns.{told-same, told-long, sent-same, kept-same, withStation, stored-twice}
 use Rattle.backlog_run.proofs.run_backlog.Statement.{statement}
 use Rattle.backlog_run.proofs.run_backlog.Tie as tie
-use Rattle.backlog_run.proofs.run_backlog.Reads as reads
-use Rattle.backlog_run.proofs.run_backlog.Lts as lts
-use Rattle.backlog_run.proofs.event_at.Reads as event-at-reads
-use Rattle.backlog_run.proofs.left_over.Reads as left-over-reads
-use Rattle.state.proofs.well_formed.Reads as well-formed-reads
-use Rattle.step.proofs.step.Reads as step-reads
-use Rattle.tally.proofs.added.Reads as added-reads
 
+-- while the later letters close up
+abbrev Inv-loop2 : tie.InvT-loop2
+Inv-loop2 events s₀ net owns tally n taken place flying me who own on of plan told send count room last from i₀ s i =
+    (from ≤ i) × (i ≤ last) × (from < last → last < letterRoom) × (length (s₀ .letters) ≡ letterRoom)
+    × (s ≡ withLetters s₀ (closing from (s₀ .letters) i))
+
+abbrev μ-loop2 : tie.MeasureT-loop2
+μ-loop2 events s₀ net owns tally n taken place flying me who own on of plan told send count room last from i₀ s i = last - i
+
+-- while new letters are put at the end
+abbrev Inv-loop3 : tie.InvT-loop3
+Inv-loop3 events s₀ net owns tally n taken place flying me who own on of plan told count room last from free post₀ i₀ s post i =
+    (i ≤ count) × (last + count ≤ letterRoom) × (count ≡ length (posted me told post₀)) × Going post
+    × (posted me told post ≡ drop i (posted me told post₀)) × (s ≡ withLetters s₀ (s .letters)) × (length told ≡ linkRoom)
+    × ((ls : List Letter) → s₀ .letters ≡ roomed letterRoom noLetter ls → length ls ≡ last
+    → s .letters ≡ roomed letterRoom noLetter (ls ++ take i (posted me told post₀)))
+
+abbrev μ-loop3 : tie.MeasureT-loop3
+μ-loop3 events s₀ net owns tally n taken place flying me who own on of plan told count room last from free post₀ i₀ s post i = count - i
+
+-- between two events: the state is well formed, and what the whole call answers is what the calls one by one answer from here on
 abbrev Inv-loop : tie.InvT-loop
-Inv-loop events s₀ tally₀ n taken₀ s tally taken =
-    (taken ≤ n) × (n ≡ length events / 3) × Good s × CameTo (backlogOf s₀ tally₀ events) events s tally taken
+Inv-loop events s₀ net owns tally₀ n taken₀ s tally taken =
+    (taken ≤ n) × (n ≡ length events / 3) × Good s × (s .net ≡ net) × CameTo (backlogOf s₀ tally₀ events) events s tally taken
 
 abbrev μ-loop : tie.MeasureT-loop
-μ-loop events s₀ tally₀ n taken₀ s tally taken = n - taken
+μ-loop events s₀ net owns tally₀ n taken₀ s tally taken = n - taken
 
-well-formed-requires : tie.Need-well-formed-requires Inv-loop μ-loop
+-- ---- the places of the code that have names, from the answer back: the plan, what the event names, its three numbers, the turn's beginning
+abbrev Answered : Type 0
+Answered = tie.After-room-of Inv-loop2 μ-loop2 Inv-loop3 μ-loop3 Inv-loop μ-loop
+
+abbrev planAt : Answered → tie.After-plan-event Inv-loop2 μ-loop2 Inv-loop3 μ-loop3 Inv-loop μ-loop
+planAt c = c .before .before .before .before .before
+
+abbrev namesAt : Answered → tie.After-names-of Inv-loop2 μ-loop2 Inv-loop3 μ-loop3 Inv-loop μ-loop
+namesAt c = planAt c .before .before .before .before .before .before
+
+abbrev placeAt : Answered → tie.After-place-of Inv-loop2 μ-loop2 Inv-loop3 μ-loop3 Inv-loop μ-loop
+placeAt c = namesAt c .before .before
+
+abbrev turnAt : Answered → tie.At-loop Inv-loop2 μ-loop2 Inv-loop3 μ-loop3 Inv-loop μ-loop
+turnAt c = placeAt c .before .before .before .before
+
+abbrev ownsAt : tie.At-loop Inv-loop2 μ-loop2 Inv-loop3 μ-loop3 Inv-loop μ-loop → tie.After-own-words Inv-loop2 μ-loop2 Inv-loop3 μ-loop3 Inv-loop μ-loop
+ownsAt c = c .before
+
+-- and what they are of
+abbrev stateOf : Answered → State
+stateOf c = turnAt c .loop .s
+
+abbrev eventOf : Answered → Asked
+eventOf c = placeAt c .before .before .event-at .result
+
+abbrev namesOf : Answered → Names
+namesOf c = namesAt c .names-of .result
+
+abbrev meOf : Answered → ℕ
+meOf c = namesOf c .station
+
+abbrev planOf : Answered → Plan
+planOf c = planAt c .plan-event .result
+
+abbrev toldOf : Answered → List ℕ
+toldOf c = c .before .before .before .before .if2 .told
+
+abbrev sendOf : Answered → Sending
+sendOf c = c .before .before .if3 .send
+
+abbrev roomOf : Answered → Room
+roomOf c = c .room-of .result
+
+-- what is read is within its room
+place-within : (c : tie.After-place-of Inv-loop2 μ-loop2 Inv-loop3 μ-loop3 Inv-loop μ-loop) → c .place-of .result < letterRoom
+place-within c = place-few (c .before .before .event-at .result .a) (c .place-of .result) (c .place-of .ensures)
+
+names-within : (c : tie.After-names-of Inv-loop2 μ-loop2 Inv-loop3 μ-loop3 Inv-loop μ-loop) → Placed (c .names-of .result)
+names-within c = placed _ _ _ _ _ _ _ (c .names-of .ensures)
+
+-- the network, found once, is the state's own
+same-net : (c : tie.At-loop Inv-loop2 μ-loop2 Inv-loop3 μ-loop3 Inv-loop μ-loop) → c .loop .s .net ≡ c .before .before .before .before .before .before .args .given .net
+same-net c = c .loop .inv .3
+
+-- what is told and what is sent, by a test or by its function
+told-is : (c : tie.Joined2 Inv-loop2 μ-loop2 Inv-loop3 μ-loop3 Inv-loop μ-loop) → c .if2 .told ≡ toldIn (c .before .plan-event .result)
+    (stationIn (c .before .before .before .before .before .before .before .before .before .before .before .before .before .loop .s)
+    (c .before .before .before .before .before .before .before .names-of .result .station))
+told-is c = ⊎-elim (λ w. w .2 ∙ w .1 .ensures) (λ w. w .1 ∙ told-same _ _ _ _ (w .0 .left)) (c .if2 .came)
+
+sent-is : (c : Answered) → sendOf c ≡ narrowed (planOf c .knows) (min (stateOf c .net .links) linkRoom) (toldOf c) (planOf c .sends)
+sent-is c =
+    ⊎-elim (λ w. w .2 ∙ w .1 .ensures) (λ w. w .1 ∙ sent-same _ _ (toldOf c) _ (w .0 .left)) (c .before .before .if3 .came)
+    ∙ ap (λ (n : Net). narrowed (planOf c .knows) (min (n .links) linkRoom) (toldOf c) (planOf c .sends)) (sym (same-net (turnAt c)))
+
+own-is : (c : Answered) → getD (ownsAt (turnAt c) .own-words .result) (meOf c) 0 ≡ wordBy (ownAt (stateOf c .net) (meOf c))
+own-is c =
+    ownsAt (turnAt c) .own-words .ensures (meOf c) (names-within (namesAt c) .station)
+    ∙ ap (λ (n : Net). wordBy (ownAt n (meOf c))) (sym (same-net (turnAt c)))
+
+-- what the code has seen when it has its answer
+facts : (c : Answered) → Facts (stateOf c) (eventOf c .kind) (eventOf c .a) (eventOf c .b) (placeAt c .before .kind-of .result)
+    (placeAt c .place-of .result) (namesOf c) (getD (ownsAt (turnAt c) .own-words .result) (meOf c) 0) (planOf c) (toldOf c) (sendOf c)
+    (c .before .count .result) (roomOf c)
+facts c =
+    let l = turnAt c .loop in
+    record {
+      seen = record {
+        sized = l .inv .2 .sized;
+        holds = l .inv .2 .holds;
+        decodes = placeAt c .before .kind-of .ensures;
+        at = placeAt c .place-of .ensures;
+        names =
+            namesAt c .names-of .ensures ∙ ap (λ (n : Net). namesBy n (l .s .flying) (placeAt c .before .kind-of .result) (eventOf c .a) (eventOf c .b)
+            (letterIn (l .s) (placeAt c .place-of .result))) (sym (same-net (turnAt c)));
+        mine = own-is c;
+        plans = planAt c .plan-event .ensures .1;
+      };
+      tells = told-is (c .before .before .before .before);
+      sends = sent-is c;
+      counts = c .before .count .ensures (meOf c) (toldOf c);
+      room = c .room-of .ensures;
+    }
+
+-- the table that is told has its room
+told-size : (c : Answered) → length (toldOf c) ≡ linkRoom
+told-size c =
+    ap length (told-is (c .before .before .before .before))
+    ∙ told-long (planOf c .sets) (planOf c .at) (planOf c .counter) linkRoom (stationIn (stateOf c) (meOf c) .counters)
+    (turnAt c .loop .inv .2 .sized .each (meOf c) (names-within (namesAt c) .station) .counters)
+
+-- the answer, from where the letters begin to close up and from where new letters begin to be put
+abbrev Stored : Type 0
+Stored = tie.After-struct-known4 Inv-loop2 μ-loop2 Inv-loop3 μ-loop3 Inv-loop μ-loop
+
+abbrev closes : Stored → Answered
+closes c = c .before .before .before .before .before .before
+
+abbrev puts : tie.After-begun Inv-loop2 μ-loop2 Inv-loop3 μ-loop3 Inv-loop μ-loop → Stored
+puts c = c .before .before .before .before
+
+-- that nothing refuses
+none : (c : Stored) → roomOf (closes c) .answer ≡ 0
+none c = c .before .before .before .before .if4 .left
+
+-- the station as it is stored, once or twice: the table that the plan leaves
+abbrev keptOf : Answered → List ℕ
+keptOf c = keptBy (stateOf c .net) (meOf c) (planOf c .resets) (planOf c .purges) (toldOf c)
+
+abbrev storedBy : Answered → List ℕ → Station
+storedBy c kept = record { condition = planOf c .condition; counters = kept; marks = planOf c .marks }
+
+stored : (c : Stored) → c .before .if5 .s ≡ withStation (stateOf (closes c)) (meOf (closes c)) (storedBy (closes c) (keptOf (closes c)))
+stored c =
+    let d = closes c in
+    let s = stateOf d in
+    let p = planOf d in
+    let net = ap (λ (n : Net). keptBy n (meOf d) (p .resets) (p .purges) (toldOf d)) (sym (same-net (turnAt d))) in
+    ⊎-elim
+    (λ w. w .2 ∙ stored-twice s (meOf d) (storedBy d (toldOf d)) _ ∙ ap (λ (k : List ℕ). withStation s (meOf d) (storedBy d k)) (w .1 .ensures ∙ net))
+    (λ w. w .1 ∙ ap (λ (k : List ℕ). withStation s (meOf d) (storedBy d k))
+    (kept-same (s .net) (meOf d) (p .resets) (p .purges) (toldOf d) (sym (c .before .before .either .ensures) ∙ w .0 .left)))
+    (c .before .if5 .came)
+
+-- the state from which new letters are put
+abbrev putsFrom : tie.After-begun Inv-loop2 μ-loop2 Inv-loop3 μ-loop3 Inv-loop μ-loop → State
+putsFrom c =
+    let r = roomOf (closes (puts c)) in
+    withLetters (c .before .before .before .loop2 .s) (set (c .before .before .before .loop2 .s .letters) (r .free) (r .unused))
+
+well-formed-requires : tie.Need-well-formed-requires Inv-loop2 μ-loop2 Inv-loop3 μ-loop3 Inv-loop μ-loop
 well-formed-requires c κs = search needs
 
-returns : tie.Need-returns Inv-loop μ-loop
+returns : tie.Need-returns Inv-loop2 μ-loop2 Inv-loop3 μ-loop3 Inv-loop μ-loop
 returns c =
     let a = c .before .before .before .args in
     sym (bad-state (a .given) (a .t) (now (a .events)) (sym (c .before .well-formed .ensures .0) ∙ not-true _ (c .if1 .taken)))
 
-tested : (c : tie.Else1 Inv-loop μ-loop) → Good (c .before .before .before .args .given)
+own-words-requires : tie.Need-own-words-requires Inv-loop2 μ-loop2 Inv-loop3 μ-loop3 Inv-loop μ-loop
+own-words-requires c κs = search needs
+
+-- the state given is well formed
+tested : (c : tie.Else1 Inv-loop2 μ-loop2 Inv-loop3 μ-loop3 Inv-loop μ-loop) → Good (c .before .before .before .args .given)
 tested c =
     let good = not-false _ (c .if1 .left) in
     let said = c .before .well-formed .ensures in
     record { sized = said .1 good; holds = is-T _ (sym (said .0) ∙ good) }
 
--- how many events there are is a 64-bit number
-small : (c : tie.After-shared-slice-known Inv-loop μ-loop) → length (now (c .before .args .events)) < 2 ^ 64
-small c = omega arith
-
--- what the step did, in the loop's terms
-stepped : (c : tie.After-step Inv-loop μ-loop) → c .step .result ≡ steppedOf (c .before .before .before .loop .s)
-    (c .before .event-at .result .kind) (c .before .event-at .result .a) (c .before .event-at .result .b)
-stepped c = c .step .ensures
-
-loop-holds : tie.Need-loop-holds Inv-loop μ-loop
+loop-holds : tie.Need-loop-holds Inv-loop2 μ-loop2 Inv-loop3 μ-loop3 Inv-loop μ-loop
 loop-holds c =
-    let good = tested c in (omega arith, refl, good, good-state _ _ _ (good .holds) ∙ sym (before-none _))
+    let good = tested (c .before .before) in
+    (omega arith, refl, good, refl, good-state _ _ _ (good .holds) ∙ sym (before-none _))
 
-event-at-requires : tie.Need-event-at-requires Inv-loop μ-loop
+event-at-requires : tie.Need-event-at-requires Inv-loop2 μ-loop2 Inv-loop3 μ-loop3 Inv-loop μ-loop
 event-at-requires c κs = omega arith
 
-step-requires : tie.Need-step-requires Inv-loop μ-loop
-step-requires c κs = search needs
+kind-of-requires : tie.Need-kind-of-requires Inv-loop2 μ-loop2 Inv-loop3 μ-loop3 Inv-loop μ-loop
+kind-of-requires c κs = search needs
 
-returns-2 : tie.Need-returns-2 Inv-loop μ-loop
+place-of-requires : tie.Need-place-of-requires Inv-loop2 μ-loop2 Inv-loop3 μ-loop3 Inv-loop μ-loop
+place-of-requires c κs = search needs
+
+mul-x : tie.Need-mul-x Inv-loop2 μ-loop2 Inv-loop3 μ-loop3 Inv-loop μ-loop
+mul-x c = omega (arith, place-within c)
+
+element-copy-out-x : tie.Need-element-copy-out-x Inv-loop2 μ-loop2 Inv-loop3 μ-loop3 Inv-loop μ-loop
+element-copy-out-x c = place-within c
+
+names-of-requires : tie.Need-names-of-requires Inv-loop2 μ-loop2 Inv-loop3 μ-loop3 Inv-loop μ-loop
+names-of-requires c κs = search needs
+
+cast-who : tie.Need-cast-who Inv-loop2 μ-loop2 Inv-loop3 μ-loop3 Inv-loop μ-loop
+cast-who c = omega arith
+
+mul-own : tie.Need-mul-own Inv-loop2 μ-loop2 Inv-loop3 μ-loop3 Inv-loop μ-loop
+mul-own c = omega (arith, names-within c .station)
+
+array-read-own : tie.Need-array-read-own Inv-loop2 μ-loop2 Inv-loop3 μ-loop3 Inv-loop μ-loop
+array-read-own c = names-within c .station
+
+mul-st : tie.Need-mul-st Inv-loop2 μ-loop2 Inv-loop3 μ-loop3 Inv-loop μ-loop
+mul-st c = omega (arith, names-within c .station)
+
+element-copy-out-st : tie.Need-element-copy-out-st Inv-loop2 μ-loop2 Inv-loop3 μ-loop3 Inv-loop μ-loop
+element-copy-out-st c = names-within c .station
+
+cast-on : tie.Need-cast-on Inv-loop2 μ-loop2 Inv-loop3 μ-loop3 Inv-loop μ-loop
+cast-on c = omega arith
+
+cast-of : tie.Need-cast-of Inv-loop2 μ-loop2 Inv-loop3 μ-loop3 Inv-loop μ-loop
+cast-of c = omega arith
+
+-- what the event names, from where the plan is made
+abbrev named : tie.After-struct-known2 Inv-loop2 μ-loop2 Inv-loop3 μ-loop3 Inv-loop μ-loop → tie.After-names-of Inv-loop2 μ-loop2 Inv-loop3 μ-loop3 Inv-loop μ-loop
+named c = c .before .before .before .before .before
+
+mul-plan-event : tie.Need-mul-plan-event Inv-loop2 μ-loop2 Inv-loop3 μ-loop3 Inv-loop μ-loop
+mul-plan-event c = omega (arith, names-within (named c) .link)
+
+array-read-plan-event : tie.Need-array-read-plan-event Inv-loop2 μ-loop2 Inv-loop3 μ-loop3 Inv-loop μ-loop
+array-read-plan-event c = names-within (named c) .link
+
+mul-plan-event-2 : tie.Need-mul-plan-event-2 Inv-loop2 μ-loop2 Inv-loop3 μ-loop3 Inv-loop μ-loop
+mul-plan-event-2 c = omega (arith, names-within (named c) .subject)
+
+array-read-plan-event-2 : tie.Need-array-read-plan-event-2 Inv-loop2 μ-loop2 Inv-loop3 μ-loop3 Inv-loop μ-loop
+array-read-plan-event-2 c = names-within (named c) .subject
+
+plan-event-requires : tie.Need-plan-event-requires Inv-loop2 μ-loop2 Inv-loop3 μ-loop3 Inv-loop μ-loop
+plan-event-requires c κs = search needs
+
+told-table-requires : tie.Need-told-table-requires Inv-loop2 μ-loop2 Inv-loop3 μ-loop3 Inv-loop μ-loop
+told-table-requires c κs = search needs
+
+narrow-requires : tie.Need-narrow-requires Inv-loop2 μ-loop2 Inv-loop3 μ-loop3 Inv-loop μ-loop
+narrow-requires c κs = search needs
+
+count-requires : tie.Need-count-requires Inv-loop2 μ-loop2 Inv-loop3 μ-loop3 Inv-loop μ-loop
+count-requires c κs = search needs
+
+room-of-requires : tie.Need-room-of-requires Inv-loop2 μ-loop2 Inv-loop3 μ-loop3 Inv-loop μ-loop
+room-of-requires c κs = search needs
+
+-- how many numbers there are is a 64-bit number, and the event's three stand among them
+small : (c : tie.After-shared-slice-known Inv-loop2 μ-loop2 Inv-loop3 μ-loop3 Inv-loop μ-loop) → length (now (c .before .args .events)) < 2 ^ 64
+small c = omega arith
+
+inside : (c : tie.In-loop Inv-loop2 μ-loop2 Inv-loop3 μ-loop3 Inv-loop μ-loop) → 3 * c .before .loop .taken + 3 ≤ length (now (c .before .before .before .before .before .before .before .args .events))
+inside c = omega arith
+
+abbrev testAt : Answered → tie.In-loop Inv-loop2 μ-loop2 Inv-loop3 μ-loop3 Inv-loop μ-loop
+testAt c = placeAt c .before .before .before
+
+returns-2 : tie.Need-returns-2 Inv-loop2 μ-loop2 Inv-loop3 μ-loop3 Inv-loop μ-loop
 returns-2 c =
-    let d = c .before .before in
-    let l = d .before .before .before .loop in
-    let e = d .before .event-at in
-    let i : 3 * l .taken + 3 ≤ length (now (d .before .before .before .before .before .before .before .args .events)) = omega arith in
-    Threes.stops _ _ (l .s) (l .tally) (l .taken) (l .inv .3) (e .result .kind) (e .result .a) (e .result .b) (d .step .result) i
-    (ap (λ (x : Asked). x .kind) (e .ensures)) (ap (λ (x : Asked). x .a) (e .ensures)) (ap (λ (x : Asked). x .b) (e .ensures)) (d .step .ensures)
-    (c .if2 .taken)
+    let n = c .before .before in
+    let l = turnAt n .loop in
+    let e = eventOf n in
+    let q = placeAt n .before .before .event-at .ensures in
+    Threes.stops _ _ (l .s) (l .tally) (l .taken) (l .inv .4) (e .kind) (e .a) (e .b) (refusing (roomOf n .answer) (l .s)) (inside (testAt n))
+    (ap (λ (x : Asked). x .kind) q) (ap (λ (x : Asked). x .a) q) (ap (λ (x : Asked). x .b) q)
+    (refused-event (l .s) (e .kind) (e .a) (e .b) (facts n .seen .holds) _ (answer-refusal (facts n)) (c .if4 .taken)) (c .if4 .taken)
 
-added-requires : tie.Need-added-requires Inv-loop μ-loop
-added-requires c κs = search needs
+abbrev marked : tie.After-marked Inv-loop2 μ-loop2 Inv-loop3 μ-loop3 Inv-loop μ-loop → Answered
+marked c = c .before .before .before
 
-add-taken : tie.Need-add-taken Inv-loop μ-loop
-add-taken c = omega (arith, small (c .before .before .before .before .before .before .before .before .before .before))
+mul-t52 : tie.Need-mul-t52 Inv-loop2 μ-loop2 Inv-loop3 μ-loop3 Inv-loop μ-loop
+mul-t52 c = omega (arith, names-within (namesAt (marked c)) .station)
 
-loop-less : tie.Need-loop-less Inv-loop μ-loop
-loop-less c = omega arith
+element-set-from-s : tie.Need-element-set-from-s Inv-loop2 μ-loop2 Inv-loop3 μ-loop3 Inv-loop μ-loop
+element-set-from-s c = names-within (namesAt (marked c)) .station
 
-loop-again : tie.Need-loop-again Inv-loop μ-loop
-loop-again c =
-    let d = c .before .before .before .before in
-    let l = d .before .before .before .loop in
-    let e = d .before .event-at in
-    let i : 3 * l .taken + 3 ≤ length (now (d .before .before .before .before .before .before .before .args .events)) = omega arith in
-    let z = c .before .before .if2 .left in (
+either-requires : tie.Need-either-requires Inv-loop2 μ-loop2 Inv-loop3 μ-loop3 Inv-loop μ-loop
+either-requires c κs = search needs
+
+kept-table-requires : tie.Need-kept-table-requires Inv-loop2 μ-loop2 Inv-loop3 μ-loop3 Inv-loop μ-loop
+kept-table-requires c κs = search needs
+
+mul-t79 : tie.Need-mul-t79 Inv-loop2 μ-loop2 Inv-loop3 μ-loop3 Inv-loop μ-loop
+mul-t79 c = omega (arith, names-within (namesAt (marked (c .before .before .before))) .station)
+
+element-set-from-s-2 : tie.Need-element-set-from-s-2 Inv-loop2 μ-loop2 Inv-loop3 μ-loop3 Inv-loop μ-loop
+element-set-from-s-2 c = names-within (namesAt (marked (c .before .before .before))) .station
+
+cast-last : tie.Need-cast-last Inv-loop2 μ-loop2 Inv-loop3 μ-loop3 Inv-loop μ-loop
+cast-last c = omega arith
+
+loop2-holds : tie.Need-loop2-holds Inv-loop2 μ-loop2 Inv-loop3 μ-loop3 Inv-loop μ-loop
+loop2-holds c =
+    let f = facts (closes c) in
+    let r = closes-within f (none c) in (
       omega arith,
-      refl,
-      subst⁻¹ (λ (r : Stepped). Good (r .state)) (d .step .ensures)
-          (is-step (l .s) (e .result .kind) (e .result .a) (e .result .b) (l .inv .2) .good),
-      Threes.goes-on _ _ (l .s) (l .tally) (l .taken) (l .inv .3) (e .result .kind) (e .result .a) (e .result .b) (d .step .result) i
-          (ap (λ (x : Asked). x .kind) (e .ensures)) (ap (λ (x : Asked). x .a) (e .ensures)) (ap (λ (x : Asked). x .b) (e .ensures))
-          (d .step .ensures) (c .added .result)
-          (c .added .ensures ∙ sym (ap (λ (b : Bool). if b then tallied (l .tally) (d .step .result .counts) else l .tally) (eq-eqb _ 0 z))) z,
+      r .0,
+      r .1,
+      ap (λ (x : State). length (x .letters)) (stored c) ∙ f .seen .sized .letters,
+      not-shifted (c .before .if5 .s)
+          (roomOf (closes c) .from),
     )
 
-left-over-requires : tie.Need-left-over-requires Inv-loop μ-loop
+add-j : tie.Need-add-j Inv-loop2 μ-loop2 Inv-loop3 μ-loop3 Inv-loop μ-loop
+add-j c = omega arith
+
+mul-y : tie.Need-mul-y Inv-loop2 μ-loop2 Inv-loop3 μ-loop3 Inv-loop μ-loop
+mul-y c = omega arith
+
+element-copy-out-y : tie.Need-element-copy-out-y Inv-loop2 μ-loop2 Inv-loop3 μ-loop3 Inv-loop μ-loop
+element-copy-out-y c = omega (arith, c .before .loop2 .inv .2 (omega arith))
+
+mul-y-2 : tie.Need-mul-y-2 Inv-loop2 μ-loop2 Inv-loop3 μ-loop3 Inv-loop μ-loop
+mul-y-2 c = omega arith
+
+element-set-from-y : tie.Need-element-set-from-y Inv-loop2 μ-loop2 Inv-loop3 μ-loop3 Inv-loop μ-loop
+element-set-from-y c = omega (arith, c .before .before .loop2 .inv .2 (omega arith))
+
+add-i : tie.Need-add-i Inv-loop2 μ-loop2 Inv-loop3 μ-loop3 Inv-loop μ-loop
+add-i c = omega arith
+
+loop2-less : tie.Need-loop2-less Inv-loop2 μ-loop2 Inv-loop3 μ-loop3 Inv-loop μ-loop
+loop2-less c = omega arith
+
+loop2-again : tie.Need-loop2-again Inv-loop2 μ-loop2 Inv-loop3 μ-loop3 Inv-loop μ-loop
+loop2-again c =
+    let l = c .before .before .loop2 in
+    let few = l .inv .2 (omega arith) in (
+      omega arith,
+      omega arith,
+      l .inv .2,
+      l .inv .3,
+      shifted (c .before .before .before .before .if5 .s) (l .s) (roomOf (closes (c .before .before .before)) .from) (l .i) (l .inv .0)
+          (omega (arith, l .inv .3, few)) (l .inv .4),
+    )
+
+mul-unused : tie.Need-mul-unused Inv-loop2 μ-loop2 Inv-loop3 μ-loop3 Inv-loop μ-loop
+mul-unused c = let p = c .before .before .before in omega (arith, free-within (facts (closes p)) (none p))
+
+element-set-from-unused : tie.Need-element-set-from-unused Inv-loop2 μ-loop2 Inv-loop3 μ-loop3 Inv-loop μ-loop
+element-set-from-unused c = let p = c .before .before .before in free-within (facts (closes p)) (none p)
+
+begun-requires : tie.Need-begun-requires Inv-loop2 μ-loop2 Inv-loop3 μ-loop3 Inv-loop μ-loop
+begun-requires c κs = search needs
+
+loop3-holds : tie.Need-loop3-holds Inv-loop2 μ-loop2 Inv-loop3 μ-loop3 Inv-loop μ-loop
+loop3-holds c =
+    let n = closes (puts c) in
+    let g = P.start (meOf n) (toldOf n) (sendOf n) _ (c .begun .ensures) in (
+      omega arith,
+      few-after (facts n) (none (puts c)),
+      n .before .count .ensures (meOf n) (toldOf n) ∙ ap length (sym (g .0)),
+      g .1,
+      refl,
+      refl,
+      told-size n,
+      λ ls e l. e ∙ posted-none ls (posted (meOf n) (toldOf n) (c .begun .result)),
+    )
+
+cast-at : tie.Need-cast-at Inv-loop2 μ-loop2 Inv-loop3 μ-loop3 Inv-loop μ-loop
+cast-at c = omega arith
+
+add-at : tie.Need-add-at Inv-loop2 μ-loop2 Inv-loop3 μ-loop3 Inv-loop μ-loop
+add-at c = omega arith
+
+subject-requires : tie.Need-subject-requires Inv-loop2 μ-loop2 Inv-loop3 μ-loop3 Inv-loop μ-loop
+subject-requires c κs = search needs
+
+cast-subject : tie.Need-cast-subject Inv-loop2 μ-loop2 Inv-loop3 μ-loop3 Inv-loop μ-loop
+cast-subject c = omega arith
+
+mul-first : tie.Need-mul-first Inv-loop2 μ-loop2 Inv-loop3 μ-loop3 Inv-loop μ-loop
+mul-first c = omega (arith, P.subject-few (c .before .before .loop3 .post) _ (c .subject .ensures))
+
+array-read-first : tie.Need-array-read-first Inv-loop2 μ-loop2 Inv-loop3 μ-loop3 Inv-loop μ-loop
+array-read-first c = P.subject-few (c .before .before .loop3 .post) _ (c .subject .ensures)
+
+first-requires : tie.Need-first-requires Inv-loop2 μ-loop2 Inv-loop3 μ-loop3 Inv-loop μ-loop
+first-requires c κs = search needs
+
+mul-y-3 : tie.Need-mul-y-3 Inv-loop2 μ-loop2 Inv-loop3 μ-loop3 Inv-loop μ-loop
+mul-y-3 c = omega arith
+
+element-set-from-y-2 : tie.Need-element-set-from-y-2 Inv-loop2 μ-loop2 Inv-loop3 μ-loop3 Inv-loop μ-loop
+element-set-from-y-2 c = omega (arith, c .before .before .before .loop3 .inv .1)
+
+rest-requires : tie.Need-rest-requires Inv-loop2 μ-loop2 Inv-loop3 μ-loop3 Inv-loop μ-loop
+rest-requires c κs = search needs
+
+add-i-2 : tie.Need-add-i-2 Inv-loop2 μ-loop2 Inv-loop3 μ-loop3 Inv-loop μ-loop
+add-i-2 c = omega arith
+
+loop3-less : tie.Need-loop3-less Inv-loop2 μ-loop2 Inv-loop3 μ-loop3 Inv-loop μ-loop
+loop3-less c = omega arith
+
+loop3-again : tie.Need-loop3-again Inv-loop2 μ-loop2 Inv-loop3 μ-loop3 Inv-loop μ-loop
+loop3-again c =
+    let l = c .before .before .before .before .loop3 in
+    let b = c .before .before .before .before .before in
+    let me = meOf (closes (puts b)) in
+    let told = toldOf (closes (puts b)) in
+    let post = b .begun .result in
+    let at : ℕ = roomOf (closes (puts b)) .left + l .i in
+    let k : l .i < length (posted me told post) = omega (arith, l .inv .2) in
+    let st = P.step-seen me told (l .post) _ _ _ _ (posted me told post) (l .i) noLetter (c .before .before .subject .ensures) refl
+    (c .before .first .ensures) (c .rest .ensures) (l .inv .3) (l .inv .4) k in (
+      omega arith,
+      l .inv .1,
+      l .inv .2,
+      st .2,
+      st .1,
+      other-letters (putsFrom b) (l .s) (set (l .s .letters) at (c .before .first .result))
+          (l .inv .5),
+      l .inv .6,
+      λ ls e n. ap (λ (x : List Letter). set x at (c .before .first .result)) (l .inv .7 ls e n)
+          ∙ posted-more ls (posted me told post) (l .i) at (c .before .first .result) (omega (arith, n, l .inv .1, l .inv .2)) k
+          (ap (λ (m : ℕ). m + l .i) (sym n)) (st .0),
+    )
+
+-- ---- the event is taken
+abbrev Taking : Type 0
+Taking = tie.After-struct-known5 Inv-loop2 μ-loop2 Inv-loop3 μ-loop3 Inv-loop μ-loop
+
+abbrev begunAt : Taking → tie.After-begun Inv-loop2 μ-loop2 Inv-loop3 μ-loop3 Inv-loop μ-loop
+begunAt c = c .before .before .before
+
+abbrev answered : Taking → Answered
+answered c = closes (puts (begunAt c))
+
+add-s : tie.Need-add-s Inv-loop2 μ-loop2 Inv-loop3 μ-loop3 Inv-loop μ-loop
+add-s c = omega (arith, few-after (facts (answered c)) (none (puts (begunAt c))))
+
+added-requires : tie.Need-added-requires Inv-loop2 μ-loop2 Inv-loop3 μ-loop3 Inv-loop μ-loop
+added-requires c κs = search needs
+
+-- the state that the turn leaves
+abbrev leftBy : Taking → State
+leftBy c =
+    let l = c .before .before .loop3 in
+    record {
+      net = l .s .net;
+      flying = roomOf (answered c) .left + answered c .before .count .result;
+      stations = l .s .stations;
+      letters = l .s .letters;
+    }
+
+abbrev steppedBy : Taking → Stepped
+steppedBy c = record { answer = 0; counts = planOf (answered c) .counts; state = leftBy c }
+
+-- what stood there before the letters were changed
+others : (c : Taking) → (leftBy c .net ≡ stateOf (answered c) .net) × (leftBy c .stations ≡ set (stateOf (answered c) .stations)
+    (meOf (answered c)) (storedBy (answered c) (keptOf (answered c))))
+others c =
+    let l = c .before .before .loop3 in
+    let m = begunAt c .before .before .before .loop2 in
+    let st = stored (puts (begunAt c)) in (
+      ap (λ (x : State). x .net) (l .inv .5) ∙ ap (λ (x : State). x .net) (m .inv .4) ∙ ap (λ (x : State). x .net) st,
+      ap (λ (x : State). x .stations) (l .inv .5) ∙ ap (λ (x : State). x .stations) (m .inv .4) ∙ ap (λ (x : State). x .stations) st,
+    )
+
+-- it is the step's
+stepped : (c : Taking) → steppedBy c ≡ steppedOf (stateOf (answered c)) (eventOf (answered c) .kind) (eventOf (answered c) .a)
+    (eventOf (answered c) .b)
+stepped c =
+    let b = begunAt c in
+    let n = answered c in
+    let f = facts n in
+    let q = none (puts b) in
+    let r = roomOf n in
+    let l = c .before .before .loop3 in
+    let m = b .before .before .before .loop2 in
+    let me = meOf n in
+    let told = toldOf n in
+    let post = b .begun .result in
+    let g = P.start me told (sendOf n) _ (b .begun .ensures) in
+    let end : m .i ≡ r .left = omega arith in
+    let all : l .i ≡ length (posted me told post) = omega (arith, l .inv .2) in
+    let closed = ap (λ (x : State). set (x .letters) (r .free) (r .unused)) (m .inv .4)
+    ∙ ap (λ (x : State). set (closing (r .from) (x .letters) (m .i)) (r .free) (r .unused)) (stored (puts b))
+    ∙ ap (λ (i : ℕ). set (closing (r .from) (stateOf n .letters) i) (r .free) (r .unused)) end ∙ closed-up f q in
+    let put = l .inv .7 (leftLetters f q) closed (left-length f q)
+    ∙ ap (λ (x : List Letter). roomed letterRoom noLetter (leftLetters f q ++ x))
+    (ap (λ (i : ℕ). take i (posted me told post)) all ∙ take-length (posted me told post) ∙ g .0 ∙ new-are f q) in
+    made f q (l .s .net) (l .s .stations) (l .s .letters) (r .left + n .before .count .result) (keptOf n) (others c .0) refl (others c .1) put refl
+
+add-taken : tie.Need-add-taken Inv-loop2 μ-loop2 Inv-loop3 μ-loop3 Inv-loop μ-loop
+add-taken c =
+    omega (
+      arith,
+      inside (testAt (answered (c .before))),
+      small (turnAt (answered (c .before)) .before .before .before .before .before),
+    )
+
+loop-less : tie.Need-loop-less Inv-loop2 μ-loop2 Inv-loop3 μ-loop3 Inv-loop μ-loop
+loop-less c = omega (arith, testAt (answered (c .before)) .loop-test .taken)
+
+loop-again : tie.Need-loop-again Inv-loop2 μ-loop2 Inv-loop3 μ-loop3 Inv-loop μ-loop
+loop-again c =
+    let d = c .before in
+    let n = answered d in
+    let l = turnAt n .loop in
+    let e = eventOf n in
+    let q = placeAt n .before .before .event-at .ensures in
+    let r = stepped d in (
+      omega (arith, testAt n .loop-test .taken),
+      refl,
+      subst⁻¹ (λ (x : Stepped). Good (x .state)) r (is-step (l .s) (e .kind) (e .a) (e .b) (l .inv .2) .good),
+      others d .0 ∙ l .inv .3,
+      Threes.goes-on _ _ (l .s) (l .tally) (l .taken) (l .inv .4) (e .kind) (e .a) (e .b) (steppedBy d) (inside (testAt n))
+          (ap (λ (x : Asked). x .kind) q) (ap (λ (x : Asked). x .a) q) (ap (λ (x : Asked). x .b) q) r (c .added .result) (c .added .ensures) refl,
+    )
+
+left-over-requires : tie.Need-left-over-requires Inv-loop2 μ-loop2 Inv-loop3 μ-loop3 Inv-loop μ-loop
 left-over-requires c κs = search needs
 
-returns-3 : tie.Need-returns-3 Inv-loop μ-loop
+returns-3 : tie.Need-returns-3 Inv-loop2 μ-loop2 Inv-loop3 μ-loop3 Inv-loop μ-loop
 returns-3 c =
     let l = c .before .before .loop in
-    Threes.ends _ _ (l .s) (l .tally) (l .taken) _ (c .left-over .result) (l .inv .3) (omega arith) refl (c .left-over .ensures)
+    Threes.ends _ _ (l .s) (l .tally) (l .taken) _ (c .left-over .result) (l .inv .4) (omega arith) refl (c .left-over .ensures)
 
 pub run-backlog-spec : {M : Type 1} → statement M
 run-backlog-spec =
     tie.close
     (tie.spec
+    Inv-loop2
+    μ-loop2
+    Inv-loop3
+    μ-loop3
     Inv-loop
     μ-loop
     well-formed-requires
     returns
+    own-words-requires
     loop-holds
     event-at-requires
-    step-requires
+    kind-of-requires
+    place-of-requires
+    mul-x
+    element-copy-out-x
+    names-of-requires
+    cast-who
+    mul-own
+    array-read-own
+    mul-st
+    element-copy-out-st
+    cast-on
+    cast-of
+    mul-plan-event
+    array-read-plan-event
+    mul-plan-event-2
+    array-read-plan-event-2
+    plan-event-requires
+    told-table-requires
+    narrow-requires
+    count-requires
+    room-of-requires
     returns-2
+    mul-t52
+    element-set-from-s
+    either-requires
+    kept-table-requires
+    mul-t79
+    element-set-from-s-2
+    cast-last
+    loop2-holds
+    add-j
+    mul-y
+    element-copy-out-y
+    mul-y-2
+    element-set-from-y
+    add-i
+    loop2-less
+    loop2-again
+    mul-unused
+    element-set-from-unused
+    begun-requires
+    loop3-holds
+    cast-at
+    add-at
+    subject-requires
+    cast-subject
+    mul-first
+    array-read-first
+    first-requires
+    mul-y-3
+    element-set-from-y-2
+    rest-requires
+    add-i-2
+    loop3-less
+    loop3-again
+    add-s
     added-requires
     add-taken
     loop-less
