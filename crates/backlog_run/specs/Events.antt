@@ -1,8 +1,10 @@
 -- What the private steps of the code answer.
-use Prim.Native.Nat.{ℕ, _+_, _*_, _<_}
+use Prim.Native.Nat.{ℕ, _+_, _*_, _%_, _<_}
 use mathlib.Core.List.{List}
 use mathlib.Core.Path.{_≡_}
+use lib.Dec.{eqb}
 use lib.ListN.{getD}
+use Rattle.lists.specs.Lists.{if_then_else_}
 use Rattle.net.specs.declared.Net.{Net}
 use Rattle.net.specs.Sizes.{stationRoom}
 use Rattle.sets.specs.Sets.{wordBy}
@@ -12,6 +14,10 @@ use Rattle.backlog_run.specs.declared.Asked.{Asked}
 -- the three numbers of event i
 abbrev pub askedAt : List ℕ → ℕ → Asked
 askedAt events i = record { kind = getD events (3 * i) 0; a = getD events (3 * i + 1) 0; b = getD events (3 * i + 2) 0 }
+
+-- the number at the end of a list: 6 where one or two numbers are left over
+abbrev pub leftOver : ℕ → ℕ
+leftOver size = if eqb (size % 3) 0 then 0 else 6
 
 -- at each place a station's own links
 abbrev pub OwnWords : Net → List ℕ → Type 0

@@ -1,23 +1,22 @@
-// One call for many events: the state is tested once, and then each event is taken.
+// One call for many events: the state is tested once and then changed in place. Only `run_backlog` holds a state: no helper takes or
+// returns one, nor the letters' room, and no event copies or tests it. That the test need not be repeated is the theorem that a step keeps
+// well-formedness. What an event comes to is the plan in words of one station, as in the network's step, whose parts these are too
+// (crate `step_parts`); a turn differs from the step where a copy of a table can be spared.
 ghost use mathlib.Core.Path.{_≡_};
 ghost use mathlib.Core.Bool.{_||_};
 ghost use Prim.Native.Nat.{_+_, _*_, _≤_};
 ghost use lib.ListN.{length};
 ghost use Rattle.backlog_rules.specs.Backlog.{backlogOf};
-ghost use Rattle.backlog_run.specs.Events.{askedAt, OwnWords};
-ghost use Rattle.backlog_rules.proofs.Threes.{overBy};
+ghost use Rattle.backlog_run.specs.Events.{askedAt, leftOver, OwnWords};
 use backlog_rules::Taken;
+use net::MOST_STATIONS;
 use net::Net;
 use net::STATION_ROOM;
 use state::State;
 use station::Station;
 use tally::Tally;
 
-fn left_over(size: usize) -> u8
-    ensures { λ r. ⌜ r ≡ overBy size ⌝ }
-{
-    if size % 3 == 0 { 0 } else { 6 }
-}
+// ---- the list of events
 
 // The three numbers of an event.
 struct Asked {
@@ -38,14 +37,21 @@ fn event_at(events: &[u32], i: usize) -> Asked
     }
 }
 
-const STATIONS: u8 = 32;
+// What is said at the end of the list: one or two numbers left over are an event that names nothing.
+fn left_over(size: usize) -> u8
+    ensures { λ r. ⌜ r ≡ leftOver size ⌝ }
+{
+    if size % 3 == 0 { 0 } else { 6 }
+}
 
-// Each station's own links, found once.
+// ---- the network
+
+// Each station's own links. They are the same for every event, so they are found once.
 fn own_words(net: Net) -> [u64; STATION_ROOM]
     ensures { λ r. ⌜ OwnWords net r ⌝ }
 {
     let mut owns = [0u64; STATION_ROOM];
-    for i in 0..STATIONS {
+    for i in 0..MOST_STATIONS {
         let at = i as usize;
         owns[at] = marks::own_links(net, i);
     }
@@ -58,11 +64,14 @@ fn either(a: bool, b: bool) -> bool
     if a { true } else { b }
 }
 
-// Promise: equals `Backlog.backlogOf`.
-pub fn run_backlog(given: State, t: Tally, events: &[u32]) -> Taken
-    ensures { λ r. ⌜ r ≡ backlogOf given t (now (events .entry)) ⌝ }
+// ---- the call
+
+// Many events, three numbers each, and a tally by value. It stops at the first refused event; a bad state is 11, even for an empty list.
+// Promise: equals `Backlog.backlogOf`: the steps one by one, up to the first that is refused; the state and the tally after those taken, how
+// many, and 0 or the number that says no.
+pub fn run_backlog(mut s: State, t: Tally, events: &[u32]) -> Taken
+    ensures { λ r. ⌜ r ≡ backlogOf s t (now (events .entry)) ⌝ }
 {
-    let mut s = given;
     if !state::well_formed(s) {
         return Taken {
             answer: 11,
@@ -76,6 +85,7 @@ pub fn run_backlog(given: State, t: Tally, events: &[u32]) -> Taken
     let mut tally = t;
     let n = events.len() / 3;
     for taken in 0..n {
+        // what the event names
         let e = event_at(events, taken);
         let what = station_kinds::kind_of(e.kind);
         let place = step_parts::place_of(e.a);
@@ -83,6 +93,7 @@ pub fn run_backlog(given: State, t: Tally, events: &[u32]) -> Taken
         let flying = s.flying;
         let names = step_parts::names_of(net, flying, what, e.a, e.b, x);
         let me = names.station;
+        // what it comes to at the station that it concerns
         let who = me as usize;
         let own = owns[who];
         let st = s.stations[who];
@@ -103,6 +114,7 @@ pub fn run_backlog(given: State, t: Tally, events: &[u32]) -> Taken
             condition,
             marks,
         );
+        // what is told and sent; a table is copied only where it changes or is looked through
         let mut told = table;
         if plan.sets {
             told = station_table::told_table(plan.sets, plan.at, plan.counter, table);
@@ -116,11 +128,12 @@ pub fn run_backlog(given: State, t: Tally, events: &[u32]) -> Taken
         if room.answer != 0 {
             return Taken {
                 answer: room.answer,
-                taken,
+                taken, // the refused one is not among them
                 tally,
                 state: s,
             };
         }
+        // nothing refuses it: from here on the state is changed, in place; what is told is told as it was before the purge
         let turned = plan.condition;
         let marked = plan.marks;
         s.stations[who] = Station {
@@ -136,6 +149,7 @@ pub fn run_backlog(given: State, t: Tally, events: &[u32]) -> Taken
                 marks: marked,
             };
         }
+        // the later letters close up
         let last = room.left as usize;
         let from = room.from;
         for i in from..last {
@@ -146,6 +160,7 @@ pub fn run_backlog(given: State, t: Tally, events: &[u32]) -> Taken
         let unused = room.unused;
         let free = room.free;
         s.letters[free] = unused;
+        // new letters go to the end
         let mut post = post::begun(send);
         for i in 0..count {
             let at = last + i as usize;
@@ -160,7 +175,7 @@ pub fn run_backlog(given: State, t: Tally, events: &[u32]) -> Taken
     Taken {
         answer: left_over(events.len()),
         taken: n,
-        tally,
+        tally, // of all that were taken
         state: s,
     }
 }

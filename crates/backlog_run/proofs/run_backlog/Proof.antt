@@ -126,7 +126,7 @@ names-within : (c : tie.After-names-of Inv-loop2 μ-loop2 Inv-loop3 μ-loop3 Inv
 names-within c = placed _ _ _ _ _ _ _ (c .names-of .ensures)
 
 -- the network, found once, is the state's own
-same-net : (c : tie.At-loop Inv-loop2 μ-loop2 Inv-loop3 μ-loop3 Inv-loop μ-loop) → c .loop .s .net ≡ c .before .before .before .before .before .before .args .given .net
+same-net : (c : tie.At-loop Inv-loop2 μ-loop2 Inv-loop3 μ-loop3 Inv-loop μ-loop) → c .loop .s .net ≡ c .before .before .before .before .before .before .args .t1 .net
 same-net c = c .loop .inv .3
 
 -- what is told and what is sent, by a test or by its function
@@ -221,13 +221,13 @@ well-formed-requires c κs = search needs
 returns : tie.Need-returns Inv-loop2 μ-loop2 Inv-loop3 μ-loop3 Inv-loop μ-loop
 returns c =
     let a = c .before .before .before .args in
-    sym (bad-state (a .given) (a .t) (now (a .events)) (sym (c .before .well-formed .ensures .0) ∙ not-true _ (c .if1 .taken)))
+    sym (bad-state (a .t1) (a .t) (now (a .events)) (sym (c .before .well-formed .ensures .0) ∙ not-true _ (c .if1 .taken)))
 
 own-words-requires : tie.Need-own-words-requires Inv-loop2 μ-loop2 Inv-loop3 μ-loop3 Inv-loop μ-loop
 own-words-requires c κs = search needs
 
 -- the state given is well formed
-tested : (c : tie.Else1 Inv-loop2 μ-loop2 Inv-loop3 μ-loop3 Inv-loop μ-loop) → Good (c .before .before .before .args .given)
+tested : (c : tie.Else1 Inv-loop2 μ-loop2 Inv-loop3 μ-loop3 Inv-loop μ-loop) → Good (c .before .before .before .args .t1)
 tested c =
     let good = not-false _ (c .if1 .left) in
     let said = c .before .well-formed .ensures in
