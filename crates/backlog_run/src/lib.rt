@@ -175,7 +175,7 @@ pub fn run_backlog(mut s: State, t: Tally, events: &[u32]) -> Taken
     Taken {
         answer: left_over(events.len()),
         taken: n,
-        tally, // of all that were taken
+        tally,
         state: s,
     }
 }
