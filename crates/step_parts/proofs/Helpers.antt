@@ -10,11 +10,10 @@ use Rattle.lists.proofs.Tests.{if-elim}
 use Rattle.net.specs.declared.Letter.{Letter}
 use Rattle.net.specs.Sizes.{stationRoom, linkRoom, letterRoom}
 use Rattle.station.specs.declared.Kind.{Kind}
-use Rattle.world.specs.World.{noLetter}
+use Rattle.world.specs.World.{noLetter, concernedBy}
 use Rattle.sets.specs.Rooms.{inRoom}
 use Rattle.net.specs.declared.Net.{Net}
 use Rattle.net.specs.Values.{networkOf}
-use Rattle.world.specs.World.{concernedBy}
 use Rattle.station.specs.Events.{takesLetter, linkOf}
 use Rattle.station.specs.Acts.{subjectOf}
 use Rattle.step_parts.specs.declared.Names.{Names}
