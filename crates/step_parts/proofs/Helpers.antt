@@ -1,24 +1,24 @@
 -- What the small functions of the code answer, return by return; and that what they answer is a place of its room.
 use Prim.Native.Nat.{ℕ, _+_, _-_, _%_, _≤_, _<_}
-use mathlib.Core.Bool.{Bool, true, false, not}
-use mathlib.Core.Path.{_≡_, refl, sym, ap, _∙_, subst⁻¹}
+use mathlib.Core.Bool.{Bool, true, false}
+use mathlib.Core.Path.{_≡_, sym, ap, _∙_, subst⁻¹}
 use native.Mathlib.Omega.{arith}
-use lib.Dec.{eqb, ltb, ltb→lt}
-use borrow.Author.Tests.{eq-eqb, ne-eqb, lt-ltb, le-ltb, not-true, not-false}
+use lib.Dec.{ltb, ltb→lt}
+use borrow.Author.Tests.{eq-eqb, ne-eqb, lt-ltb, le-ltb}
 use Rattle.lists.specs.Lists.{if_then_else_}
 use Rattle.lists.proofs.Tests.{if-elim}
 use Rattle.net.specs.declared.Letter.{Letter}
 use Rattle.net.specs.Sizes.{stationRoom, linkRoom, letterRoom}
 use Rattle.station.specs.declared.Kind.{Kind}
-use Rattle.world.specs.World.{noLetter}
+use Rattle.world.specs.World.{noLetter, concernedBy}
 use Rattle.sets.specs.Rooms.{inRoom}
 use Rattle.net.specs.declared.Net.{Net}
 use Rattle.net.specs.Values.{networkOf}
-use Rattle.world.specs.World.{concernedBy}
-use Rattle.station.specs.Events.{linkOf}
+use Rattle.station.specs.Events.{takesLetter, linkOf}
 use Rattle.station.specs.Acts.{subjectOf}
 use Rattle.step_parts.specs.declared.Names.{Names}
-use Rattle.step_parts.specs.Parts.{placeBy, fewerBy, numberBy, namesBy}
+use Rattle.step_parts.specs.declared.Room.{Room}
+use Rattle.step_parts.specs.Parts.{placeBy, fewerBy, numberBy, namesBy, roomBy}
 
 pub place-there : (a : ℕ) → a < letterRoom → a ≡ placeBy a
 place-there a h = sym (ap (λ (b : Bool). if b then a else 0) (lt-ltb a letterRoom h))
@@ -76,3 +76,12 @@ module _ (planned left count : ℕ) where
   number-none e h =
       sym (ap (λ (b : Bool). if b then (if ltb letterRoom (left + count) then 9 else 0) else planned) (eq-eqb planned 0 e)
       ∙ ap (λ (b : Bool). if b then 9 else 0) (le-ltb letterRoom (left + count) h))
+
+-- what becomes of the list of letters, part by part
+pub room-made : (kind : Kind) (flying place planned count : ℕ) (x : Letter) {leaves : Bool} {left answer from free : ℕ} {unused : Letter}
+    → leaves ≡ takesLetter kind → left ≡ fewerBy leaves flying → answer ≡ numberBy planned left count
+    → from ≡ (if leaves then place else left) → free ≡ (if leaves then left else place) → unused ≡ (if leaves then noLetter else x)
+    → _≡_ {A = Room} (record { answer = answer; left = left; from = from; free = free; unused = unused })
+    (roomBy kind flying place planned count x)
+unfolding roomBy
+room-made kind flying place planned count x g l a m r u = cc

@@ -1,7 +1,7 @@
--- What a step knows before it changes anything (`Seen`): what it looked at is what the event concerns, and the plan that it made is what the
--- event comes to in the world. Made.antt goes on from there.
+-- What a step knows before it changes anything (`Seen`): what it looked at is what the event concerns, and the plan that it made is what
+-- the event comes to in the world. Made.antt goes on from there.
 use Prim.Native.Nat.{ℕ, _%_, _≤_, _<_}
-use mathlib.Core.Bool.{Bool, true, false, not, _&&_}
+use mathlib.Core.Bool.{Bool, true, false, not}
 use mathlib.Core.Path.{_≡_, refl, sym, ap, ap₂, _∙_, subst, subst⁻¹}
 use native.Mathlib.Decide.{decLt}
 use native.Mathlib.Nat.{mod-eq-of-lt}
@@ -11,11 +11,10 @@ use lib.Dec.{T, ltb, ltb→lt}
 use lib.ListN.{length, getD, List·getD-eq-default}
 use Rattle.net.specs.Sizes.{stationRoom, linkRoom, letterRoom}
 use Rattle.lists.specs.Lists.{if_then_else_}
-use Rattle.lists.proofs.Tests.{T-is, is-T, T-not-is, and-l}
+use Rattle.lists.proofs.Tests.{T-is, is-T, and-l}
 use Rattle.net.specs.declared.Body.{Body}
 use Rattle.net.specs.declared.Body.the-variants.{Request, Reply, Notice}
 use Rattle.net.specs.declared.Letter.{Letter}
-use Rattle.net.specs.declared.Net.{Net}
 use Rattle.net.specs.Network.{Network}
 use Rattle.net.specs.Letters.{bodyHolds}
 use Rattle.net.specs.Values.{networkOf, linkCount}
@@ -33,7 +32,7 @@ use Rattle.station.specs.Values.{holdingOf}
 use Rattle.station.proofs.Answers.{letter-link}
 use Rattle.station.proofs.Rules as R
 use Rattle.station_plan.specs.declared.Plan.{Plan}
-use Rattle.station_plan.specs.Planned.{Acts, Planned, Like}
+use Rattle.station_plan.specs.Planned.{Acts, Planned}
 use Rattle.station_plan.specs.Comes.{Meant, EventPlans, roomOf, onLink}
 use Rattle.world.specs.World.{World, Event, noLetter, holdingAt, letterAt, existsAs, exists, concernedBy, concerned, rule, comes, done}
 use Rattle.world.proofs.There.{letter-there, station-there}
@@ -208,7 +207,9 @@ module _ {s : State} {kind a b : ℕ} {e : Kind} {place : ℕ} {n : Names} {own 
             sym (ap (λ (y : Names). y .link) names-are ∙ ap (λ (c : Bool). (if c then x .link else b) % linkRoom) (T-is (takesLetter K) t)
             ∙ mod-few (x .link) (posted t .link));
         subject = λ t. omega (arith, subject-there t, links-are);
-        tells = λ t. ap (λ (i : ℕ). getD (st .counters) i 0) (ap (λ (y : Names). y .subject) names-are ∙ mod-few (subjectOf (x .body)) (subject-there t));
+        tells = λ t.
+            ap (λ (i : ℕ). getD (st .counters) i 0)
+            (ap (λ (y : Names). y .subject) names-are ∙ mod-few (subjectOf (x .body)) (subject-there t));
       }
         where
           subject-there : T (takesLetter K) → subjectOf (x .body) < length (w .net .links)

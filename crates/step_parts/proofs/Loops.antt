@@ -1,7 +1,7 @@
 -- What stays between the turns of a step's two loops, one that closes the letters up and one that puts new ones: they change the letters'
 -- room and nothing else.
 use Prim.Native.Nat.{ℕ, _+_, _≤_, _<_}
-use mathlib.Core.Path.{_≡_, refl, sym, ap, _∙_}
+use mathlib.Core.Path.{_≡_, sym, ap, _∙_}
 use mathlib.Core.List.{List}
 use lib.ListN.{length, getD, set}
 use Rattle.lists.specs.Places.{closing}

@@ -1,8 +1,8 @@
 -- What a step that knows what it has to know (`Facts`) makes of the state, once nothing refuses the event: the world after it, laid out
 -- in zero room; and its answer where something does.
-use Prim.Native.Nat.{ℕ, zero, suc, _+_, _-_, _≤_, _<_, min}
-use mathlib.Core.Bool.{Bool, true, false, not}
-use mathlib.Core.Path.{_≡_, refl, sym, ap, ap₂, _∙_, subst⁻¹}
+use Prim.Native.Nat.{ℕ, zero, suc, _+_, _≤_, _<_, min}
+use mathlib.Core.Bool.{Bool, true, false}
+use mathlib.Core.Path.{_≡_, refl, sym, ap, ap₂, _∙_}
 use mathlib.Core.List.{List, [], _∷_, _++_, map, append-assoc, append-nil}
 use native.Mathlib.Decide.{ℕ-discrete, decLt}
 use native.Mathlib.Numerals.{add-one}
@@ -17,7 +17,6 @@ use Rattle.lists.specs.Places.{without, roomed, closing}
 use Rattle.lists.proofs.Tests.{T-is, is-T}
 use Rattle.lists.proofs.Rooms.{closing-none, roomed-more, roomed-set, roomed-less}
 use Rattle.lists.proofs.Without.{length-without}
-use Rattle.tally.specs.declared.Tally.{Tally}
 use Rattle.net.specs.declared.Letter.{Letter}
 use Rattle.net.specs.declared.Net.{Net}
 use Rattle.station.specs.declared.Sending.{Sending}
@@ -31,7 +30,7 @@ use Rattle.station_plan.specs.declared.Plan.{Plan}
 use Rattle.station_plan.specs.Carrying.{keptBy, narrowed}
 use Rattle.station_plan.specs.Plans.{toldIn, stationBy, lettersBy}
 use Rattle.station_plan.specs.Comes.{roomOf}
-use Rattle.world.specs.World.{World, Event, noLetter, exists, concerned, comes, done, left, after, fits, refusal}
+use Rattle.world.specs.World.{World, Event, noLetter, exists, comes, done, left, after, fits, refusal}
 use Rattle.world.proofs.There.{letter-there}
 use Rattle.world.proofs.Steps.{refused-there, passes-there, fits-is}
 use Rattle.state.specs.declared.State.{State}
@@ -42,7 +41,7 @@ use Rattle.step_rules.specs.declared.Stepped.{Stepped}
 use Rattle.step_rules.specs.Step.{event, refusing, accepting, numberOf, steppedOf}
 use Rattle.step_parts.specs.declared.Names.{Names}
 use Rattle.step_parts.specs.declared.Room.{Room}
-use Rattle.step_parts.specs.Parts.{fewerBy, numberBy, roomBy}
+use Rattle.step_parts.specs.Parts.{fewerBy, roomBy}
 use Rattle.step_parts.proofs.Known as K
 use Rattle.step_parts.proofs.Known.{Seen}
 

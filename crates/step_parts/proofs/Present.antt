@@ -5,7 +5,7 @@ use mathlib.Core.Path.{_≡_, refl, sym, ap, ap₂, _∙_}
 use native.Mathlib.Omega.{arith}
 use borrow.Author.Tests.{eq-eqb, ne-eqb, lt-ltb, le-ltb}
 use lib.Dec.{eqb, ltb}
-use lib.ListN.{length, List·getD-eq-default}
+use lib.ListN.{List·getD-eq-default}
 use Rattle.net.specs.Sizes.{linkRoom}
 use Rattle.lists.specs.Lists.{if_then_else_}
 use Rattle.net.specs.declared.Letter.{Letter}

@@ -2,8 +2,8 @@
 // Each function takes the few values that it asks for, and no state. Every public function answers every input.
 // Inner doors: the calls are in docs/CALLS.md.
 ghost use mathlib.Core.Path.{_≡_};
-ghost use mathlib.Core.Bool.{Bool, _&&_};
-ghost use Prim.Native.Nat.{_+_, _-_, min, _%_};
+ghost use mathlib.Core.Bool.{_&&_};
+ghost use Prim.Native.Nat.{min, _%_};
 ghost use lib.Dec.{ltb, eqb};
 ghost use Rattle.lists.specs.Lists.{if_then_else_};
 ghost use Rattle.world.specs.World.{noLetter, isLinkAt, receiverIn, concernedBy, existsAs};
@@ -292,8 +292,8 @@ pub struct Room {
     pub unused: Letter,
 }
 
-// Promise: equals `Parts.roomBy`: 9 where the plan refuses nothing and the letters would be too many, how many are left, from where they close
-// up, and the place that falls free with what stands there, by definition.
+// Promise: equals `Parts.roomBy`: the plan's number, or 9 where that is 0 and the letters would be too many; how many are left, from where
+// they close up, and the place that falls free with what stands there, by definition.
 pub fn room_of(
     kind: Kind,
     flying: u16,

@@ -17,7 +17,13 @@ subject-of-requires c κs = search needs
 
 returns : tie.Need-returns
 unfolding namesBy
-returns c = cc
+returns c =
+    λ i. record {
+      station = c .before .before .before .concerned .ensures i;
+      there = c .before .before .there .ensures i;
+      link = c .before .link-of .ensures i;
+      subject = c .subject-of .ensures i;
+    }
 
 pub names-of-spec : {M : Type 1} → statement M
 names-of-spec =

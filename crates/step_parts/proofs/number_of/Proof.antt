@@ -1,5 +1,3 @@
-use native.Mathlib.Omega.{arith}
-use borrow.Author.Tests.{not-true, not-false}
 use Rattle.step_parts.proofs.Helpers.{number-planned, number-nine, number-none}
 use borrow.Author.Needs.{needs}
 use Rattle.step_parts.proofs.number_of.Statement.{statement}

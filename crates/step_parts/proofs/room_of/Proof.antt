@@ -1,4 +1,4 @@
-use Rattle.step_parts.specs.Parts.{roomBy}
+use Rattle.step_parts.proofs.Helpers.{room-made}
 use borrow.Author.Needs.{needs}
 use Rattle.step_parts.proofs.room_of.Statement.{statement}
 use Rattle.step_parts.proofs.room_of.Tie as tie
@@ -22,8 +22,11 @@ freed-requires : tie.Need-freed-requires
 freed-requires c κs = search needs
 
 returns : tie.Need-returns
-unfolding roomBy
-returns c = cc
+returns c =
+    let n = c .before .before .before in
+    let a = n .before .before .args in
+    room-made (a .kind) (a .flying) (a .place) (a .planned) (a .count) (a .letter) (n .before .takes-letter .ensures) (n .left-of .ensures)
+    (c .before .before .number-of .ensures) (c .before .gap-of .ensures .0) (c .before .gap-of .ensures .1) (c .freed .ensures)
 
 pub room-of-spec : {M : Type 1} → statement M
 room-of-spec =
