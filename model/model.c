@@ -1,13 +1,15 @@
 /* The station machine of document 01, a second time: one program in C11, written from the document's text alone.
  *
- *     model events [--trust]     the event program
- *     model page   [--trust]     the same events, and at the end the reach of each station as a page
+ *     model events  [--trust]    the event program
+ *     model page    [--trust]    the same events, and at the end the reach of each station as a page
+ *     model backlog [--trust]    the events up to the first refused one, as one list
  *     model wire                 the sheet and letters as bytes
  *
- * Each reads `network.sheet` from the current folder and standard input to its end. Quoted sentences are document 01's.
+ * Each reads `network.sheet` from the current folder and standard input, `backlog` up to the first refused event and the
+ * others to its end. Quoted sentences are document 01's; for the backlog, document 02's (L1).
  *
  * In this order: sizes and shapes; the sheet as bytes; letters as bytes; well formed; reach, purge and report; what one
- * station does; one event; lines of input; the three programs.
+ * station does; one event; lines of input; the four programs.
  */
 
 #include <stdbool.h>
@@ -724,13 +726,27 @@ static int step(struct state *state, struct event event, bool trust, uint64_t *s
 
 enum line { NO_LINE, GOOD_LINE, MALFORMED_LINE };
 
+/* Standard input in large blocks, so that a time measured beside this program's has no call of the library for each byte in it. */
+static int next_byte(void)
+{
+    static uint8_t block[65536];
+    static size_t size, at;
+    if (at == size) {
+        size = fread(block, 1, sizeof block, stdin);
+        at = 0;
+        if (size == 0)
+            return EOF;
+    }
+    return block[at++];
+}
+
 /* "lines of three decimal numbers with one space between, each of 1 to 9 digits; the last newline may be missing".
  * Leading zeros are digits like others. No byte at all is no line. */
 static enum line read_event_line(struct event *event)
 {
     uint32_t number[3] = {0, 0, 0};
     bool good = true;
-    int c = getchar();
+    int c = next_byte();
     if (c == EOF)
         return NO_LINE;
     for (int i = 0; i < 3 && good; i++) {
@@ -739,19 +755,19 @@ static enum line read_event_line(struct event *event)
             digits++;
             if (digits <= 9)
                 number[i] = number[i] * 10 + (uint32_t)(c - '0');
-            c = getchar();
+            c = next_byte();
         }
         good = digits >= 1 && digits <= 9;
         if (good && i < 2) {
             good = c == ' ';
             if (good)
-                c = getchar();
+                c = next_byte();
         }
     }
     if (c != '\n' && c != EOF)
         good = false;
     while (c != '\n' && c != EOF)
-        c = getchar();
+        c = next_byte();
     event->kind = number[0];
     event->a = number[1];
     event->b = number[2];
@@ -776,7 +792,7 @@ static enum line read_hexadecimal_line(uint8_t *bytes, size_t *size)
 {
     size_t digits = 0;
     bool good = true;
-    int c = getchar();
+    int c = next_byte();
     if (c == EOF)
         return NO_LINE;
     while (c != '\n' && c != EOF) {
@@ -790,15 +806,26 @@ static enum line read_hexadecimal_line(uint8_t *bytes, size_t *size)
                 bytes[digits / 2] = (uint8_t)(bytes[digits / 2] + value);
             digits++;
         }
-        c = getchar();
+        c = next_byte();
     }
     *size = digits / 2;
     return good && digits % 2 == 0 ? GOOD_LINE : MALFORMED_LINE;
 }
 
-/* ---- the three programs ------------------------------------------------------------------------------------------ */
+/* ---- the four programs ------------------------------------------------------------------------------------------- */
 
 static struct state the_state;
+
+/* "At the end: one line per station, its number and its counters by link." */
+static void print_counters(const struct state *state)
+{
+    for (unsigned s = 0; s < state->network.stations; s++) {
+        printf("%u", s);
+        for (uint32_t k = 0; k < state->network.links; k++)
+            printf(" %u", (unsigned)state->station[s].counter[k]);
+        printf("\n");
+    }
+}
 
 static int events(bool trust)
 {
@@ -818,14 +845,35 @@ static int events(bool trust)
         int answer = line == GOOD_LINE ? step(&the_state, event, trust, &settled) : NO_SUCH;
         printf("%d %lu %llu\n", answer, (unsigned long)the_state.letters, (unsigned long long)settled);
     }
+    print_counters(&the_state);
+    return 0;
+}
 
-    /* "At the end: one line per station, its number and its counters by link." */
-    for (unsigned s = 0; s < network.stations; s++) {
-        printf("%u", s);
-        for (uint32_t k = 0; k < network.links; k++)
-            printf(" %u", (unsigned)the_state.station[s].counter[k]);
-        printf("\n");
+/* "it equals the calls one by one, stops at the first refused event, and hands back the state after those taken, how
+ * many, and the refusal's number". A malformed line ends the list, as "one or two left over" would: "an event refused
+ * as 6". What stands behind is not looked at. */
+static int backlog(bool trust)
+{
+    struct network network;
+    int no = read_sheet_file(&network);
+    if (no != ACCEPTED) {
+        printf("%d\n", no);
+        return 0;
     }
+    fresh(&the_state, &network);
+
+    uint64_t settled = 0, taken = 0;
+    int answer = ACCEPTED;
+    struct event event;
+    enum line line;
+    while (answer == ACCEPTED && (line = read_event_line(&event)) != NO_LINE) {
+        answer = line == GOOD_LINE ? step(&the_state, event, trust, &settled) : NO_SUCH;
+        if (answer == ACCEPTED)
+            taken++;
+    }
+
+    printf("%llu %d %lu %llu\n", (unsigned long long)taken, answer, (unsigned long)the_state.letters, (unsigned long long)settled);
+    print_counters(&the_state);
     return 0;
 }
 
@@ -945,9 +993,11 @@ int main(int argc, char **argv)
             return events(trust);
         if (strcmp(program, "page") == 0)
             return page(trust);
+        if (strcmp(program, "backlog") == 0)
+            return backlog(trust);
         if (strcmp(program, "wire") == 0)
             return wire();
     }
-    fprintf(stderr, "usage: model events|page|wire [--trust]\n");
+    fprintf(stderr, "usage: model events|page|backlog|wire [--trust]\n");
     return 2;
 }

@@ -1,4 +1,4 @@
-"""Seeded cases for the three programs.
+"""Seeded cases for the programs.
 
     generate.py SEED OUTDIR      writes network.sheet, events and letters into OUTDIR (one sheet in sixteen cases is no file)
     generate.py --long OUTDIR    one link raised step by step to counter 65,535, and refusal 8 (some 330,000 events)
@@ -13,7 +13,7 @@ import random
 import sys
 
 sys.dont_write_bytecode = True
-from reading import Machine, write_letter, write_sheet  # noqa: E402
+from reading import Machine, lines, write_letter, write_sheet  # noqa: E402
 
 # ---- sheets ----------------------------------------------------------------------------------------------------------
 
@@ -262,12 +262,26 @@ def case(seed):
     return sheet, events, letters
 
 
-def long_case():
-    """Two stations. Each round loses a test of station 0 and heals the next one: its counter goes up by 2."""
-    events = ["1 0 0", "1 1 0", "3 0 0", "3 1 0"] + ["7 0 0"] * 4
-    # the token is with station 1; station 0 tests on its turn, twice, and loses the first request
+def inputs(program, events, letters, answers):
+    """What a program is given of a case. The backlog stops at the first refused event, so it also gets the events that were answered
+    with 0, which it takes whole: a refused one changes nothing. `answers` is what the event program wrote, if it was asked."""
+    if program != "backlog":
+        return [letters if program == "wire" else events]
+    told = zip(lines(events), answers.split(b"\n"))
+    taken = b"".join(line + b"\n" for line, answer in told if answer.startswith(b"0 "))
+    return [events] if taken.removesuffix(b"\n") in (b"", events.removesuffix(b"\n")) else [events, taken]
+
+
+def rounds(many):
+    """Two stations come up. Each round loses a test of station 0 and heals the next one: its counter goes up by 2. All is taken."""
+    # the last test gives the token to station 1; from then on station 0 tests on its turn, twice, and loses the first request
+    events = ["1 0 0", "1 1 0", "3 0 0", "3 1 0", "7 0 0", "7 0 0", "7 0 0", "7 0 0", "4 0 0", "7 0 0", "7 0 0"]
     one_round = ["4 0 0", "4 0 0", "5 0 0", "8 0 0", "6 0 0", "4 0 0", "4 0 0", "7 0 0", "7 0 0", "7 0 0"]
-    events += one_round * 32766
+    return events + one_round * many
+
+
+def long_case():
+    events = rounds(32766)
     # 65,534 by now: one more timeout gives 65,535, and no reply can heal it
     events += ["4 0 0", "4 0 0", "5 0 0", "8 0 0", "6 0 0", "4 0 0", "4 0 0", "7 0 0", "7 0 0", "7 0 0", "8 0 0", "5 0 0",
                "4 1 0", "7 0 0", "7 0 0", "8 0 0"]

@@ -3,7 +3,7 @@
 It is written to be close to the document's sentences and far from the model's shape: marks are sets of links, letters
 are tuples, a refusal is an exception, the reach is grown by rounds. Standard library only.
 
-    reading.py events|page|wire     reads network.sheet from the current folder and standard input to its end
+    reading.py events|page|backlog|wire     reads network.sheet from the current folder and standard input to its end
 """
 
 import copy
@@ -351,15 +351,33 @@ def run(machine, data):
         yield machine.event(*map(int, match.groups())) if match else 6
 
 
+def tables(machine):
+    """A line for each station: its number and its counters by link."""
+    assert machine.well_formed()
+    return [" ".join(map(str, [station.number, *station.counters])) for station in machine.stations]
+
+
 def events(sheet, data):
     try:
         machine = Machine(*read_sheet(sheet))
     except Refused as refused:
         return f"{refused.number}\n"
     out = [f"{answer} {len(machine.letters)} {machine.settled}" for answer in run(machine, data)]
-    out += [" ".join(map(str, [station.number, *station.counters])) for station in machine.stations]
-    assert machine.well_formed()
-    return "\n".join(out) + "\n"
+    return "\n".join(out + tables(machine)) + "\n"
+
+
+def backlog(sheet, data):
+    """The events up to the first refused one. The answers come one by one, so nothing behind it is looked at."""
+    try:
+        machine = Machine(*read_sheet(sheet))
+    except Refused as refused:
+        return f"{refused.number}\n"
+    taken, stop = 0, 0
+    for stop in run(machine, data):
+        if stop:
+            break
+        taken += 1
+    return "\n".join([f"{taken} {stop} {len(machine.letters)} {machine.settled}"] + tables(machine)) + "\n"
 
 
 def page(sheet, data):
@@ -400,7 +418,7 @@ def wire(sheet, data):
     return "\n".join(out) + "\n"
 
 
-PROGRAMS = {"events": events, "page": page, "wire": wire}
+PROGRAMS = {"events": events, "page": page, "backlog": backlog, "wire": wire}
 
 
 def main():
