@@ -12,7 +12,6 @@ use Rattle.lists.proofs.Tests.{is-T}
 use Rattle.tally.specs.declared.Tally.{Tally}
 use Rattle.state.specs.declared.State.{State}
 use Rattle.state.specs.State.{stateHolds, Sized}
-use Rattle.step_rules.specs.declared.Stepped.{Stepped}
 use Rattle.step_rules.specs.Step.{steppedOf}
 use Rattle.step_rules.specs.Counting.{talliedBy}
 use Rattle.step_rules.proofs.Bridge.{Good, is-step}
