@@ -31,9 +31,9 @@ eventsOf (kind ∷ []) = []
 eventsOf (kind ∷ a ∷ []) = []
 eventsOf (kind ∷ a ∷ b ∷ rest) = event kind a b ∷ eventsOf rest
 
--- the events taken: as many of them, from the first on, as the call says
-abbrev pub takenOf : State → Tally → List ℕ → List Event
-takenOf s t xs = take (backlogOf s t xs .taken) (eventsOf xs)
+-- the events taken: as many of them, from the first on, as the answer says
+abbrev pub takenBy : Taken → List ℕ → List Event
+takenBy r xs = take (r .taken) (eventsOf xs)
 
 -- calls of the step one by one, for these events, from one state and tally to another: each answers 0, is given the state that the one
 -- before it handed back, and is lent the same tally
@@ -54,9 +54,9 @@ pub data Follows (r : Taken) : List ℕ → Type 0 where
 
 -- what is claimed of an answer
 pub record OneByOne (s : State) (t : Tally) (xs : List ℕ) (r : Taken) : Type 0 where
-  pub takes : Takes s t (take (r .taken) (eventsOf xs)) (r .state) (r .tally)
-  pub many : length (take (r .taken) (eventsOf xs)) ≡ r .taken
-  pub all : r .answer ≡ 0 → take (r .taken) (eventsOf xs) ≡ eventsOf xs
+  pub takes : Takes s t (takenBy r xs) (r .state) (r .tally)
+  pub many : length (takenBy r xs) ≡ r .taken
+  pub all : r .answer ≡ 0 → takenBy r xs ≡ eventsOf xs
   pub follows : Follows r (drop (3 * r .taken) xs)
   -- the numbers of the events taken, alone, are taken whole, and leave the same
   pub kept : calls s t (take (3 * r .taken) xs) ≡ stoppedAt 0 (r .taken) (r .tally) (r .state)
@@ -166,11 +166,11 @@ takes-accepted {s} (d ∷ ds) fs e (more z p) g =
 
 module _ (s : State) (t : Tally) (xs : List ℕ) (g : Good s) where
   -- DEMAND 2 OVER THE EVENTS TAKEN: the state after them means the world that the rules leave,
-  pub backlog-means : worldOf (backlogOf s t xs .state) ≡ run (worldOf s) (takenOf s t xs)
+  pub backlog-means : worldOf (backlogOf s t xs .state) ≡ run (worldOf s) (takenBy (backlogOf s t xs) xs)
   backlog-means = takes-mean (one-by-one s t xs (g .holds) .takes) g
 
   -- and the rules accept each of them, in the world that those before it leave
-  pub each-accepted : (ds fs : List Event) (e : Event) → takenOf s t xs ≡ ds ++ (e ∷ fs) → refusal (run (worldOf s) ds) e ≡ 0
+  pub each-accepted : (ds fs : List Event) (e : Event) → takenBy (backlogOf s t xs) xs ≡ ds ++ (e ∷ fs) → refusal (run (worldOf s) ds) e ≡ 0
   each-accepted ds fs e q =
       takes-accepted ds fs e
       (subst (λ (l : List Event). Takes s t l (backlogOf s t xs .state) (backlogOf s t xs .tally)) q (one-by-one s t xs (g .holds) .takes)) g
