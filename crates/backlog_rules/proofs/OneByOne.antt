@@ -56,7 +56,9 @@ pub data Follows (r : Taken) : List ℕ → Type 0 where
 pub record OneByOne (s : State) (t : Tally) (xs : List ℕ) (r : Taken) : Type 0 where
   pub takes : Takes s t (takenBy r xs) (r .state) (r .tally)
   pub many : length (takenBy r xs) ≡ r .taken
+  -- where the answer is 0 these are all, and nothing is left: three numbers for each
   pub all : r .answer ≡ 0 → takenBy r xs ≡ eventsOf xs
+  pub whole : r .answer ≡ 0 → length xs ≡ 3 * r .taken
   pub follows : Follows r (drop (3 * r .taken) xs)
   -- the numbers of the events taken, alone, are taken whole, and leave the same
   pub kept : calls s t (take (3 * r .taken) xs) ≡ stoppedAt 0 (r .taken) (r .tally) (r .state)
@@ -101,19 +103,23 @@ module _ (s : State) (t : Tally) (kind a b : ℕ) (es : List ℕ) (z : steppedOf
         takes = subst⁻¹ (λ (l : List Event). Takes s t l (r .state) (r .tally)) first (more z (o .takes));
         many = ap length first ∙ omega (arith, o .many);
         all = λ q. first ∙ ap (λ (l : List Event). event kind a b ∷ l) (o .all q);
+        whole = λ q. omega (arith, o .whole q);
         follows = subst⁻¹ (Follows (andBefore 1 r)) (drop-three (r .taken) kind a b es) (follows-before (o .follows));
         kept = ap (calls s t) (take-three (r .taken) kind a b es) ∙ by-taken s t kind a b (take (3 * r .taken) es) z
             ∙ ap (andBefore 1) (o .kept);
       }
 
+six : _≡_ {A = ℕ} 6 0 → ⊥
+six z = omega arith
+
 goes : {s : State} {t : Tally} {xs : List ℕ} → Course s t xs → OneByOne s t xs (calls s t xs)
 unfolding calls eventsOf
-goes J.none = record { takes = none; many = refl; all = λ z. refl; follows = nothing refl; kept = refl }
-goes J.one-over = record { takes = none; many = refl; all = λ z. refl; follows = one-over refl; kept = refl }
-goes J.two-over = record { takes = none; many = refl; all = λ z. refl; follows = two-over refl; kept = refl }
+goes J.none = record { takes = none; many = refl; all = λ z. refl; whole = λ z. refl; follows = nothing refl; kept = refl }
+goes J.one-over = record { takes = none; many = refl; all = λ z. refl; whole = λ z. absurd (six z); follows = one-over refl; kept = refl }
+goes J.two-over = record { takes = none; many = refl; all = λ z. refl; whole = λ z. absurd (six z); follows = two-over refl; kept = refl }
 goes {s} {t} (J.stop kind a b es n) =
     subst⁻¹ (OneByOne s t (kind ∷ a ∷ b ∷ es)) (by-refused s t kind a b es n)
-    (record { takes = none; many = refl; all = λ z. absurd (n z); follows = refused n refl; kept = refl })
+    (record { takes = none; many = refl; all = λ z. absurd (n z); whole = λ z. absurd (n z); follows = refused n refl; kept = refl })
 goes {s} {t} (J.more kind a b es z c) =
     subst⁻¹ (OneByOne s t (kind ∷ a ∷ b ∷ es)) (by-taken s t kind a b es z) (one-before s t kind a b es z (goes c))
 
@@ -129,23 +135,15 @@ module _ (s : State) (t : Tally) (xs : List ℕ) where
   pub keeps : T (stateHolds s) → backlogOf s t (take (3 * r .taken) xs) ≡ stoppedAt 0 (r .taken) (r .tally) (r .state)
   keeps h = good-state s t (take (3 * r .taken) xs) h ∙ one-by-one s t xs h .kept
 
-  -- NOTHING IS LEFT where the answer is 0: three numbers for each event taken
+  -- NOTHING IS LEFT where the answer is 0, whatever the state: 11 is not 0
   pub whole-taken : r .answer ≡ 0 → length xs ≡ 3 * r .taken
   whole-taken z = go (stateHolds s) refl
     where
-      six : _≡_ {A = ℕ} 6 0 → ⊥
-      six z = omega arith
-
       eleven : _≡_ {A = ℕ} 11 0 → ⊥
       eleven z = omega arith
 
-      by-end : (x : Taken) → x .answer ≡ 0 → J.Ended x (length xs) → length xs ≡ 3 * x .taken
-      by-end x q (J.whole p e) = e
-      by-end x q (J.refused n h) = absurd (n q)
-      by-end x q (J.over p h k) = absurd (six (sym p ∙ q))
-
       go : (b : Bool) → stateHolds s ≡ b → length xs ≡ 3 * r .taken
-      go true e = by-end r z (subst⁻¹ (λ (x : Taken). J.Ended x (length xs)) (good-state s t xs (is-T (stateHolds s) e)) (J.ended s t xs))
+      go true e = one-by-one s t xs (is-T (stateHolds s) e) .whole z
       go false e = absurd (eleven (sym (ap (λ (x : Taken). x .answer) (bad-state s t xs e)) ∙ z))
 
 -- ---- in the world that the state means
@@ -165,15 +163,19 @@ takes-accepted {s} (d ∷ ds) fs e (more z p) g =
     ap (λ (w : World). refusal (run w ds) e) (sym (i .world)) ∙ takes-accepted ds fs e p (i .good)
 
 module _ (s : State) (t : Tally) (xs : List ℕ) (g : Good s) where
+  abbrev R : Taken
+  R = backlogOf s t xs
+
   -- DEMAND 2 OVER THE EVENTS TAKEN: the state after them means the world that the rules leave,
-  pub backlog-means : worldOf (backlogOf s t xs .state) ≡ run (worldOf s) (takenBy (backlogOf s t xs) xs)
+  pub backlog-means : worldOf (R .state) ≡ run (worldOf s) (takenBy R xs)
   backlog-means = takes-mean (one-by-one s t xs (g .holds) .takes) g
 
   -- and the rules accept each of them, in the world that those before it leave
-  pub each-accepted : (ds fs : List Event) (e : Event) → takenBy (backlogOf s t xs) xs ≡ ds ++ (e ∷ fs) → refusal (run (worldOf s) ds) e ≡ 0
+  pub each-accepted : (ds fs : List Event) (e : Event) → takenBy R xs ≡ ds ++ (e ∷ fs) → refusal (run (worldOf s) ds) e ≡ 0
   each-accepted ds fs e q =
-      takes-accepted ds fs e
-      (subst (λ (l : List Event). Takes s t l (backlogOf s t xs .state) (backlogOf s t xs .tally)) q (one-by-one s t xs (g .holds) .takes)) g
+      let p : Takes s t (ds ++ (e ∷ fs)) (R .state) (R .tally) =
+      subst (λ (l : List Event). Takes s t l (R .state) (R .tally)) q (one-by-one s t xs (g .holds) .takes) in
+      takes-accepted ds fs e p g
 
 -- two answers that are allowed for one input are equal
 pub backlog-unique : (s : State) (t : Tally) (xs : List ℕ) (q r : Taken) → q ≡ backlogOf s t xs → r ≡ backlogOf s t xs → q ≡ r
