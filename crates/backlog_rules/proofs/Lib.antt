@@ -1,2 +1,4 @@
 pub mod Laws
 pub mod Threes
+pub mod Joining
+pub mod OneByOne

@@ -5,6 +5,7 @@ pub mod Written
 pub mod States
 pub mod Exact
 pub mod Runs
+pub mod Backlogs
 pub mod Sample
 pub mod Promised
 pub mod Demands

@@ -1,7 +1,8 @@
 -- The numbers of the calls over a state, each with its reason: "Calls over a state go 11, 6, 7, 8, 9, 10".
 use Prim.Native.Nat.{ℕ, _+_, _≤_, _<_}
 use mathlib.Core.Bool.{not}
-use mathlib.Core.List.{List}
+use mathlib.Core.Path.{_≡_}
+use mathlib.Core.List.{List, [], _∷_}
 use lib.Dec.{T}
 use lib.ListN.{length}
 use Rattle.net.specs.declared.Net.{Net}
@@ -9,7 +10,9 @@ use Rattle.station.specs.Holding.{isLive}
 use Rattle.world.specs.World.{Event, exists, rule, fits}
 use Rattle.state.specs.declared.State.{State}
 use Rattle.state.specs.State.{stationIn, worldOf, stateHolds}
+use Rattle.step_rules.specs.Step.{event}
 use Rattle.demands.specs.Given.{GoodNet, BadNet}
+use Rattle.demands.specs.Calls.{Steps}
 
 -- a state given that is well formed, and one that isn't
 abbrev pub GoodState : State → Type 0
@@ -35,6 +38,22 @@ pub data Step (s : State) (e : Event) : ℕ → Type 0 where
       → T (not (fits (worldOf s) e)) → Step s e 9
   taken : GoodState s → T (exists (worldOf s) e) → T (rule (worldOf s) e .allowed) → T (not (rule (worldOf s) e .over))
       → T (fits (worldOf s) e) → Step s e 0
+
+-- ---- THE CALL OVER MANY EVENTS (document 02, L1). Calls of the step one by one, three numbers each, on the state that the one before
+-- handed back: all are taken; or one or two numbers are left over, which is 6; or an event is refused, with its number
+pub data Stopped : State → List ℕ → ℕ → Type 0 where
+  all-taken : {s : State} → Stopped s [] 0
+  one-over : {s : State} {x : ℕ} → Stopped s (x ∷ []) 6
+  two-over : {s : State} {x y : ℕ} → Stopped s (x ∷ y ∷ []) 6
+  refused : {s : State} {kind a b n : ℕ} {rest : List ℕ} → Step s (event kind a b) n → (n ≡ 0 → ⊥) → Stopped s (kind ∷ a ∷ b ∷ rest) n
+  goes-on : {s : State} {kind a b n : ℕ} {rest : List ℕ} (c : Steps s (event kind a b)) → c .answer .answer ≡ 0
+      → Stopped (c .answer .state) rest n
+      → Stopped s (kind ∷ a ∷ b ∷ rest) n
+
+-- "A bad state is 11, even for an empty list"
+pub data Backlog (s : State) (events : List ℕ) : ℕ → Type 0 where
+  eleven : BadState s → Backlog s events 11
+  told : {n : ℕ} → GoodState s → Stopped s events n → Backlog s events n
 
 -- ---- THE REACH of station a: 11, 6, 7
 pub data Reach (s : State) (a : ℕ) : ℕ → Type 0 where
