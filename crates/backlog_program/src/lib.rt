@@ -121,3 +121,84 @@ pub fn begin(net: Net) -> Ran
         state,
     }
 }
+
+// The test comes first, so that no sum wraps.
+fn count_on(count: u64, n: u64) -> u64
+    ensures { λ r. ⌜ r ≡ added count n ⌝ }
+{
+    if 18446744073709551615 - count < n {
+        18446744073709551615
+    } else {
+        count + n
+    }
+}
+
+// Takes the event lines that end in these bytes by one call; the lent list is the room for their numbers. After an answer that is not 0
+// nothing is taken.
+// Promise: the call over the numbers of the lines that end in these bytes, a malformed line being one number left over: its answer, the
+// events taken in all, and the state, tally and reading after them; 10 where the list has fewer than three places for each byte; after an
+// answer that is not 0 all stays as it was.
+pub fn take_lines(ran: Ran, bytes: &[u8], list: &mut [u32]) -> Ran
+    ensures answer { λ n. ⌜ n ≡ ranBy (listing ran (now (bytes .entry)) (now (list .entry))) ran (now (bytes .entry)) ⌝ }
+    ensures list { λ n. ⌜ now (list .exit) ≡ writingOutput (listing ran (now (bytes .entry)) (now (list .entry))) (now (list .entry)) ⌝ }
+{
+    if ran.answer != 0 {
+        return ran;
+    }
+    let reading = ran.reading;
+    let tally = ran.tally;
+    let state = ran.state;
+    // no line has more than three numbers, and none is without a byte of input
+    if list.len() / 3 < bytes.len() {
+        return Ran {
+            answer: 10,
+            taken: ran.taken,
+            reading,
+            tally,
+            state,
+        };
+    }
+    let listed = list_lines(reading, bytes, list);
+    let size = listed.size;
+    let behind = listed.reading;
+    let done = backlog_run::run_backlog(state, tally, &list[..size]);
+    let sums = done.tally;
+    let after = done.state;
+    Ran {
+        answer: done.answer,
+        taken: count_on(ran.taken, done.taken as u64),
+        reading: behind,
+        tally: sums,
+        state: after,
+    }
+}
+
+// ---- what is printed
+
+// The first line; the stations' lines behind it are those of the event program.
+// Promise: `TAKEN ANSWER FLYING SETTLED`: how many events were taken, 0 or the number that said no, the letters in flight, the notices
+// settled.
+pub fn put_backlog(taken: u64, answer: u8, flying: u16, settled: u64, out: &mut [u8]) -> Wrote
+    ensures answer { λ r. ⌜ r ≡ wroteBy (withRoom firstMost (firstText taken answer flying settled) (now (out .entry))) ⌝ }
+    ensures output { λ r. ⌜ now (out .exit) ≡ writingOutput (withRoom firstMost (firstText taken answer flying settled) (now (out .entry)))
+        (now (out .entry)) ⌝ }
+    ensures room { λ r. ⌜ Counts (r .written) (now (out .exit)) ⌝ }
+{
+    // two numbers of at most 20 digits, one of 3, one of 5, three spaces and the newline
+    if out.len() < 52 {
+        return Wrote {
+            answer: 10,
+            written: 0,
+        };
+    }
+    let a = text::put_number(out, 0, taken);
+    let b = text::put_word(out, a, b" ");
+    let c = text::put_field(out, b, answer as u16);
+    let d = text::put_field(out, c, flying);
+    let e = text::put_number(out, d, settled);
+    let end = text::put_word(out, e, b"\n");
+    Wrote {
+        answer: 0,
+        written: end,
+    }
+}
