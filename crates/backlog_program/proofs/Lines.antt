@@ -1,6 +1,6 @@
 -- The list of numbers as the code fills it: what each way out of `put_line` gives, and the loop of `list_lines`, crate `console`'s law of
 -- feeding with the end of the list as the value that is held.
-use Prim.Native.Nat.{ℕ, suc, _+_, _-_, _*_, _≤_, _<_}
+use Prim.Native.Nat.{ℕ, suc, _+_, _-_, _≤_, _<_}
 use mathlib.Core.Bool.{Bool, true, false}
 use mathlib.Core.Path.{_≡_, refl, sym, ap, _∙_}
 use mathlib.Core.List.{List, [], _∷_, _++_, append-assoc}
@@ -9,15 +9,14 @@ use lib.ListN.{length, take, drop, set, length-set}
 use lib.Seq.{set-split}
 use Rattle.text.specs.Text.{putAt, placeAfter}
 use Rattle.text.proofs.Puts.{place-fits, put-fits}
-use Rattle.text.proofs.Chains.{Chain, chain-none, chain-next}
+use Rattle.text.proofs.Chains.{chain-none, chain-next}
 use Rattle.event_lines.specs.declared.Reading.{Reading}
 use Rattle.event_lines.specs.declared.End.{End}
 use Rattle.event_lines.specs.Ends.{endFrom}
 use Rattle.event_lines.specs.Steps.{start, readOn, fed, lineEnd}
 use Rattle.console.specs.Outputs.{Put}
-use Rattle.console.proofs.Puts.{put-done, put-nothing, put-same}
+use Rattle.console.proofs.Puts.{put-done, put-nothing}
 use Rattle.console.proofs.Feeding as Feeding
-use Rattle.backlog_program.specs.declared.Listed.{Listed}
 use Rattle.backlog_program.specs.Numbers.{overAfter, numbersFor}
 use Rattle.backlog_program.specs.Runs.{Listing}
 

@@ -3,7 +3,7 @@
 use Prim.Native.Nat.{ℕ}
 use mathlib.Core.Bool.{Bool}
 use mathlib.Core.Path.{_≡_, refl, sym, ap, _∙_}
-use mathlib.Core.List.{List, [], _∷_, _++_, map}
+use mathlib.Core.List.{List, map}
 use lib.Dec.{T}
 use borrow.Author.Tests.{ne-eqb}
 use Rattle.lists.specs.Lists.{if_then_else_}
@@ -22,11 +22,10 @@ use Rattle.world.specs.World.{fresh}
 use Rattle.state.specs.declared.State.{State}
 use Rattle.state.specs.declared.Begun.{Begun}
 use Rattle.state.specs.State.{stateOf}
-use Rattle.state.specs.Beginning.{begunOf}
 use Rattle.state.proofs.LaidOut.{laid-sized, laid-holds}
 use Rattle.step_rules.proofs.Bridge.{Good}
 use Rattle.backlog_rules.specs.declared.Taken.{Taken}
-use Rattle.backlog_rules.specs.Backlog.{stopping, calls, backlogOf}
+use Rattle.backlog_rules.specs.Backlog.{stopping, calls}
 use Rattle.backlog_rules.proofs.Laws.{before-none, good-state}
 use Rattle.console.specs.Sheets.{fileSheet, openedBy, refusalText}
 use Rattle.console.proofs.Lines.{joined, whole-held}
@@ -34,7 +33,6 @@ use Rattle.console.proofs.Faults.{refusal-counts}
 use Rattle.console.proofs.Goods.{file-holds}
 use Rattle.event_program.specs.Events.{noTally}
 use Rattle.event_program.proofs.Program.{first-begun, first-carried}
-use Rattle.backlog_program.specs.declared.Ran.{Ran}
 use Rattle.backlog_program.specs.Numbers.{numbersOf}
 use Rattle.backlog_program.specs.Backlog.{takenText, outputBy, backlogProgram}
 use Rattle.backlog_program.specs.Runs.{firstRan}

@@ -1,13 +1,11 @@
 -- Between two pieces of the input: where the code stands, beside a run that takes line after line. They agree in all but the reading of
 -- the line under way, once an answer was not 0: the code then reads no further.
-use Prim.Native.Nat.{ℕ, _+_}
+use Prim.Native.Nat.{ℕ}
 use mathlib.Core.Bool.{false}
-use mathlib.Core.Path.{_≡_, refl, sym, ap, _∙_, subst, subst⁻¹}
+use mathlib.Core.Path.{_≡_, sym, ap, _∙_, subst, subst⁻¹}
 use mathlib.Core.List.{List, [], _∷_}
 use native.Mathlib.Decide.{ℕ-discrete}
-use lib.Dec.{eqb}
 use borrow.Author.Tests.{eq-eqb, ne-eqb}
-use Rattle.lists.specs.Lists.{if_then_else_}
 use Rattle.tally.specs.Sums.{added}
 use Rattle.tally.proofs.Sums.{added-twice}
 use Rattle.event_lines.specs.declared.Reading.{Reading}

@@ -2,6 +2,7 @@
 use Prim.Native.Nat.{ℕ, _*_, _/_, _≤_, _<_}
 use mathlib.Core.Path.{_≡_, refl, sym, ap, _∙_}
 use mathlib.Core.List.{List}
+use native.Mathlib.Decide.{ℕ-discrete}
 use native.Mathlib.Omega.{arith}
 use lib.ListN.{length, take, drop}
 use lib.Seq.{take-at}
@@ -13,6 +14,7 @@ use Rattle.backlog_rules.specs.Backlog.{backlogOf}
 use Rattle.backlog_program.specs.declared.Ran.{Ran}
 use Rattle.backlog_program.specs.declared.Listed.{Listed}
 use Rattle.backlog_program.specs.Runs.{numbersIn, lineAfter, Listing, listing, ranBy}
+use Rattle.backlog_program.specs.Calls.{ranAfter}
 
 module _ (n : Ran) (bytes old : List ℕ) where
   -- what it promises
@@ -32,8 +34,9 @@ module _ (n : Ran) (bytes old : List ℕ) where
     -- the call over what was listed
     module _ (l : Listed) (new : List ℕ) (w : Listing (n .reading) bytes old l new) (h : length bytes ≤ length old / 3) where
       front : take (l .size) new ≡ numbersIn (n .reading) bytes
-      front = ap (take (l .size)) (w .list) ∙ take-at (numbersIn (n .reading) bytes) (drop (length (numbersIn (n .reading) bytes)) old) (l .size)
-          (sym (w .size))
+      front =
+          let numbers = numbersIn (n .reading) bytes in
+          ap (take (l .size)) (w .list) ∙ take-at numbers (drop (length numbers) old) (l .size) (sym (w .size))
 
       pub takes-all : (x : Taken) → x ≡ backlogOf (n .state) (n .tally) (take (l .size) new) → (k : ℕ) → k ≡ added (n .taken) (x .taken)
           → Takes (record { answer = x .answer; taken = k; reading = l .reading; tally = x .tally; state = x .state }) new
@@ -51,3 +54,13 @@ module _ (n : Ran) (bytes old : List ℕ) where
                 }) done,
             w .list,
           )
+
+-- the backlog program lends 196,608 places for a piece of at most 65,536 bytes: it is never refused with 10
+pub room-suffices : (n : Ran) (bytes list : List ℕ) → length bytes ≤ 65536 → length list ≡ 196608
+    → ranBy (listing n bytes list) n bytes ≡ ranAfter n bytes
+unfolding ranAfter
+room-suffices n bytes list h e = go (ℕ-discrete (n .answer) 0)
+  where
+    go : Dec (n .answer ≡ 0) → ranBy (listing n bytes list) n bytes ≡ ranAfter n bytes
+    go (yes z) = simp (eq-eqb (n .answer) 0 z, le-ltb (length list) (3 * length bytes) (omega arith))
+    go (no o) = simp (ne-eqb (n .answer) 0 o)

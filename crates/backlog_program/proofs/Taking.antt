@@ -6,7 +6,7 @@ use mathlib.Core.Path.{_≡_, refl, sym, ap, _∙_}
 use mathlib.Core.List.{List, [], _∷_, _++_}
 use native.Mathlib.Decide.{ℕ-discrete}
 use native.Mathlib.Omega.{arith}
-use lib.Dec.{T, eqb}
+use lib.Dec.{eqb}
 use lib.ListN.{getD}
 use borrow.Author.Tests.{eq-eqb, ne-eqb}
 use Rattle.lists.specs.Lists.{if_then_else_}
@@ -21,10 +21,10 @@ use Rattle.step_rules.specs.Counting.{talliedBy}
 use Rattle.step_rules.proofs.Bridge.{Good, is-step}
 use Rattle.backlog_rules.specs.declared.Taken.{Taken}
 use Rattle.backlog_rules.specs.Backlog.{stopping, andBefore, calls}
-use Rattle.backlog_rules.proofs.Laws.{before-none, before-more, one-taken, one-refused}
+use Rattle.backlog_rules.proofs.Laws.{before-more, one-taken, one-refused}
 use Rattle.console.specs.Feeding.{heldAfter, readAfter, textAfter, printed, heldAll}
 use Rattle.backlog_program.specs.Numbers.{isMalformed, numbersOf, overAfter, numbersFor}
-use Rattle.backlog_program.specs.Runs.{numbersIn, lineAfter}
+use Rattle.backlog_program.specs.Runs.{numbersIn}
 
 -- ---- the lines that end in some bytes, and the reading behind them: neither hangs on what is held
 unfoldable linesIn : Reading → List ℕ → List (List ℕ)

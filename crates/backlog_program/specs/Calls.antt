@@ -1,6 +1,6 @@
 -- What the backlog program's calls print, one after the other: `open_sheet`; for a refused sheet `put_refusal`; else `begin`, `take_lines`
--- for each piece of the input, the last one as `put_piece` ends it, `put_backlog` and `event_program`'s `put_stations`. proofs/Program.antt:
--- it is exactly what specs/Backlog.antt says of the file and the whole input.
+-- for each piece of the input, the last one as `put_piece` ends it, `put_backlog`, and `event_program`'s `put_stations`.
+-- proofs/Program.antt: it is exactly what specs/Backlog.antt says of the file and the whole input.
 use Prim.Native.Nat.{ℕ}
 use mathlib.Core.List.{List, [], _∷_, _++_}
 use lib.Dec.{eqb}

@@ -9,12 +9,10 @@ use lib.ListN.{length}
 use Rattle.lists.specs.Lists.{if_then_else_}
 use Rattle.fields.specs.Fields.{onto}
 use Rattle.fields.specs.Output.{Writing, denied, writes, withRoom}
-use Rattle.tally.specs.declared.Tally.{Tally}
 use Rattle.tally.specs.Sums.{added}
 use Rattle.event_lines.specs.declared.Reading.{Reading}
 use Rattle.event_lines.specs.Steps.{start, readOn, lineEnd}
 use Rattle.net.specs.declared.Net.{Net}
-use Rattle.state.specs.declared.State.{State}
 use Rattle.state.specs.Beginning.{begunOf}
 use Rattle.backlog_rules.specs.declared.Taken.{Taken}
 use Rattle.backlog_rules.specs.Backlog.{backlogOf}

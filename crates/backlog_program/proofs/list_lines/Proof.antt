@@ -13,8 +13,6 @@ use borrow.Author.Needs.{needs}
 use borrow.Author.Tests.{not-true, not-false}
 use Rattle.backlog_program.proofs.list_lines.Statement.{statement}
 use Rattle.backlog_program.proofs.list_lines.Tie as tie
-use Rattle.backlog_program.proofs.list_lines.Reads as reads
-use Rattle.backlog_program.proofs.list_lines.Lts as lts
 
 abbrev Inv-loop : tie.InvT-loop
 Inv-loop bytes list₀ reading₀ over₀ at₀ from₀ list reading over at from = Going bytes list₀ false reading₀ list over reading at from

@@ -11,11 +11,6 @@ use native.Mathlib.Omega.{arith}
 use borrow.Author.Needs.{needs}
 use Rattle.backlog_program.proofs.put_backlog.Statement.{statement}
 use Rattle.backlog_program.proofs.put_backlog.Tie as tie
-use Rattle.backlog_program.proofs.put_backlog.Reads as reads
-use Rattle.backlog_program.proofs.put_backlog.Lts as lts
-use Rattle.text.proofs.put_field.Reads as put-field-reads
-use Rattle.text.proofs.put_number.Reads as put-number-reads
-use Rattle.text.proofs.put_word.Reads as put-word-reads
 
 few : (c : tie.Start) → (c .args .taken < 2 ^ 64) × (c .args .answer < 256) × (c .args .flying < 65536) × (c .args .settled < 2 ^ 64)
 few c = search needs

@@ -7,9 +7,6 @@ use native.Mathlib.Omega.{arith}
 use borrow.Author.Needs.{needs}
 use Rattle.backlog_program.proofs.put_line.Statement.{statement}
 use Rattle.backlog_program.proofs.put_line.Tie as tie
-use Rattle.backlog_program.proofs.put_line.Reads as reads
-use Rattle.backlog_program.proofs.put_line.Lts as lts
-use Rattle.event_lines.proofs.line_end.Reads as line-end-reads
 
 returns : tie.Need-returns
 returns c =

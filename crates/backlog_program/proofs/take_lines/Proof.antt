@@ -1,14 +1,8 @@
 use Rattle.backlog_program.proofs.Takes.{takes-nothing, takes-short, takes-all}
 use denote.Ref.{now}
-use native.Mathlib.Omega.{arith}
 use borrow.Author.Needs.{needs}
 use Rattle.backlog_program.proofs.take_lines.Statement.{statement}
 use Rattle.backlog_program.proofs.take_lines.Tie as tie
-use Rattle.backlog_program.proofs.take_lines.Reads as reads
-use Rattle.backlog_program.proofs.take_lines.Lts as lts
-use Rattle.backlog_program.proofs.count_on.Reads as count-on-reads
-use Rattle.backlog_program.proofs.list_lines.Reads as list-lines-reads
-use Rattle.backlog_run.proofs.run_backlog.Reads as run-backlog-reads
 
 -- ---- the places on the way
 abbrev entry : tie.Else1 → tie.Start
