@@ -60,15 +60,18 @@ module _ (net : Network) (t : T (sheetHolds net)) where
   unfolding begunOf good-begun
   begun-is = simp (T-is (netHolds v) (value-holds net t))
 
-  first-is : begunOf v .state ≡ stateOf v (fresh net)
+  pub first-begun : begunOf v ≡ record { answer = 0; state = stateOf v (fresh net) }
   unfolding good-begun
-  first-is = ap (λ (b : Begun). b .state) begun-is ∙ ap (λ (n : Network). stateOf v (fresh n)) (value-means net t)
+  first-begun = begun-is ∙ ap (λ (n : Network). record { answer = 0; state = stateOf v (fresh n) }) (value-means net t)
+
+  first-is : begunOf v .state ≡ stateOf v (fresh net)
+  first-is = ap (λ (b : Begun). b .state) first-begun
 
   fresh-net : fresh net .net ≡ net
   unfolding fresh
   fresh-net = refl
 
-  first-carried : Carried v (fresh net)
+  pub first-carried : Carried v (fresh net)
   first-carried =
       record { good = value-holds net t; ends = value-ends net t; net = value-means net t ∙ sym fresh-net; formed = fresh-formed net t }
 

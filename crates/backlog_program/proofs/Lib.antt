@@ -1,0 +1,6 @@
+pub mod Lines
+pub mod Takes
+pub mod Firsts
+pub mod Taking
+pub mod Standing
+pub mod Program

@@ -1,0 +1,4 @@
+pub mod Numbers
+pub mod Backlog
+pub mod Runs
+pub mod Calls
