@@ -207,7 +207,7 @@ pub fn names_of(net: Net, flying: u16, kind: Kind, a: u32, b: u32, letter: Lette
         station,
         there: named,
         link,
-        subject,
+        subject, // a notice comes on one link and tells of another
     }
 }
 
