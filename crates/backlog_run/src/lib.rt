@@ -4,25 +4,32 @@
 // (crate `step_parts`); a turn differs from the step where a copy of a table can be spared.
 ghost use mathlib.Core.Path.{_≡_};
 ghost use mathlib.Core.Bool.{_||_};
-ghost use Prim.Native.Nat.{_+_, _*_, _≤_};
+ghost use Prim.Native.Nat.{_+_, _*_, _≤_, _<_};
 ghost use lib.ListN.{length};
 ghost use Rattle.backlog_rules.specs.Backlog.{backlogOf};
-ghost use Rattle.backlog_run.specs.Events.{askedAt, leftOver, OwnWords};
+ghost use Rattle.backlog_run.specs.Events.{askedAt, leftOver, OwnWords, PlansAt};
+ghost use Rattle.net.specs.Sizes.{linkRoom};
 use backlog_rules::Taken;
+use net::Letter;
 use net::MOST_STATIONS;
 use net::Net;
 use net::STATION_ROOM;
 use state::State;
+use station::Kind;
 use station::Station;
+use station_plan::Plan;
+use step_parts::Names;
 use tally::Tally;
 
 // ---- the list of events
 
-// The three numbers of an event.
+// The three numbers of an event; which kind the first says, and the place of the letter that the second may name.
 struct Asked {
     kind: u32,
     a: u32,
     b: u32,
+    what: Kind,
+    place: usize,
 }
 
 fn event_at(events: &[u32], i: usize) -> Asked
@@ -30,10 +37,15 @@ fn event_at(events: &[u32], i: usize) -> Asked
     ensures { λ r. ⌜ r ≡ askedAt (now (events .entry)) i ⌝ }
 {
     let first = 3 * i;
+    let kind = events[first];
+    let a = events[first + 1];
+    let b = events[first + 2];
     Asked {
-        kind: events[first],
-        a: events[first + 1],
-        b: events[first + 2],
+        kind,
+        a,
+        b,
+        what: station_kinds::kind_of(kind),
+        place: step_parts::place_of(a),
     }
 }
 
@@ -64,6 +76,32 @@ fn either(a: bool, b: bool) -> bool
     if a { true } else { b }
 }
 
+// ---- the station
+
+// What the event comes to at the station that it concerns, in words.
+fn plan_at(names: Names, what: Kind, own: u64, x: Letter, st: Station) -> Plan
+    requires { ⌜ (names .link < linkRoom) × (names .subject < linkRoom) ⌝ }
+    ensures { λ r. ⌜ PlansAt names what own x st r ⌝ }
+{
+    let condition = st.condition;
+    let table = st.counters;
+    let marks = st.marks;
+    let on = names.link as usize;
+    let of = names.subject as usize;
+    station_event::events::plan_event(
+        names.there,
+        what,
+        own,
+        names.station,
+        names.link,
+        x,
+        table[on],
+        table[of],
+        condition,
+        marks,
+    )
+}
+
 // ---- the call
 
 // Many events, three numbers each, and a tally by value. It stops at the first refused event; a bad state is 11, even for an empty list.
@@ -87,33 +125,17 @@ pub fn run_backlog(mut s: State, t: Tally, events: &[u32]) -> Taken
     for taken in 0..n {
         // what the event names
         let e = event_at(events, taken);
-        let what = station_kinds::kind_of(e.kind);
-        let place = step_parts::place_of(e.a);
+        let what = e.what;
+        let place = e.place;
         let x = s.letters[place];
         let flying = s.flying;
         let names = step_parts::names_of(net, flying, what, e.a, e.b, x);
         let me = names.station;
         // what it comes to at the station that it concerns
         let who = me as usize;
-        let own = owns[who];
         let st = s.stations[who];
-        let condition = st.condition;
+        let plan = plan_at(names, what, owns[who], x, st);
         let table = st.counters;
-        let marks = st.marks;
-        let on = names.link as usize;
-        let of = names.subject as usize;
-        let plan = station_event::events::plan_event(
-            names.there,
-            what,
-            own,
-            me,
-            names.link,
-            x,
-            table[on],
-            table[of],
-            condition,
-            marks,
-        );
         // what is told and sent; a table is copied only where it changes or is looked through
         let mut told = table;
         if plan.sets {

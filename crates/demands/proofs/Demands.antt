@@ -26,15 +26,13 @@ use Rattle.net.specs.Network.{Network, linkNumbers}
 use Rattle.net.specs.Values.{networkOf}
 use Rattle.sheet.specs.declared.Answer.the-variants as SheetAnswer
 use Rattle.sheet.specs.declared.Wrote.the-variants as sheetWrote
-use Rattle.sheet.specs.Sheet.{readSheet, writeSheet}
+use Rattle.sheet.specs.Sheet.{writeSheet}
 use Rattle.sheet.specs.Values.{zeroNet}
 use Rattle.sheet.specs.Values as SheetValues
-use Rattle.sheet.proofs.ValueLaws as SheetOne
 use Rattle.letters.specs.declared.Answer.the-variants as answer
 use Rattle.letters.specs.declared.Wrote.the-variants as letterWrote
 use Rattle.letters.specs.Letters.{writeLetter}
 use Rattle.letters.specs.Values.{lettersOf}
-use Rattle.letters.proofs.Refusals as LetterOne
 use Rattle.reach.specs.Reach.{worksIn, Reaches}
 use Rattle.station.specs.Holding.{counter, isLive}
 use Rattle.station.proofs.Doing.{own}
@@ -90,6 +88,7 @@ use Rattle.demands.proofs.Runs.{IsRun, Moment}
 use Rattle.demands.proofs.Backlogs as Backlogs
 use Rattle.demands.proofs.Backlogs.{TakenDieOut}
 use Rattle.demands.proofs.Sample.{sample-is}
+pub use Rattle.demands.proofs.Answers.{OneAnswer, one-answer}
 
 -- DEMAND 1. "Every sheet, letter, event and state that reaches a public call is answered, never trusted. A refusal has its number from
 -- the list, and the state and the lent buffers keep their contents."
@@ -458,36 +457,3 @@ pub record Examples : Type 0 where
 
 pub examples : Examples
 examples = record { program = event-program; sample = sample-is; table = Cases.cases-hold }
-
--- ONE ANSWER. Document 01: "Prove that two answers allowed for one input are equal."
-pub record OneAnswer : Type 0 where
-  pub reads-sheet : (bytes : List ℕ) (c d : ReadsSheet bytes) → c .answer ≡ d .answer
-  pub writes-sheet : (net : Net) (old : List ℕ) (c d : WritesSheet net old) → (c .answer ≡ d .answer) × (c .output ≡ d .output)
-  pub reads-letter : (net : Net) (bytes : List ℕ) (c d : ReadsLetter net bytes) → c .answer ≡ d .answer
-  pub writes-letter : (net : Net) (x : Letter) (old : List ℕ) (c d : WritesLetter net x old)
-      → (c .answer ≡ d .answer) × (c .output ≡ d .output)
-  pub begins : (net : Net) (c d : Begins net) → c .answer ≡ d .answer
-  pub steps : (s : State) (e : Event) (c d : Steps s e) → c .answer ≡ d .answer
-  pub steps-counted : (before : Tally) (s : State) (e : Event) (c d : StepsCounted before s e)
-      → (c .answer ≡ d .answer) × (c .tally ≡ d .tally)
-  pub takes-backlog : (before : Tally) (s : State) (events : List ℕ) (c d : TakesBacklog before s events)
-      → (c .answer ≡ d .answer) × (c .tally ≡ d .tally)
-  pub asks-reach : (s : State) (a : ℕ) (c d : AsksReach s a) → c .answer ≡ d .answer
-  pub asks-report : (s : State) (a : ℕ) (old : List ℕ) (c d : AsksReport s a old) → (c .answer ≡ d .answer) × (c .output ≡ d .output)
-
-pub one-answer : OneAnswer
-one-answer =
-    record {
-      reads-sheet = λ bytes c d. SheetOne.one-answer (c .answer) (d .answer) (readSheet bytes) (c .promise) (d .promise);
-      writes-sheet = λ net old c d.
-          (SheetOne.one-wrote (c .answer) (d .answer) (c .promise ∙ sym (d .promise)), c .promise-output ∙ sym (d .promise-output));
-      reads-letter = λ net bytes c d. LetterOne.one-answer (c .answer) (d .answer) (c .promise ∙ sym (d .promise));
-      writes-letter = λ net x old c d.
-          (LetterOne.one-wrote (c .answer) (d .answer) (c .promise ∙ sym (d .promise)), c .promise-output ∙ sym (d .promise-output));
-      begins = λ net c d. c .promise ∙ sym (d .promise);
-      steps = λ s e c d. c .promise ∙ sym (d .promise);
-      steps-counted = λ t s e c d. (c .promise ∙ sym (d .promise), c .promise-tally ∙ sym (d .promise-tally));
-      takes-backlog = λ t s events c d. (c .promise ∙ sym (d .promise), c .promise-tally ∙ sym (d .promise-tally));
-      asks-reach = λ s a c d. c .promise ∙ sym (d .promise);
-      asks-report = λ s a old c d. (c .promise ∙ sym (d .promise), c .promise-output ∙ sym (d .promise-output));
-    }

@@ -8,4 +8,5 @@ pub mod Runs
 pub mod Backlogs
 pub mod Sample
 pub mod Promised
+pub mod Answers
 pub mod Demands

@@ -19,6 +19,7 @@ use Rattle.sets.specs.Sets.{wordBy}
 use Rattle.marks.specs.Marks.{ownAt}
 use Rattle.station.specs.declared.Sending.{Sending}
 use Rattle.station.specs.declared.Station.{Station}
+use Rattle.station.specs.Events.{kindOf}
 use Rattle.station_plan.specs.declared.Plan.{Plan}
 use Rattle.station_plan.specs.Carrying.{keptBy, narrowed}
 use Rattle.station_plan.specs.Plans.{toldIn}
@@ -32,7 +33,7 @@ use Rattle.step_rules.specs.Step.{refusing, steppedOf}
 use Rattle.step_rules.proofs.Bridge.{Good, is-step}
 use Rattle.step_parts.specs.declared.Names.{Names}
 use Rattle.step_parts.specs.declared.Room.{Room}
-use Rattle.step_parts.specs.Parts.{namesBy}
+use Rattle.step_parts.specs.Parts.{namesBy, placeBy}
 use Rattle.step_parts.proofs.Helpers.{place-few, Placed, placed}
 use Rattle.step_parts.proofs.Made.{refused-event, posted-none, posted-more, Facts, answer-refusal, leftLetters, left-length}
 use Rattle.step_parts.proofs.Made.{new-are, few-after, closed-up, closes-within, free-within, made}
@@ -48,23 +49,23 @@ use Rattle.backlog_run.proofs.run_backlog.Tie as tie
 
 -- while the later letters close up
 abbrev Inv-loop2 : tie.InvT-loop2
-Inv-loop2 events s₀ net owns tally n taken place flying me who own on of plan told send count room last from i₀ s i =
+Inv-loop2 events s₀ net owns tally n taken place flying me who plan told send count room last from i₀ s i =
     (from ≤ i) × (i ≤ last) × (from < last → last < letterRoom) × (length (s₀ .letters) ≡ letterRoom)
     × (s ≡ withLetters s₀ (closing from (s₀ .letters) i))
 
 abbrev μ-loop2 : tie.MeasureT-loop2
-μ-loop2 events s₀ net owns tally n taken place flying me who own on of plan told send count room last from i₀ s i = last - i
+μ-loop2 events s₀ net owns tally n taken place flying me who plan told send count room last from i₀ s i = last - i
 
 -- while new letters are put at the end
 abbrev Inv-loop3 : tie.InvT-loop3
-Inv-loop3 events s₀ net owns tally n taken place flying me who own on of plan told count room last from free post₀ i₀ s post i =
+Inv-loop3 events s₀ net owns tally n taken place flying me who plan told count room last from free post₀ i₀ s post i =
     (i ≤ count) × (last + count ≤ letterRoom) × (count ≡ length (posted me told post₀)) × Going post
     × (posted me told post ≡ drop i (posted me told post₀)) × (s ≡ withLetters s₀ (s .letters)) × (length told ≡ linkRoom)
     × ((ls : List Letter) → s₀ .letters ≡ roomed letterRoom noLetter ls → length ls ≡ last
     → s .letters ≡ roomed letterRoom noLetter (ls ++ take i (posted me told post₀)))
 
 abbrev μ-loop3 : tie.MeasureT-loop3
-μ-loop3 events s₀ net owns tally n taken place flying me who own on of plan told count room last from free post₀ i₀ s post i = count - i
+μ-loop3 events s₀ net owns tally n taken place flying me who plan told count room last from free post₀ i₀ s post i = count - i
 
 -- between two events: the state is well formed, and what the whole call answers is what the calls one by one answer from here on
 abbrev Inv-loop : tie.InvT-loop
@@ -78,17 +79,17 @@ abbrev μ-loop : tie.MeasureT-loop
 abbrev Answered : Type 0
 Answered = tie.After-room-of Inv-loop2 μ-loop2 Inv-loop3 μ-loop3 Inv-loop μ-loop
 
-abbrev planAt : Answered → tie.After-plan-event Inv-loop2 μ-loop2 Inv-loop3 μ-loop3 Inv-loop μ-loop
-planAt c = c .before .before .before .before .before
+abbrev planAt : Answered → tie.After-plan-at Inv-loop2 μ-loop2 Inv-loop3 μ-loop3 Inv-loop μ-loop
+planAt c = c .before .before .before .before .before .before
 
 abbrev namesAt : Answered → tie.After-names-of Inv-loop2 μ-loop2 Inv-loop3 μ-loop3 Inv-loop μ-loop
-namesAt c = planAt c .before .before .before .before .before .before
+namesAt c = planAt c .before .before
 
-abbrev placeAt : Answered → tie.After-place-of Inv-loop2 μ-loop2 Inv-loop3 μ-loop3 Inv-loop μ-loop
-placeAt c = namesAt c .before .before
+abbrev eventAt : Answered → tie.After-event-at Inv-loop2 μ-loop2 Inv-loop3 μ-loop3 Inv-loop μ-loop
+eventAt c = namesAt c .before .before
 
 abbrev turnAt : Answered → tie.At-loop Inv-loop2 μ-loop2 Inv-loop3 μ-loop3 Inv-loop μ-loop
-turnAt c = placeAt c .before .before .before .before
+turnAt c = eventAt c .before .before
 
 abbrev ownsAt : tie.At-loop Inv-loop2 μ-loop2 Inv-loop3 μ-loop3 Inv-loop μ-loop → tie.After-own-words Inv-loop2 μ-loop2 Inv-loop3 μ-loop3 Inv-loop μ-loop
 ownsAt c = c .before
@@ -98,7 +99,7 @@ abbrev stateOf : Answered → State
 stateOf c = turnAt c .loop .s
 
 abbrev eventOf : Answered → Asked
-eventOf c = placeAt c .before .before .event-at .result
+eventOf c = eventAt c .event-at .result
 
 abbrev namesOf : Answered → Names
 namesOf c = namesAt c .names-of .result
@@ -107,7 +108,7 @@ abbrev meOf : Answered → ℕ
 meOf c = namesOf c .station
 
 abbrev planOf : Answered → Plan
-planOf c = planAt c .plan-event .result
+planOf c = planAt c .plan-at .result
 
 abbrev toldOf : Answered → List ℕ
 toldOf c = c .before .before .before .before .if2 .told
@@ -118,9 +119,16 @@ sendOf c = c .before .before .if3 .send
 abbrev roomOf : Answered → Room
 roomOf c = c .room-of .result
 
+-- the event's kind, and the place of its letter, by its numbers
+decoded : (c : tie.After-event-at Inv-loop2 μ-loop2 Inv-loop3 μ-loop3 Inv-loop μ-loop) → c .event-at .result .what ≡ kindOf (c .event-at .result .kind)
+decoded c = ap (λ (x : Asked). x .what) (c .event-at .ensures) ∙ ap (λ (x : Asked). kindOf (x .kind)) (sym (c .event-at .ensures))
+
+placed-at : (c : tie.After-event-at Inv-loop2 μ-loop2 Inv-loop3 μ-loop3 Inv-loop μ-loop) → c .event-at .result .place ≡ placeBy (c .event-at .result .a)
+placed-at c = ap (λ (x : Asked). x .place) (c .event-at .ensures) ∙ ap (λ (x : Asked). placeBy (x .a)) (sym (c .event-at .ensures))
+
 -- what is read is within its room
-place-within : (c : tie.After-place-of Inv-loop2 μ-loop2 Inv-loop3 μ-loop3 Inv-loop μ-loop) → c .place-of .result < letterRoom
-place-within c = place-few (c .before .before .event-at .result .a) (c .place-of .result) (c .place-of .ensures)
+place-within : (c : tie.After-event-at Inv-loop2 μ-loop2 Inv-loop3 μ-loop3 Inv-loop μ-loop) → c .event-at .result .place < letterRoom
+place-within c = place-few (c .event-at .result .a) (c .event-at .result .place) (placed-at c)
 
 names-within : (c : tie.After-names-of Inv-loop2 μ-loop2 Inv-loop3 μ-loop3 Inv-loop μ-loop) → Placed (c .names-of .result)
 names-within c = placed _ _ _ _ _ _ _ (c .names-of .ensures)
@@ -130,9 +138,8 @@ same-net : (c : tie.At-loop Inv-loop2 μ-loop2 Inv-loop3 μ-loop3 Inv-loop μ-lo
 same-net c = c .loop .inv .3
 
 -- what is told and what is sent, by a test or by its function
-told-is : (c : tie.Joined2 Inv-loop2 μ-loop2 Inv-loop3 μ-loop3 Inv-loop μ-loop) → c .if2 .told ≡ toldIn (c .before .plan-event .result)
-    (stationIn (c .before .before .before .before .before .before .before .before .before .before .before .before .before .loop .s)
-    (c .before .before .before .before .before .before .before .names-of .result .station))
+told-is : (c : tie.Joined2 Inv-loop2 μ-loop2 Inv-loop3 μ-loop3 Inv-loop μ-loop) → c .if2 .told ≡ toldIn (c .before .before .plan-at .result)
+    (stationIn (c .before .before .before .before .before .before .before .before .loop .s) (c .before .before .before .before .names-of .result .station))
 told-is c = ⊎-elim (λ w. w .2 ∙ w .1 .ensures) (λ w. w .1 ∙ told-same _ _ _ _ (w .0 .left)) (c .if2 .came)
 
 sent-is : (c : Answered) → sendOf c ≡ narrowed (planOf c .knows) (min (stateOf c .net .links) linkRoom) (toldOf c) (planOf c .sends)
@@ -146,8 +153,7 @@ own-is c =
     ∙ ap (λ (n : Net). wordBy (ownAt n (meOf c))) (sym (same-net (turnAt c)))
 
 -- what the code has seen when it has its answer
-facts : (c : Answered) → Facts (stateOf c) (eventOf c .kind) (eventOf c .a) (eventOf c .b) (placeAt c .before .kind-of .result)
-    (placeAt c .place-of .result) (namesOf c) (getD (ownsAt (turnAt c) .own-words .result) (meOf c) 0) (planOf c) (toldOf c) (sendOf c)
+facts : (c : Answered) → Facts (stateOf c) (eventOf c .kind) (eventOf c .a) (eventOf c .b) (eventOf c .what) (eventOf c .place) (namesOf c) (getD (ownsAt (turnAt c) .own-words .result) (meOf c) 0) (planOf c) (toldOf c) (sendOf c)
     (c .before .count .result) (roomOf c)
 facts c =
     let l = turnAt c .loop in
@@ -155,13 +161,13 @@ facts c =
       seen = record {
         sized = l .inv .2 .sized;
         holds = l .inv .2 .holds;
-        decodes = placeAt c .before .kind-of .ensures;
-        at = placeAt c .place-of .ensures;
+        decodes = decoded (eventAt c);
+        at = placed-at (eventAt c);
         names =
-            namesAt c .names-of .ensures ∙ ap (λ (n : Net). namesBy n (l .s .flying) (placeAt c .before .kind-of .result) (eventOf c .a) (eventOf c .b)
-            (letterIn (l .s) (placeAt c .place-of .result))) (sym (same-net (turnAt c)));
+            namesAt c .names-of .ensures ∙ ap (λ (n : Net). namesBy n (l .s .flying) (eventOf c .what) (eventOf c .a) (eventOf c .b)
+            (letterIn (l .s) (eventOf c .place))) (sym (same-net (turnAt c)));
         mine = own-is c;
-        plans = planAt c .plan-event .ensures .1;
+        plans = planAt c .plan-at .ensures;
       };
       tells = told-is (c .before .before .before .before);
       sends = sent-is c;
@@ -178,7 +184,7 @@ told-size c =
 
 -- the answer, from where the letters begin to close up and from where new letters begin to be put
 abbrev Stored : Type 0
-Stored = tie.After-struct-known4 Inv-loop2 μ-loop2 Inv-loop3 μ-loop3 Inv-loop μ-loop
+Stored = tie.After-struct-known2 Inv-loop2 μ-loop2 Inv-loop3 μ-loop3 Inv-loop μ-loop
 
 abbrev closes : Stored → Answered
 closes c = c .before .before .before .before .before .before
@@ -241,12 +247,6 @@ loop-holds c =
 event-at-requires : tie.Need-event-at-requires Inv-loop2 μ-loop2 Inv-loop3 μ-loop3 Inv-loop μ-loop
 event-at-requires c κs = omega arith
 
-kind-of-requires : tie.Need-kind-of-requires Inv-loop2 μ-loop2 Inv-loop3 μ-loop3 Inv-loop μ-loop
-kind-of-requires c κs = search needs
-
-place-of-requires : tie.Need-place-of-requires Inv-loop2 μ-loop2 Inv-loop3 μ-loop3 Inv-loop μ-loop
-place-of-requires c κs = search needs
-
 mul-x : tie.Need-mul-x Inv-loop2 μ-loop2 Inv-loop3 μ-loop3 Inv-loop μ-loop
 mul-x c = omega (arith, place-within c)
 
@@ -259,42 +259,20 @@ names-of-requires c κs = search needs
 cast-who : tie.Need-cast-who Inv-loop2 μ-loop2 Inv-loop3 μ-loop3 Inv-loop μ-loop
 cast-who c = omega arith
 
-mul-own : tie.Need-mul-own Inv-loop2 μ-loop2 Inv-loop3 μ-loop3 Inv-loop μ-loop
-mul-own c = omega (arith, names-within c .station)
-
-array-read-own : tie.Need-array-read-own Inv-loop2 μ-loop2 Inv-loop3 μ-loop3 Inv-loop μ-loop
-array-read-own c = names-within c .station
-
 mul-st : tie.Need-mul-st Inv-loop2 μ-loop2 Inv-loop3 μ-loop3 Inv-loop μ-loop
 mul-st c = omega (arith, names-within c .station)
 
 element-copy-out-st : tie.Need-element-copy-out-st Inv-loop2 μ-loop2 Inv-loop3 μ-loop3 Inv-loop μ-loop
 element-copy-out-st c = names-within c .station
 
-cast-on : tie.Need-cast-on Inv-loop2 μ-loop2 Inv-loop3 μ-loop3 Inv-loop μ-loop
-cast-on c = omega arith
+mul-plan-at : tie.Need-mul-plan-at Inv-loop2 μ-loop2 Inv-loop3 μ-loop3 Inv-loop μ-loop
+mul-plan-at c = omega (arith, names-within (c .before) .station)
 
-cast-of : tie.Need-cast-of Inv-loop2 μ-loop2 Inv-loop3 μ-loop3 Inv-loop μ-loop
-cast-of c = omega arith
+array-read-plan-at : tie.Need-array-read-plan-at Inv-loop2 μ-loop2 Inv-loop3 μ-loop3 Inv-loop μ-loop
+array-read-plan-at c = names-within (c .before) .station
 
--- what the event names, from where the plan is made
-abbrev named : tie.After-struct-known2 Inv-loop2 μ-loop2 Inv-loop3 μ-loop3 Inv-loop μ-loop → tie.After-names-of Inv-loop2 μ-loop2 Inv-loop3 μ-loop3 Inv-loop μ-loop
-named c = c .before .before .before .before .before
-
-mul-plan-event : tie.Need-mul-plan-event Inv-loop2 μ-loop2 Inv-loop3 μ-loop3 Inv-loop μ-loop
-mul-plan-event c = omega (arith, names-within (named c) .link)
-
-array-read-plan-event : tie.Need-array-read-plan-event Inv-loop2 μ-loop2 Inv-loop3 μ-loop3 Inv-loop μ-loop
-array-read-plan-event c = names-within (named c) .link
-
-mul-plan-event-2 : tie.Need-mul-plan-event-2 Inv-loop2 μ-loop2 Inv-loop3 μ-loop3 Inv-loop μ-loop
-mul-plan-event-2 c = omega (arith, names-within (named c) .subject)
-
-array-read-plan-event-2 : tie.Need-array-read-plan-event-2 Inv-loop2 μ-loop2 Inv-loop3 μ-loop3 Inv-loop μ-loop
-array-read-plan-event-2 c = names-within (named c) .subject
-
-plan-event-requires : tie.Need-plan-event-requires Inv-loop2 μ-loop2 Inv-loop3 μ-loop3 Inv-loop μ-loop
-plan-event-requires c κs = search needs
+plan-at-requires : tie.Need-plan-at-requires Inv-loop2 μ-loop2 Inv-loop3 μ-loop3 Inv-loop μ-loop
+plan-at-requires c κs = let p = names-within (c .before) in (p .link, p .subject)
 
 told-table-requires : tie.Need-told-table-requires Inv-loop2 μ-loop2 Inv-loop3 μ-loop3 Inv-loop μ-loop
 told-table-requires c κs = search needs
@@ -316,14 +294,14 @@ inside : (c : tie.In-loop Inv-loop2 μ-loop2 Inv-loop3 μ-loop3 Inv-loop μ-loop
 inside c = omega arith
 
 abbrev testAt : Answered → tie.In-loop Inv-loop2 μ-loop2 Inv-loop3 μ-loop3 Inv-loop μ-loop
-testAt c = placeAt c .before .before .before
+testAt c = eventAt c .before
 
 returns-2 : tie.Need-returns-2 Inv-loop2 μ-loop2 Inv-loop3 μ-loop3 Inv-loop μ-loop
 returns-2 c =
     let n = c .before .before in
     let l = turnAt n .loop in
     let e = eventOf n in
-    let q = placeAt n .before .before .event-at .ensures in
+    let q = eventAt n .event-at .ensures in
     Threes.stops _ _ (l .s) (l .tally) (l .taken) (l .inv .4) (e .kind) (e .a) (e .b) (refusing (roomOf n .answer) (l .s)) (inside (testAt n))
     (ap (λ (x : Asked). x .kind) q) (ap (λ (x : Asked). x .a) q) (ap (λ (x : Asked). x .b) q)
     (refused-event (l .s) (e .kind) (e .a) (e .b) (facts n .seen .holds) _ (answer-refusal (facts n)) (c .if4 .taken)) (c .if4 .taken)
@@ -331,8 +309,8 @@ returns-2 c =
 abbrev marked : tie.After-marked Inv-loop2 μ-loop2 Inv-loop3 μ-loop3 Inv-loop μ-loop → Answered
 marked c = c .before .before .before
 
-mul-t52 : tie.Need-mul-t52 Inv-loop2 μ-loop2 Inv-loop3 μ-loop3 Inv-loop μ-loop
-mul-t52 c = omega (arith, names-within (namesAt (marked c)) .station)
+mul-t47 : tie.Need-mul-t47 Inv-loop2 μ-loop2 Inv-loop3 μ-loop3 Inv-loop μ-loop
+mul-t47 c = omega (arith, names-within (namesAt (marked c)) .station)
 
 element-set-from-s : tie.Need-element-set-from-s Inv-loop2 μ-loop2 Inv-loop3 μ-loop3 Inv-loop μ-loop
 element-set-from-s c = names-within (namesAt (marked c)) .station
@@ -343,8 +321,8 @@ either-requires c κs = search needs
 kept-table-requires : tie.Need-kept-table-requires Inv-loop2 μ-loop2 Inv-loop3 μ-loop3 Inv-loop μ-loop
 kept-table-requires c κs = search needs
 
-mul-t79 : tie.Need-mul-t79 Inv-loop2 μ-loop2 Inv-loop3 μ-loop3 Inv-loop μ-loop
-mul-t79 c = omega (arith, names-within (namesAt (marked (c .before .before .before))) .station)
+mul-t66 : tie.Need-mul-t66 Inv-loop2 μ-loop2 Inv-loop3 μ-loop3 Inv-loop μ-loop
+mul-t66 c = omega (arith, names-within (namesAt (marked (c .before .before .before))) .station)
 
 element-set-from-s-2 : tie.Need-element-set-from-s-2 Inv-loop2 μ-loop2 Inv-loop3 μ-loop3 Inv-loop μ-loop
 element-set-from-s-2 c = names-within (namesAt (marked (c .before .before .before))) .station
@@ -482,7 +460,7 @@ loop3-again c =
 
 -- ---- the event is taken
 abbrev Taking : Type 0
-Taking = tie.After-struct-known5 Inv-loop2 μ-loop2 Inv-loop3 μ-loop3 Inv-loop μ-loop
+Taking = tie.After-struct-known3 Inv-loop2 μ-loop2 Inv-loop3 μ-loop3 Inv-loop μ-loop
 
 abbrev begunAt : Taking → tie.After-begun Inv-loop2 μ-loop2 Inv-loop3 μ-loop3 Inv-loop μ-loop
 begunAt c = c .before .before .before
@@ -563,7 +541,7 @@ loop-again c =
     let n = answered d in
     let l = turnAt n .loop in
     let e = eventOf n in
-    let q = placeAt n .before .before .event-at .ensures in
+    let q = eventAt n .event-at .ensures in
     let r = stepped d in (
       omega (arith, testAt n .loop-test .taken),
       refl,
@@ -596,33 +574,25 @@ run-backlog-spec =
     own-words-requires
     loop-holds
     event-at-requires
-    kind-of-requires
-    place-of-requires
     mul-x
     element-copy-out-x
     names-of-requires
     cast-who
-    mul-own
-    array-read-own
     mul-st
     element-copy-out-st
-    cast-on
-    cast-of
-    mul-plan-event
-    array-read-plan-event
-    mul-plan-event-2
-    array-read-plan-event-2
-    plan-event-requires
+    mul-plan-at
+    array-read-plan-at
+    plan-at-requires
     told-table-requires
     narrow-requires
     count-requires
     room-of-requires
     returns-2
-    mul-t52
+    mul-t47
     element-set-from-s
     either-requires
     kept-table-requires
-    mul-t79
+    mul-t66
     element-set-from-s-2
     cast-last
     loop2-holds
