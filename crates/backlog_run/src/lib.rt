@@ -1,4 +1,4 @@
-// One call for many events: the state is tested once and then changed in place. Only `run_backlog` holds a state: no helper takes or
+// One call for many events: the state is tested once and then changed in place. Only `take_events` changes a state: no helper takes or
 // returns one, nor the letters' room, and no event copies or tests it. That the test need not be repeated is the theorem that a step keeps
 // well-formedness. What an event comes to is the plan in words of one station, as in the network's step, whose parts these are too
 // (crate `step_parts`); a turn differs from the step where a copy of a table can be spared.
@@ -6,7 +6,8 @@ ghost use mathlib.Core.Path.{_≡_};
 ghost use mathlib.Core.Bool.{_||_};
 ghost use Prim.Native.Nat.{_+_, _*_, _≤_, _<_};
 ghost use lib.ListN.{length};
-ghost use Rattle.backlog_rules.specs.Backlog.{backlogOf};
+ghost use Rattle.step_rules.proofs.Bridge.{Good};
+ghost use Rattle.backlog_rules.specs.Backlog.{calls, backlogOf};
 ghost use Rattle.backlog_run.specs.Events.{askedAt, leftOver, OwnWords, PlansAt};
 ghost use Rattle.net.specs.Sizes.{linkRoom};
 use backlog_rules::Taken;
@@ -104,20 +105,11 @@ fn plan_at(names: Names, what: Kind, own: u64, x: Letter, st: Station) -> Plan
 
 // ---- the call
 
-// Many events, three numbers each, and a tally by value. It stops at the first refused event; a bad state is 11, even for an empty list.
-// Promise: equals `Backlog.backlogOf`: the steps one by one, up to the first that is refused; the state and the tally after those taken, how
-// many, and 0 or the number that says no.
-pub fn run_backlog(mut s: State, t: Tally, events: &[u32]) -> Taken
-    ensures { λ r. ⌜ r ≡ backlogOf s t (now (events .entry)) ⌝ }
+// The events of a state that is well formed. It owns the state and alone changes it.
+fn take_events(mut s: State, t: Tally, events: &[u32]) -> Taken
+    requires { ⌜ Good s ⌝ }
+    ensures { λ r. ⌜ r ≡ calls s t (now (events .entry)) ⌝ }
 {
-    if !state::well_formed(s) {
-        return Taken {
-            answer: 11,
-            taken: 0,
-            tally: t,
-            state: s,
-        };
-    }
     let net = s.net;
     let owns = own_words(net);
     let mut tally = t;
@@ -200,4 +192,21 @@ pub fn run_backlog(mut s: State, t: Tally, events: &[u32]) -> Taken
         tally,
         state: s,
     }
+}
+
+// Many events, three numbers each, and a tally by value. It stops at the first refused event; a bad state is 11, even for an empty list.
+// Promise: equals `Backlog.backlogOf`: the steps one by one, up to the first that is refused; the state and the tally after those taken, how
+// many, and 0 or the number that says no.
+pub fn run_backlog(s: State, t: Tally, events: &[u32]) -> Taken
+    ensures { λ r. ⌜ r ≡ backlogOf s t (now (events .entry)) ⌝ }
+{
+    if !state::well_formed(s) {
+        return Taken {
+            answer: 11,
+            taken: 0,
+            tally: t,
+            state: s,
+        };
+    }
+    take_events(s, t, events)
 }
