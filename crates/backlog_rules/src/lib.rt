@@ -1,5 +1,5 @@
-// One call for many events, by definition: the calls of the step one by one (specs/Backlog.antt), and what holds of it (proofs/). There is no
-// function here.
+// One call for many events, by definition: the calls of the step one by one (specs/Backlog.antt), and what holds of it (proofs/). There is
+// no function here.
 use state::State;
 use tally::Tally;
 

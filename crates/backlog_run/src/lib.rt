@@ -195,8 +195,8 @@ fn take_events(mut s: State, t: Tally, events: &[u32]) -> Taken
 }
 
 // Many events, three numbers each, and a tally by value. It stops at the first refused event; a bad state is 11, even for an empty list.
-// Promise: equals `Backlog.backlogOf`: the steps one by one, up to the first that is refused; the state and the tally after those taken, how
-// many, and 0 or the number that says no.
+// Promise: equals `Backlog.backlogOf`: the steps one by one, up to the first that is refused; the state and the tally after those taken,
+// how many, and 0 or the number that says no.
 pub fn run_backlog(s: State, t: Tally, events: &[u32]) -> Taken
     ensures { λ r. ⌜ r ≡ backlogOf s t (now (events .entry)) ⌝ }
 {

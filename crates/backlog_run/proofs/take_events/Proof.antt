@@ -75,7 +75,8 @@ Inv-loop events s₀ net owns tally₀ n taken₀ s tally taken =
 abbrev μ-loop : tie.MeasureT-loop
 μ-loop events s₀ net owns tally₀ n taken₀ s tally taken = n - taken
 
--- ---- the places of the code that have names, from the answer back: the plan, what the event names, its three numbers, the turn's beginning
+-- ---- the places of the code that have names, from the answer back: the plan, what the event names, its
+-- three numbers, the turn's beginning
 abbrev Answered : Type 0
 Answered = tie.After-room-of Inv-loop2 μ-loop2 Inv-loop3 μ-loop3 Inv-loop μ-loop
 
@@ -91,7 +92,8 @@ eventAt c = namesAt c .before .before
 abbrev turnAt : Answered → tie.At-loop Inv-loop2 μ-loop2 Inv-loop3 μ-loop3 Inv-loop μ-loop
 turnAt c = eventAt c .before .before
 
-abbrev ownsAt : tie.At-loop Inv-loop2 μ-loop2 Inv-loop3 μ-loop3 Inv-loop μ-loop → tie.After-own-words Inv-loop2 μ-loop2 Inv-loop3 μ-loop3 Inv-loop μ-loop
+abbrev ownsAt : tie.At-loop Inv-loop2 μ-loop2 Inv-loop3 μ-loop3 Inv-loop μ-loop
+    → tie.After-own-words Inv-loop2 μ-loop2 Inv-loop3 μ-loop3 Inv-loop μ-loop
 ownsAt c = c .before
 
 -- and what they are of
@@ -120,10 +122,12 @@ abbrev roomOf : Answered → Room
 roomOf c = c .room-of .result
 
 -- the event's kind, and the place of its letter, by its numbers
-decoded : (c : tie.After-event-at Inv-loop2 μ-loop2 Inv-loop3 μ-loop3 Inv-loop μ-loop) → c .event-at .result .what ≡ kindOf (c .event-at .result .kind)
+decoded : (c : tie.After-event-at Inv-loop2 μ-loop2 Inv-loop3 μ-loop3 Inv-loop μ-loop)
+    → c .event-at .result .what ≡ kindOf (c .event-at .result .kind)
 decoded c = ap (λ (x : Asked). x .what) (c .event-at .ensures) ∙ ap (λ (x : Asked). kindOf (x .kind)) (sym (c .event-at .ensures))
 
-placed-at : (c : tie.After-event-at Inv-loop2 μ-loop2 Inv-loop3 μ-loop3 Inv-loop μ-loop) → c .event-at .result .place ≡ placeBy (c .event-at .result .a)
+placed-at : (c : tie.After-event-at Inv-loop2 μ-loop2 Inv-loop3 μ-loop3 Inv-loop μ-loop)
+    → c .event-at .result .place ≡ placeBy (c .event-at .result .a)
 placed-at c = ap (λ (x : Asked). x .place) (c .event-at .ensures) ∙ ap (λ (x : Asked). placeBy (x .a)) (sym (c .event-at .ensures))
 
 -- what is read is within its room
@@ -134,12 +138,14 @@ names-within : (c : tie.After-names-of Inv-loop2 μ-loop2 Inv-loop3 μ-loop3 Inv
 names-within c = placed _ _ _ _ _ _ _ (c .names-of .ensures)
 
 -- the network, found once, is the state's own
-same-net : (c : tie.At-loop Inv-loop2 μ-loop2 Inv-loop3 μ-loop3 Inv-loop μ-loop) → c .loop .s .net ≡ c .before .before .before .before .args .t1 .net
+same-net : (c : tie.At-loop Inv-loop2 μ-loop2 Inv-loop3 μ-loop3 Inv-loop μ-loop)
+    → c .loop .s .net ≡ c .before .before .before .before .args .t1 .net
 same-net c = c .loop .inv .3
 
 -- what is told and what is sent, by a test or by its function
 told-is : (c : tie.Joined1 Inv-loop2 μ-loop2 Inv-loop3 μ-loop3 Inv-loop μ-loop) → c .if1 .told ≡ toldIn (c .before .before .plan-at .result)
-    (stationIn (c .before .before .before .before .before .before .before .before .loop .s) (c .before .before .before .before .names-of .result .station))
+    (stationIn (c .before .before .before .before .before .before .before .before .loop .s)
+    (c .before .before .before .before .names-of .result .station))
 told-is c = ⊎-elim (λ w. w .2 ∙ w .1 .ensures) (λ w. w .1 ∙ told-same _ _ _ _ (w .0 .left)) (c .if1 .came)
 
 sent-is : (c : Answered) → sendOf c ≡ narrowed (planOf c .knows) (min (stateOf c .net .links) linkRoom) (toldOf c) (planOf c .sends)
@@ -153,7 +159,8 @@ own-is c =
     ∙ ap (λ (n : Net). wordBy (ownAt n (meOf c))) (sym (same-net (turnAt c)))
 
 -- what the code has seen when it has its answer
-facts : (c : Answered) → Facts (stateOf c) (eventOf c .kind) (eventOf c .a) (eventOf c .b) (eventOf c .what) (eventOf c .place) (namesOf c) (getD (ownsAt (turnAt c) .own-words .result) (meOf c) 0) (planOf c) (toldOf c) (sendOf c)
+facts : (c : Answered) → Facts (stateOf c) (eventOf c .kind) (eventOf c .a) (eventOf c .b) (eventOf c .what) (eventOf c .place)
+    (namesOf c) (getD (ownsAt (turnAt c) .own-words .result) (meOf c) 0) (planOf c) (toldOf c) (sendOf c)
     (c .before .count .result) (roomOf c)
 facts c =
     let l = turnAt c .loop in
@@ -210,7 +217,8 @@ stored c =
     let p = planOf d in
     let net = ap (λ (n : Net). keptBy n (meOf d) (p .resets) (p .purges) (toldOf d)) (sym (same-net (turnAt d))) in
     ⊎-elim
-    (λ w. w .2 ∙ stored-twice s (meOf d) (storedBy d (toldOf d)) _ ∙ ap (λ (k : List ℕ). withStation s (meOf d) (storedBy d k)) (w .1 .ensures ∙ net))
+    (λ w. w .2 ∙ stored-twice s (meOf d) (storedBy d (toldOf d)) _ ∙ ap (λ (k : List ℕ). withStation s (meOf d) (storedBy d k))
+    (w .1 .ensures ∙ net))
     (λ w. w .1 ∙ ap (λ (k : List ℕ). withStation s (meOf d) (storedBy d k))
     (kept-same (s .net) (meOf d) (p .resets) (p .purges) (toldOf d) (sym (c .before .before .either .ensures) ∙ w .0 .left)))
     (c .before .if4 .came)
@@ -270,10 +278,12 @@ room-of-requires : tie.Need-room-of-requires Inv-loop2 μ-loop2 Inv-loop3 μ-loo
 room-of-requires c κs = search needs
 
 -- how many numbers there are is a 64-bit number, and the event's three stand among them
-small : (c : tie.After-shared-slice-known Inv-loop2 μ-loop2 Inv-loop3 μ-loop3 Inv-loop μ-loop) → length (now (c .before .args .events)) < 2 ^ 64
+small : (c : tie.After-shared-slice-known Inv-loop2 μ-loop2 Inv-loop3 μ-loop3 Inv-loop μ-loop)
+    → length (now (c .before .args .events)) < 2 ^ 64
 small c = omega arith
 
-inside : (c : tie.In-loop Inv-loop2 μ-loop2 Inv-loop3 μ-loop3 Inv-loop μ-loop) → 3 * c .before .loop .taken + 3 ≤ length (now (c .before .before .before .before .before .args .events))
+inside : (c : tie.In-loop Inv-loop2 μ-loop2 Inv-loop3 μ-loop3 Inv-loop μ-loop)
+    → 3 * c .before .loop .taken + 3 ≤ length (now (c .before .before .before .before .before .args .events))
 inside c = omega arith
 
 abbrev testAt : Answered → tie.In-loop Inv-loop2 μ-loop2 Inv-loop3 μ-loop3 Inv-loop μ-loop
@@ -285,7 +295,8 @@ returns c =
     let l = turnAt n .loop in
     let e = eventOf n in
     let q = eventAt n .event-at .ensures in
-    Threes.stops _ _ (l .s) (l .tally) (l .taken) (l .inv .4) (e .kind) (e .a) (e .b) (refusing (roomOf n .answer) (l .s)) (inside (testAt n))
+    Threes.stops _ _ (l .s) (l .tally) (l .taken) (l .inv .4) (e .kind) (e .a) (e .b) (refusing (roomOf n .answer) (l .s)) (inside
+    (testAt n))
     (ap (λ (x : Asked). x .kind) q) (ap (λ (x : Asked). x .a) q) (ap (λ (x : Asked). x .b) q)
     (refused-event (l .s) (e .kind) (e .a) (e .b) (facts n .seen .holds) _ (answer-refusal (facts n)) (c .if3 .taken)) (c .if3 .taken)
 
@@ -505,7 +516,8 @@ stepped c =
     let put = l .inv .7 (leftLetters f q) closed (left-length f q)
     ∙ ap (λ (x : List Letter). roomed letterRoom noLetter (leftLetters f q ++ x))
     (ap (λ (i : ℕ). take i (posted me told post)) all ∙ take-length (posted me told post) ∙ g .0 ∙ new-are f q) in
-    made f q (l .s .net) (l .s .stations) (l .s .letters) (r .left + n .before .count .result) (keptOf n) (others c .0) refl (others c .1) put refl
+    made f q (l .s .net) (l .s .stations) (l .s .letters) (r .left + n .before .count .result) (keptOf n) (others c .0) refl
+    (others c .1) put refl
 
 add-taken : tie.Need-add-taken Inv-loop2 μ-loop2 Inv-loop3 μ-loop3 Inv-loop μ-loop
 add-taken c =
@@ -531,7 +543,8 @@ loop-again c =
       subst⁻¹ (λ (x : Stepped). Good (x .state)) r (is-step (l .s) (e .kind) (e .a) (e .b) (l .inv .2) .good),
       others d .0 ∙ l .inv .3,
       Threes.goes-on _ _ (l .s) (l .tally) (l .taken) (l .inv .4) (e .kind) (e .a) (e .b) (steppedBy d) (inside (testAt n))
-          (ap (λ (x : Asked). x .kind) q) (ap (λ (x : Asked). x .a) q) (ap (λ (x : Asked). x .b) q) r (c .added .result) (c .added .ensures) refl,
+          (ap (λ (x : Asked). x .kind) q) (ap (λ (x : Asked). x .a) q) (ap (λ (x : Asked). x .b) q) r (c .added .result)
+          (c .added .ensures) refl,
     )
 
 left-over-requires : tie.Need-left-over-requires Inv-loop2 μ-loop2 Inv-loop3 μ-loop3 Inv-loop μ-loop
