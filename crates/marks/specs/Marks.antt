@@ -1,11 +1,13 @@
 -- The marks of a link in five words, and a station's own links.
 use Prim.Native.Nat.{ℕ}
 use mathlib.Core.Bool.{Bool, _&&_}
+use mathlib.Core.List.{List, map}
 use lib.Dec.{eqb, ltb}
-use Rattle.lists.specs.Lists.{if_then_else_}
+use Rattle.lists.specs.Lists.{if_then_else_, below}
 use Rattle.lists.specs.Words.{inWord}
 use Rattle.net.specs.declared.Net.{Net}
 use Rattle.net.specs.Network.{isEnd}
+use Rattle.net.specs.Sizes.{stationRoom}
 use Rattle.net.specs.Values.{networkOf, linkCount}
 use Rattle.sets.specs.Sets.{wordBy}
 use Rattle.marks.specs.declared.Marks.{Marks}
@@ -47,3 +49,7 @@ wordsWith w k m =
 -- link k exists and s is an end of it
 abbrev pub ownAt : Net → ℕ → ℕ → Bool
 ownAt net s k = ltb k (linkCount net) && isEnd (networkOf net) k s
+
+-- each station's own links, at its place in the room of stations
+unfoldable pub ownWords : Net → List ℕ
+ownWords net = map (λ s. wordBy (ownAt net s)) (below stationRoom)

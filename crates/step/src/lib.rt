@@ -38,23 +38,8 @@ pub fn step(mut s: State, kind: u32, a: u32, b: u32) -> Stepped
     let own = marks::own_links(net, me);
     let who = me as usize;
     let st = s.stations[who];
-    let condition = st.condition;
+    let plan = step_parts::plan_at(names, what, own, x, st);
     let table = st.counters;
-    let marks = st.marks;
-    let on = names.link as usize;
-    let of = names.subject as usize;
-    let plan = station_event::events::plan_event(
-        names.there,
-        what,
-        own,
-        me,
-        names.link,
-        x,
-        table[on],
-        table[of],
-        condition,
-        marks,
-    );
     let told = station_table::told_table(plan.sets, plan.at, plan.counter, table);
     let sends = plan.sends;
     let send = station_table::narrow(plan.knows, net.links, told, sends);

@@ -33,7 +33,7 @@ use Rattle.station.proofs.Answers.{letter-link}
 use Rattle.station.proofs.Rules as R
 use Rattle.station_plan.specs.declared.Plan.{Plan}
 use Rattle.station_plan.specs.Planned.{Acts, Planned}
-use Rattle.station_plan.specs.Comes.{Meant, EventPlans, roomOf, onLink}
+use Rattle.station_plan.specs.Comes.{Meant, roomOf, onLink}
 use Rattle.world.specs.World.{World, Event, noLetter, holdingAt, letterAt, existsAs, exists, concernedBy, concerned, rule, comes, done}
 use Rattle.world.proofs.There.{letter-there, station-there}
 use Rattle.world.proofs.Steps.{passes, absent-six}
@@ -44,8 +44,8 @@ use Rattle.state.proofs.Meaning as M
 use Rattle.sets.specs.Rooms.{inRoom}
 use Rattle.step_rules.specs.Step.{event}
 use Rattle.step_parts.specs.declared.Names.{Names}
-use Rattle.step_parts.specs.Parts.{placeBy, namesBy}
-use Rattle.step_parts.proofs.Helpers.{placed}
+use Rattle.step_parts.specs.Parts.{placeBy, namesBy, counterAt, PlansAt}
+use Rattle.step_parts.proofs.Helpers.{Placed, placed}
 
 -- ---- by the kind of the event
 -- the link that it names is there
@@ -88,9 +88,7 @@ pub record Seen (s : State) (kind a b : ℕ) (e : Kind) (place : ℕ) (n : Names
   pub at : place ≡ placeBy a
   pub names : n ≡ namesBy (s .net) (s .flying) e a b (letterIn s place)
   pub mine : own ≡ wordBy (ownAt (s .net) (n .station))
-  pub plans : EventPlans (n .there) e own (n .station) (n .link) (letterIn s place) (getD (stationIn s (n .station) .counters) (n .link) 0)
-      (getD (stationIn s (n .station) .counters) (n .subject) 0)
-      (stationIn s (n .station) .condition) (stationIn s (n .station) .marks) p
+  pub plans : PlansAt n e own (letterIn s place) (stationIn s (n .station)) p
 
 module _ {s : State} {kind a b : ℕ} {e : Kind} {place : ℕ} {n : Names} {own : ℕ} {p : Plan} (f : Seen s kind a b e place n own p)
   where
@@ -127,8 +125,11 @@ module _ {s : State} {kind a b : ℕ} {e : Kind} {place : ℕ} {n : Names} {own 
     names-are : n ≡ namesBy (s .net) (s .flying) K a b x
     names-are = f .names ∙ ap (λ (e : Kind). namesBy (s .net) (s .flying) e a b x) (f .decodes)
 
+    places : Placed n
+    places = placed (s .net) (s .flying) K a b x n names-are
+
     pub within : me < stationRoom
-    within = placed (s .net) (s .flying) K a b x n names-are .station
+    within = places .station
 
     pub ok : Formed w
     ok = M.world-formed s (f .sized) (f .holds)
@@ -199,7 +200,7 @@ module _ {s : State} {kind a b : ℕ} {e : Kind} {place : ℕ} {n : Names} {own 
       posted : T (takesLetter K) → Posted w x
       posted t = subst⁻¹ (Posted w) letter-is (meant-posted w ok E q t)
 
-      meant : Meant (s .net) st K k x (getD (st .counters) about 0)
+      meant : Meant (s .net) st K k x (counterAt st about)
       unfolding namesBy
       meant = record {
         link = λ t. omega (arith, link-is t, link-there t, links-are);
@@ -209,7 +210,7 @@ module _ {s : State} {kind a b : ℕ} {e : Kind} {place : ℕ} {n : Names} {own 
         subject = λ t. omega (arith, subject-there t, links-are);
         tells = λ t.
             ap (λ (i : ℕ). getD (st .counters) i 0)
-            (ap (λ (y : Names). y .subject) names-are ∙ mod-few (subjectOf (x .body)) (subject-there t));
+            (mod-eq-of-lt (places .subject) ∙ ap (λ (y : Names). y .subject) names-are ∙ mod-few (subjectOf (x .body)) (subject-there t));
       }
         where
           subject-there : T (takesLetter K) → subjectOf (x .body) < length (w .net .links)
@@ -238,10 +239,9 @@ module _ {s : State} {kind a b : ℕ} {e : Kind} {place : ℕ} {n : Names} {own 
     -- ---- the plan is the world's
     planned : Planned (s .net) me st (roomOf K st) (dueOf named (ruleAt me K k x H) (st .condition)) p
     planned =
-        subst (λ (e : Kind). EventPlans named e own me k x (getD (st .counters) k 0) (getD (st .counters) about 0) (st .condition)
-        (st .marks) p) (f .decodes) (f .plans) (s .net) st
-        (record { condition = refl; words = refl; size = f .sized .each me within .counters }) (f .mine) refl
-        (λ t. meant (subst T named-is t))
+        subst (λ (e : Kind). PlansAt n e own x st p) (f .decodes) (f .plans) (s .net) st
+        (record { condition = refl; words = refl; size = f .sized .each me within .counters }) (f .mine)
+        (ap (λ (i : ℕ). getD (st .counters) i 0) (mod-eq-of-lt (places .link))) (λ t. meant (subst T named-is t))
 
     pub number-is : p .answer ≡ comes w E .number
     unfolding dueOf

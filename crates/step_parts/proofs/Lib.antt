@@ -3,3 +3,4 @@ pub mod Helpers
 pub mod Known
 pub mod Made
 pub mod Loops
+pub mod Turned

@@ -2,6 +2,7 @@
 use Prim.Native.Nat.{ℕ, _+_, _-_, _%_}
 use mathlib.Core.Bool.{Bool}
 use lib.Dec.{eqb, ltb}
+use lib.ListN.{getD}
 use Rattle.net.specs.Sizes.{linkRoom, letterRoom}
 use Rattle.lists.specs.Lists.{if_then_else_}
 use Rattle.net.specs.declared.Letter.{Letter}
@@ -9,8 +10,11 @@ use Rattle.net.specs.declared.Net.{Net}
 use Rattle.net.specs.Values.{networkOf}
 use Rattle.sets.specs.Rooms.{inRoom}
 use Rattle.station.specs.declared.Kind.{Kind}
+use Rattle.station.specs.declared.Station.{Station}
 use Rattle.station.specs.Acts.{subjectOf}
 use Rattle.station.specs.Events.{takesLetter, linkOf}
+use Rattle.station_plan.specs.declared.Plan.{Plan}
+use Rattle.station_plan.specs.Comes.{eventPlan, EventPlans}
 use Rattle.world.specs.World.{noLetter, concernedBy, existsAs}
 use Rattle.step_parts.specs.declared.Names.{Names}
 use Rattle.step_parts.specs.declared.Room.{Room}
@@ -24,6 +28,20 @@ namesBy net flying kind a b x =
       link = linkOf kind b x % linkRoom;
       subject = subjectOf (x .body) % linkRoom;
     }
+
+-- the counter that a station's table has at a place of its room
+abbrev pub counterAt : Station → ℕ → ℕ
+counterAt st k = getD (st .counters) (k % linkRoom) 0
+
+-- what the event comes to at a station with these own links, in words; and that this is what document 01 says of every such station
+-- (station_plan/specs/Comes)
+unfoldable pub planBy : Names → Kind → ℕ → Letter → Station → Plan
+planBy n e own x st =
+    eventPlan (n .there) e own (n .station) (n .link) x (counterAt st (n .link)) (counterAt st (n .subject)) (st .condition) (st .marks)
+
+abbrev pub PlansAt : Names → Kind → ℕ → Letter → Station → Plan → Type 0
+PlansAt n e own x st p =
+    EventPlans (n .there) e own (n .station) (n .link) x (counterAt st (n .link)) (counterAt st (n .subject)) (st .condition) (st .marks) p
 
 -- the place of the letter that a names; any other becomes 0
 abbrev pub placeBy : ℕ → ℕ

@@ -7,7 +7,7 @@ ghost use Prim.Native.Nat.{min, _%_};
 ghost use lib.Dec.{ltb, eqb};
 ghost use Rattle.lists.specs.Lists.{if_then_else_};
 ghost use Rattle.world.specs.World.{noLetter, isLinkAt, receiverIn, concernedBy, existsAs};
-ghost use Rattle.step_parts.specs.Parts.{placeBy, fewerBy, numberBy, namesBy, roomBy};
+ghost use Rattle.step_parts.specs.Parts.{placeBy, fewerBy, numberBy, namesBy, planBy, PlansAt, roomBy};
 ghost use Rattle.net.specs.Network.{ends};
 ghost use Rattle.net.specs.Sizes.{stationRoom, linkRoom};
 ghost use Rattle.net.specs.Values.{networkOf};
@@ -22,6 +22,8 @@ use net::MOST_LINKS;
 use net::MOST_STATIONS;
 use net::Net;
 use station::Kind;
+use station::Station;
+use station_plan::Plan;
 
 // The rooms, in the widths of an event's numbers and of a letter's link.
 const EVENT_LETTERS: u32 = LETTER_ROOM as u32;
@@ -209,6 +211,33 @@ pub fn names_of(net: Net, flying: u16, kind: Kind, a: u32, b: u32, letter: Lette
         link,
         subject, // a notice comes on one link and tells of another
     }
+}
+
+// ---- the station
+
+// What the event comes to at the station that it concerns, in words. own: the station's links.
+// Promise: equals `Parts.planBy`: station_event's plan of what the event names, with the station's condition and marks and the counters of
+// the two links; and at every station that has these words this is what the event comes to there, by document 01 (`Parts.PlansAt`).
+pub fn plan_at(names: Names, kind: Kind, own: u64, letter: Letter, st: Station) -> Plan
+    ensures { λ r. ⌜ (r ≡ planBy names kind own letter st) × PlansAt names kind own letter st r ⌝ }
+{
+    let condition = st.condition;
+    let table = st.counters;
+    let marks = st.marks;
+    let on = (names.link % MOST_LINKS) as usize;
+    let of = (names.subject % MOST_LINKS) as usize;
+    station_event::events::plan_event(
+        names.there,
+        kind,
+        own,
+        names.station,
+        names.link,
+        letter,
+        table[on],
+        table[of],
+        condition,
+        marks,
+    )
 }
 
 // ---- the room of letters
