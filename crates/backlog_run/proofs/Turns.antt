@@ -1,17 +1,14 @@
 -- What a turn of the loop does by a test of its own, where the step goes through a function: a table with no counter set, a sending that is
--- not narrowed, a table that is kept as it is told; and a station that is stored twice.
+-- not narrowed, a table that is kept as it is told.
 use Prim.Native.Nat.{ℕ}
 use mathlib.Core.Bool.{Bool, true, false, _||_}
 use mathlib.Core.Path.{_≡_, refl, sym, ap, _∙_}
 use mathlib.Core.List.{List}
 use native.Mathlib.Omega.{arith}
-use lib.ListN.{length, set, length-set}
-use lib.Seq.{set-set}
+use lib.ListN.{length, length-set}
 use Rattle.net.specs.declared.Net.{Net}
 use Rattle.station.specs.declared.Sending.{Sending}
-use Rattle.station.specs.declared.Station.{Station}
 use Rattle.station_plan.specs.Carrying.{toldBy, keptBy, narrowed}
-use Rattle.state.specs.declared.State.{State}
 
 pub told-same : (sets : Bool) (at c : ℕ) (table : List ℕ) → sets ≡ false → table ≡ toldBy sets at c table
 told-same sets at c table e = sym (ap (λ (b : Bool). toldBy b at c table) e)
@@ -31,11 +28,3 @@ pub kept-same : (net : Net) (s : ℕ) (resets purges : Bool) (table : List ℕ) 
 kept-same net s false false table e = refl
 kept-same net s false true table e = absurd (clash e)
 kept-same net s true purges table e = absurd (clash e)
-
--- the state with this station
-abbrev pub withStation : State → ℕ → Station → State
-withStation s i st = record { net = s .net; flying = s .flying; stations = set (s .stations) i st; letters = s .letters }
-
-pub stored-twice : (s : State) (i : ℕ) (x y : Station) → withStation (withStation s i x) i y ≡ withStation s i y
-stored-twice s i x y = ap (λ (l : List Station). record { net = s .net; flying = s .flying; stations = l; letters = s .letters })
-    (set-set (s .stations) i x y)

@@ -4,22 +4,15 @@
 // (crate `step_parts`); a turn differs from the step where a copy of a table can be spared.
 ghost use mathlib.Core.Path.{_≡_};
 ghost use mathlib.Core.Bool.{_||_};
-ghost use Prim.Native.Nat.{_+_, _*_, _≤_, _<_};
+ghost use Prim.Native.Nat.{_+_, _*_, _≤_};
 ghost use lib.ListN.{length};
 ghost use Rattle.step_rules.proofs.Bridge.{Good};
 ghost use Rattle.backlog_rules.specs.Backlog.{calls, backlogOf};
-ghost use Rattle.backlog_run.specs.Events.{askedAt, leftOver, OwnWords, PlansAt};
-ghost use Rattle.net.specs.Sizes.{linkRoom};
+ghost use Rattle.backlog_run.specs.Events.{askedAt, leftOver};
 use backlog_rules::Taken;
-use net::Letter;
-use net::MOST_STATIONS;
-use net::Net;
-use net::STATION_ROOM;
 use state::State;
 use station::Kind;
 use station::Station;
-use station_plan::Plan;
-use step_parts::Names;
 use tally::Tally;
 
 // ---- the list of events
@@ -57,50 +50,10 @@ fn left_over(size: usize) -> u8
     if size % 3 == 0 { 0 } else { 6 }
 }
 
-// ---- the network
-
-// Each station's own links. They are the same for every event, so they are found once.
-fn own_words(net: Net) -> [u64; STATION_ROOM]
-    ensures { λ r. ⌜ OwnWords net r ⌝ }
-{
-    let mut owns = [0u64; STATION_ROOM];
-    for i in 0..MOST_STATIONS {
-        let at = i as usize;
-        owns[at] = marks::own_links(net, i);
-    }
-    owns
-}
-
 fn either(a: bool, b: bool) -> bool
     ensures { λ r. ⌜ r ≡ (a || b) ⌝ }
 {
     if a { true } else { b }
-}
-
-// ---- the station
-
-// What the event comes to at the station that it concerns, in words.
-fn plan_at(names: Names, what: Kind, own: u64, x: Letter, st: Station) -> Plan
-    requires { ⌜ (names .link < linkRoom) × (names .subject < linkRoom) ⌝ }
-    ensures { λ r. ⌜ PlansAt names what own x st r ⌝ }
-{
-    let condition = st.condition;
-    let table = st.counters;
-    let marks = st.marks;
-    let on = names.link as usize;
-    let of = names.subject as usize;
-    station_event::events::plan_event(
-        names.there,
-        what,
-        own,
-        names.station,
-        names.link,
-        x,
-        table[on],
-        table[of],
-        condition,
-        marks,
-    )
 }
 
 // ---- the call
@@ -111,7 +64,7 @@ fn take_events(mut s: State, t: Tally, events: &[u32]) -> Taken
     ensures { λ r. ⌜ r ≡ calls s t (now (events .entry)) ⌝ }
 {
     let net = s.net;
-    let owns = own_words(net);
+    let owns = marks::own_words(net); // the same for every event, so they are found once
     let mut tally = t;
     let n = events.len() / 3;
     for taken in 0..n {
@@ -126,7 +79,7 @@ fn take_events(mut s: State, t: Tally, events: &[u32]) -> Taken
         // what it comes to at the station that it concerns
         let who = me as usize;
         let st = s.stations[who];
-        let plan = plan_at(names, what, owns[who], x, st);
+        let plan = step_parts::plan_at(names, what, owns[who], x, st);
         let table = st.counters;
         // what is told and sent; a table is copied only where it changes or is looked through
         let mut told = table;
@@ -147,7 +100,7 @@ fn take_events(mut s: State, t: Tally, events: &[u32]) -> Taken
                 state: s,
             };
         }
-        // nothing refuses it: from here on the state is changed, in place; what is told is told as it was before the purge
+        // nothing refuses it: from here on the state is changed, in place
         let turned = plan.condition;
         let marked = plan.marks;
         s.stations[who] = Station {
@@ -155,14 +108,6 @@ fn take_events(mut s: State, t: Tally, events: &[u32]) -> Taken
             counters: told,
             marks: marked,
         };
-        if either(plan.resets, plan.purges) {
-            let kept = station_table::kept_table(net, me, plan.resets, plan.purges, told);
-            s.stations[who] = Station {
-                condition: turned,
-                counters: kept,
-                marks: marked,
-            };
-        }
         // the later letters close up
         let last = room.left as usize;
         let from = room.from;
@@ -184,6 +129,17 @@ fn take_events(mut s: State, t: Tally, events: &[u32]) -> Taken
             post = post::rest(post);
         }
         s.flying = room.left + count;
+        // the table is reset or purged last: what is told is told as it was before
+        if either(plan.resets, plan.purges) {
+            let kept = station_table::kept_table(net, me, plan.resets, plan.purges, told);
+            let turned = plan.condition;
+            let marked = plan.marks;
+            s.stations[who] = Station {
+                condition: turned,
+                counters: kept,
+                marks: marked,
+            };
+        }
         tally = tally::added(tally, plan.counts);
     }
     Taken {

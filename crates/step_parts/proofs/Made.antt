@@ -122,6 +122,10 @@ posted-more ls new k at y few h p q =
     (append-assoc ls (take k new) (getD new k noLetter ∷ [])
     ∙ ap (λ (l : List Letter). ls ++ l) (sym (take-suc new k noLetter h) ∙ ap (λ (i : ℕ). take i new) (sym (add-one k))))
 
+-- the station as the code stores it, with this table
+abbrev pub stored : Plan → List ℕ → Station
+stored p kept = record { condition = p .condition; counters = kept; marks = p .marks }
+
 -- ---- what the code knows when it has its answer
 pub record Facts (s : State) (kind a b : ℕ) (e : Kind) (place : ℕ) (n : Names) (own : ℕ) (p : Plan) (told : List ℕ) (send : Sending)
     (count : ℕ) (r : Room) : Type 0 where
@@ -274,21 +278,17 @@ module _ {s : State} {kind a b : ℕ} {e : Kind} {place : ℕ} {n : Names} {own 
     unfolding stateOf
     old-letters = ap (λ (x : State). x .letters) (M.determined s (f .seen .sized) (f .seen .holds))
 
-    -- the station as the code stores it
-    abbrev pub stored : List ℕ → Station
-    stored kept = record { condition = p .condition; counters = kept; marks = p .marks }
-
     station-is : (kept : List ℕ) → kept ≡ keptBy (s .net) me (p .resets) (p .purges) told
-        → stored kept ≡ laid (s .net) blank (done w E .holding)
+        → stored p kept ≡ laid (s .net) blank (done w E .holding)
     unfolding stationBy
     station-is kept e =
-        ap stored (e ∙ ap (keptBy (s .net) me (p .resets) (p .purges)) (f .tells))
+        ap (stored p) (e ∙ ap (keptBy (s .net) me (p .resets) (p .purges)) (f .tells))
         ∙ K.acts (f .seen) z₀ .station
         ∙ room-spare (s .net) (kindOf kind) st (done w E .holding)
         (M.station-spare s (f .seen .sized) (f .seen .holds) me (K.me-real (f .seen) named₀))
 
     pub stations-set : (kept : List ℕ) → kept ≡ keptBy (s .net) me (p .resets) (p .purges) told
-        → set (s .stations) me (stored kept) ≡ roomed stationRoom blank (map (laid (s .net) blank) (after w E .holdings))
+        → set (s .stations) me (stored p kept) ≡ roomed stationRoom blank (map (laid (s .net) blank) (after w E .holdings))
     unfolding after
     stations-set kept e =
         ap₂ (λ (l : List Station) (x : Station). set l me x) old-stations (station-is kept e)
@@ -343,7 +343,7 @@ module _ {s : State} {kind a b : ℕ} {e : Kind} {place : ℕ} {n : Names} {own 
 
     -- ---- the state after the event
     pub made : (net : Net) (stations : List Station) (letters : List Letter) (flying : ℕ) (kept : List ℕ) → net ≡ s .net
-        → kept ≡ keptBy (s .net) me (p .resets) (p .purges) told → stations ≡ set (s .stations) me (stored kept)
+        → kept ≡ keptBy (s .net) me (p .resets) (p .purges) told → stations ≡ set (s .stations) me (stored p kept)
         → letters ≡ roomed letterRoom noLetter (leftLetters ++ newLetters) → flying ≡ left₀ + count
         → _≡_ {A = Stepped} (record {
           answer = 0;

@@ -1,32 +1,25 @@
 use Prim.Native.Nat.{ℕ, _+_, _-_, _*_, _/_, _≤_, _<_, _^_, min}
 use mathlib.Core.Bool.{Bool, true, false, _||_}
 use mathlib.Core.Logic.{⊎-elim}
-use mathlib.Core.Path.{_≡_, refl, sym, ap, _∙_, subst, subst⁻¹}
-use mathlib.Core.List.{List, _++_}
+use mathlib.Core.Path.{_≡_, refl, sym, ap, _∙_, subst⁻¹}
+use mathlib.Core.List.{List}
 use native.Mathlib.Omega.{arith}
-use lib.ListN.{length, getD, set, take, drop}
-use lib.Seq.{take-length}
+use lib.ListN.{length, getD}
 use denote.Ref.{now}
 use borrow.Author.Needs.{needs}
-use borrow.Author.Tests.{not-true, not-false}
-use Rattle.lists.specs.Places.{roomed, closing}
-use Rattle.lists.proofs.Tests.{is-T}
-use Rattle.tally.specs.Sums.{tallied}
-use Rattle.net.specs.declared.Letter.{Letter}
 use Rattle.net.specs.declared.Net.{Net}
-use Rattle.net.specs.Sizes.{linkRoom, letterRoom, stationRoom}
+use Rattle.net.specs.Sizes.{linkRoom, letterRoom}
 use Rattle.sets.specs.Sets.{wordBy}
 use Rattle.marks.specs.Marks.{ownAt}
+use Rattle.marks.proofs.OwnLinks.{own-word}
 use Rattle.station.specs.declared.Sending.{Sending}
 use Rattle.station.specs.declared.Station.{Station}
 use Rattle.station.specs.Events.{kindOf}
 use Rattle.station_plan.specs.declared.Plan.{Plan}
 use Rattle.station_plan.specs.Carrying.{keptBy, narrowed}
 use Rattle.station_plan.specs.Plans.{toldIn}
-use Rattle.world.specs.World.{noLetter}
 use Rattle.state.specs.declared.State.{State}
 use Rattle.state.specs.State.{letterIn, stationIn}
-use Rattle.post.specs.Post.{posted, Going}
 use Rattle.post.proofs.PostLaws as P
 use Rattle.step_rules.specs.declared.Stepped.{Stepped}
 use Rattle.step_rules.specs.Step.{refusing, steppedOf}
@@ -35,23 +28,21 @@ use Rattle.step_parts.specs.declared.Names.{Names}
 use Rattle.step_parts.specs.declared.Room.{Room}
 use Rattle.step_parts.specs.Parts.{namesBy, placeBy}
 use Rattle.step_parts.proofs.Helpers.{place-few, Placed, placed}
-use Rattle.step_parts.proofs.Made.{refused-event, posted-none, posted-more, Facts, answer-refusal, leftLetters, left-length}
-use Rattle.step_parts.proofs.Made.{new-are, few-after, closed-up, closes-within, free-within, made}
-use Rattle.step_parts.proofs.Loops.{withLetters, shifted, not-shifted, other-letters}
+use Rattle.step_parts.proofs.Made.{refused-event, Facts, stored, answer-refusal, few-after, free-within}
+use Rattle.step_parts.proofs.Loops.{withStation, Closing, next-within, closes-more, Putting, puts-more}
+use Rattle.step_parts.proofs.Turned.{closing-begins, putting-begins, stays, stores-again}
 use Rattle.backlog_rules.specs.Backlog.{calls}
 use Rattle.backlog_rules.proofs.Laws.{before-none}
 use Rattle.backlog_rules.proofs.Threes as Threes
 use Rattle.backlog_rules.proofs.Threes.{CameTo}
 use Rattle.backlog_run.specs.declared.Asked.{Asked}
-use Rattle.backlog_run.proofs.Turns.{told-same, told-long, sent-same, kept-same, withStation, stored-twice}
+use Rattle.backlog_run.proofs.Turns.{told-same, told-long, sent-same, kept-same}
 use Rattle.backlog_run.proofs.take_events.Statement.{statement}
 use Rattle.backlog_run.proofs.take_events.Tie as tie
 
 -- while the later letters close up
 abbrev Inv-loop2 : tie.InvT-loop2
-Inv-loop2 events s₀ net owns tally n taken place flying me who plan told send count room last from i₀ s i =
-    (from ≤ i) × (i ≤ last) × (from < last → last < letterRoom) × (length (s₀ .letters) ≡ letterRoom)
-    × (s ≡ withLetters s₀ (closing from (s₀ .letters) i))
+Inv-loop2 events s₀ net owns tally n taken place flying me who plan told send count room last from i₀ s i = Closing s₀ from last s i
 
 abbrev μ-loop2 : tie.MeasureT-loop2
 μ-loop2 events s₀ net owns tally n taken place flying me who plan told send count room last from i₀ s i = last - i
@@ -59,10 +50,7 @@ abbrev μ-loop2 : tie.MeasureT-loop2
 -- while new letters are put at the end
 abbrev Inv-loop3 : tie.InvT-loop3
 Inv-loop3 events s₀ net owns tally n taken place flying me who plan told count room last from free post₀ i₀ s post i =
-    (i ≤ count) × (last + count ≤ letterRoom) × (count ≡ length (posted me told post₀)) × Going post
-    × (posted me told post ≡ drop i (posted me told post₀)) × (s ≡ withLetters s₀ (s .letters)) × (length told ≡ linkRoom)
-    × ((ls : List Letter) → s₀ .letters ≡ roomed letterRoom noLetter ls → length ls ≡ last
-    → s .letters ≡ roomed letterRoom noLetter (ls ++ take i (posted me told post₀)))
+    Putting s₀ me told last count post₀ s post i
 
 abbrev μ-loop3 : tie.MeasureT-loop3
 μ-loop3 events s₀ net owns tally n taken place flying me who plan told count room last from free post₀ i₀ s post i = count - i
@@ -155,7 +143,8 @@ sent-is c =
 
 own-is : (c : Answered) → getD (ownsAt (turnAt c) .own-words .result) (meOf c) 0 ≡ wordBy (ownAt (stateOf c .net) (meOf c))
 own-is c =
-    ownsAt (turnAt c) .own-words .ensures (meOf c) (names-within (namesAt c) .station)
+    ap (λ (l : List ℕ). getD l (meOf c) 0) (ownsAt (turnAt c) .own-words .ensures)
+    ∙ own-word _ (meOf c) (names-within (namesAt c) .station)
     ∙ ap (λ (n : Net). wordBy (ownAt n (meOf c))) (sym (same-net (turnAt c)))
 
 -- what the code has seen when it has its answer
@@ -174,7 +163,7 @@ facts c =
             namesAt c .names-of .ensures ∙ ap (λ (n : Net). namesBy n (l .s .flying) (eventOf c .what) (eventOf c .a) (eventOf c .b)
             (letterIn (l .s) (eventOf c .place))) (sym (same-net (turnAt c)));
         mine = own-is c;
-        plans = planAt c .plan-at .ensures;
+        plans = planAt c .plan-at .ensures .1;
       };
       tells = told-is (c .before .before .before .before);
       sends = sent-is c;
@@ -194,40 +183,21 @@ abbrev Stored : Type 0
 Stored = tie.After-struct-known2 Inv-loop2 μ-loop2 Inv-loop3 μ-loop3 Inv-loop μ-loop
 
 abbrev closes : Stored → Answered
-closes c = c .before .before .before .before .before .before
+closes c = c .before .before .before .before
 
 abbrev puts : tie.After-begun Inv-loop2 μ-loop2 Inv-loop3 μ-loop3 Inv-loop μ-loop → Stored
 puts c = c .before .before .before .before
 
 -- that nothing refuses
 none : (c : Stored) → roomOf (closes c) .answer ≡ 0
-none c = c .before .before .before .before .if3 .left
+none c = c .before .before .if3 .left
 
--- the station as it is stored, once or twice: the table that the plan leaves
-abbrev keptOf : Answered → List ℕ
-keptOf c = keptBy (stateOf c .net) (meOf c) (planOf c .resets) (planOf c .purges) (toldOf c)
+-- the station is stored, with the table that is told
+abbrev laidDown : Stored → Station
+laidDown c = stored (planOf (closes c)) (toldOf (closes c))
 
-abbrev storedBy : Answered → List ℕ → Station
-storedBy c kept = record { condition = planOf c .condition; counters = kept; marks = planOf c .marks }
-
-stored : (c : Stored) → c .before .if4 .s ≡ withStation (stateOf (closes c)) (meOf (closes c)) (storedBy (closes c) (keptOf (closes c)))
-stored c =
-    let d = closes c in
-    let s = stateOf d in
-    let p = planOf d in
-    let net = ap (λ (n : Net). keptBy n (meOf d) (p .resets) (p .purges) (toldOf d)) (sym (same-net (turnAt d))) in
-    ⊎-elim
-    (λ w. w .2 ∙ stored-twice s (meOf d) (storedBy d (toldOf d)) _ ∙ ap (λ (k : List ℕ). withStation s (meOf d) (storedBy d k))
-    (w .1 .ensures ∙ net))
-    (λ w. w .1 ∙ ap (λ (k : List ℕ). withStation s (meOf d) (storedBy d k))
-    (kept-same (s .net) (meOf d) (p .resets) (p .purges) (toldOf d) (sym (c .before .before .either .ensures) ∙ w .0 .left)))
-    (c .before .if4 .came)
-
--- the state from which new letters are put
-abbrev putsFrom : tie.After-begun Inv-loop2 μ-loop2 Inv-loop3 μ-loop3 Inv-loop μ-loop → State
-putsFrom c =
-    let r = roomOf (closes (puts c)) in
-    withLetters (c .before .before .before .loop2 .s) (set (c .before .before .before .loop2 .s .letters) (r .free) (r .unused))
+abbrev stores : Stored → State
+stores c = withStation (stateOf (closes c)) (meOf (closes c)) (laidDown c)
 
 own-words-requires : tie.Need-own-words-requires Inv-loop2 μ-loop2 Inv-loop3 μ-loop3 Inv-loop μ-loop
 own-words-requires c κs = search needs
@@ -263,7 +233,7 @@ array-read-plan-at : tie.Need-array-read-plan-at Inv-loop2 μ-loop2 Inv-loop3 μ
 array-read-plan-at c = names-within (c .before) .station
 
 plan-at-requires : tie.Need-plan-at-requires Inv-loop2 μ-loop2 Inv-loop3 μ-loop3 Inv-loop μ-loop
-plan-at-requires c κs = let p = names-within (c .before) in (p .link, p .subject)
+plan-at-requires c κs = search needs
 
 told-table-requires : tie.Need-told-table-requires Inv-loop2 μ-loop2 Inv-loop3 μ-loop3 Inv-loop μ-loop
 told-table-requires c κs = search needs
@@ -303,38 +273,17 @@ returns c =
 abbrev marked : tie.After-marked Inv-loop2 μ-loop2 Inv-loop3 μ-loop3 Inv-loop μ-loop → Answered
 marked c = c .before .before .before
 
-mul-t43 : tie.Need-mul-t43 Inv-loop2 μ-loop2 Inv-loop3 μ-loop3 Inv-loop μ-loop
-mul-t43 c = omega (arith, names-within (namesAt (marked c)) .station)
+mul-t45 : tie.Need-mul-t45 Inv-loop2 μ-loop2 Inv-loop3 μ-loop3 Inv-loop μ-loop
+mul-t45 c = omega (arith, names-within (namesAt (marked c)) .station)
 
 element-set-from-s : tie.Need-element-set-from-s Inv-loop2 μ-loop2 Inv-loop3 μ-loop3 Inv-loop μ-loop
 element-set-from-s c = names-within (namesAt (marked c)) .station
-
-either-requires : tie.Need-either-requires Inv-loop2 μ-loop2 Inv-loop3 μ-loop3 Inv-loop μ-loop
-either-requires c κs = search needs
-
-kept-table-requires : tie.Need-kept-table-requires Inv-loop2 μ-loop2 Inv-loop3 μ-loop3 Inv-loop μ-loop
-kept-table-requires c κs = search needs
-
-mul-t62 : tie.Need-mul-t62 Inv-loop2 μ-loop2 Inv-loop3 μ-loop3 Inv-loop μ-loop
-mul-t62 c = omega (arith, names-within (namesAt (marked (c .before .before .before))) .station)
-
-element-set-from-s-2 : tie.Need-element-set-from-s-2 Inv-loop2 μ-loop2 Inv-loop3 μ-loop3 Inv-loop μ-loop
-element-set-from-s-2 c = names-within (namesAt (marked (c .before .before .before))) .station
 
 cast-last : tie.Need-cast-last Inv-loop2 μ-loop2 Inv-loop3 μ-loop3 Inv-loop μ-loop
 cast-last c = omega arith
 
 loop2-holds : tie.Need-loop2-holds Inv-loop2 μ-loop2 Inv-loop3 μ-loop3 Inv-loop μ-loop
-loop2-holds c =
-    let f = facts (closes c) in
-    let r = closes-within f (none c) in (
-      omega arith,
-      r .0,
-      r .1,
-      ap (λ (x : State). length (x .letters)) (stored c) ∙ f .seen .sized .letters,
-      not-shifted (c .before .if4 .s)
-          (roomOf (closes c) .from),
-    )
+loop2-holds c = closing-begins (facts (closes c)) (none c) (stores c) (laidDown c) refl
 
 add-j : tie.Need-add-j Inv-loop2 μ-loop2 Inv-loop3 μ-loop3 Inv-loop μ-loop
 add-j c = omega arith
@@ -343,13 +292,13 @@ mul-y : tie.Need-mul-y Inv-loop2 μ-loop2 Inv-loop3 μ-loop3 Inv-loop μ-loop
 mul-y c = omega arith
 
 element-copy-out-y : tie.Need-element-copy-out-y Inv-loop2 μ-loop2 Inv-loop3 μ-loop3 Inv-loop μ-loop
-element-copy-out-y c = omega (arith, c .before .loop2 .inv .2 (omega arith))
+element-copy-out-y c = next-within (c .before .loop2 .inv) (omega arith)
 
 mul-y-2 : tie.Need-mul-y-2 Inv-loop2 μ-loop2 Inv-loop3 μ-loop3 Inv-loop μ-loop
 mul-y-2 c = omega arith
 
 element-set-from-y : tie.Need-element-set-from-y Inv-loop2 μ-loop2 Inv-loop3 μ-loop3 Inv-loop μ-loop
-element-set-from-y c = omega (arith, c .before .before .loop2 .inv .2 (omega arith))
+element-set-from-y c = omega (arith, next-within (c .before .before .loop2 .inv) (omega arith))
 
 add-i : tie.Need-add-i Inv-loop2 μ-loop2 Inv-loop3 μ-loop3 Inv-loop μ-loop
 add-i c = omega arith
@@ -358,16 +307,7 @@ loop2-less : tie.Need-loop2-less Inv-loop2 μ-loop2 Inv-loop3 μ-loop3 Inv-loop 
 loop2-less c = omega arith
 
 loop2-again : tie.Need-loop2-again Inv-loop2 μ-loop2 Inv-loop3 μ-loop3 Inv-loop μ-loop
-loop2-again c =
-    let l = c .before .before .loop2 in
-    let few = l .inv .2 (omega arith) in (
-      omega arith,
-      omega arith,
-      l .inv .2,
-      l .inv .3,
-      shifted (c .before .before .before .before .if4 .s) (l .s) (roomOf (closes (c .before .before .before)) .from) (l .i) (l .inv .0)
-          (omega (arith, l .inv .3, few)) (l .inv .4),
-    )
+loop2-again c = closes-more (c .before .before .loop2 .inv) (omega arith)
 
 mul-unused : tie.Need-mul-unused Inv-loop2 μ-loop2 Inv-loop3 μ-loop3 Inv-loop μ-loop
 mul-unused c = let p = c .before .before .before in omega (arith, free-within (facts (closes p)) (none p))
@@ -380,17 +320,8 @@ begun-requires c κs = search needs
 
 loop3-holds : tie.Need-loop3-holds Inv-loop2 μ-loop2 Inv-loop3 μ-loop3 Inv-loop μ-loop
 loop3-holds c =
-    let n = closes (puts c) in
-    let g = P.start (meOf n) (toldOf n) (sendOf n) _ (c .begun .ensures) in (
-      omega arith,
-      few-after (facts n) (none (puts c)),
-      n .before .count .ensures (meOf n) (toldOf n) ∙ ap length (sym (g .0)),
-      g .1,
-      refl,
-      refl,
-      told-size n,
-      λ ls e l. e ∙ posted-none ls (posted (meOf n) (toldOf n) (c .begun .result)),
-    )
+    putting-begins (facts (closes (puts c))) (none (puts c)) (c .before .before .before .loop2 .s) (c .begun .result)
+    (told-size (closes (puts c))) (c .begun .ensures)
 
 cast-at : tie.Need-cast-at Inv-loop2 μ-loop2 Inv-loop3 μ-loop3 Inv-loop μ-loop
 cast-at c = omega arith
@@ -417,7 +348,7 @@ mul-y-3 : tie.Need-mul-y-3 Inv-loop2 μ-loop2 Inv-loop3 μ-loop3 Inv-loop μ-loo
 mul-y-3 c = omega arith
 
 element-set-from-y-2 : tie.Need-element-set-from-y-2 Inv-loop2 μ-loop2 Inv-loop3 μ-loop3 Inv-loop μ-loop
-element-set-from-y-2 c = omega (arith, c .before .before .before .loop3 .inv .1)
+element-set-from-y-2 c = omega (arith, c .before .before .before .loop3 .inv .fits)
 
 rest-requires : tie.Need-rest-requires Inv-loop2 μ-loop2 Inv-loop3 μ-loop3 Inv-loop μ-loop
 rest-requires c κs = search needs
@@ -430,27 +361,8 @@ loop3-less c = omega arith
 
 loop3-again : tie.Need-loop3-again Inv-loop2 μ-loop2 Inv-loop3 μ-loop3 Inv-loop μ-loop
 loop3-again c =
-    let l = c .before .before .before .before .loop3 in
-    let b = c .before .before .before .before .before in
-    let me = meOf (closes (puts b)) in
-    let told = toldOf (closes (puts b)) in
-    let post = b .begun .result in
-    let at : ℕ = roomOf (closes (puts b)) .left + l .i in
-    let k : l .i < length (posted me told post) = omega (arith, l .inv .2) in
-    let st = P.step-seen me told (l .post) _ _ _ _ (posted me told post) (l .i) noLetter (c .before .before .subject .ensures) refl
-    (c .before .first .ensures) (c .rest .ensures) (l .inv .3) (l .inv .4) k in (
-      omega arith,
-      l .inv .1,
-      l .inv .2,
-      st .2,
-      st .1,
-      other-letters (putsFrom b) (l .s) (set (l .s .letters) at (c .before .first .result))
-          (l .inv .5),
-      l .inv .6,
-      λ ls e n. ap (λ (x : List Letter). set x at (c .before .first .result)) (l .inv .7 ls e n)
-          ∙ posted-more ls (posted me told post) (l .i) at (c .before .first .result) (omega (arith, n, l .inv .1, l .inv .2)) k
-          (ap (λ (m : ℕ). m + l .i) (sym n)) (st .0),
-    )
+    puts-more (c .before .before .before .before .loop3 .inv) (omega arith) _ _ _ (c .before .before .subject .ensures)
+    (c .before .first .ensures) (c .rest .ensures)
 
 -- ---- the event is taken
 abbrev Taking : Type 0
@@ -465,86 +377,82 @@ answered c = closes (puts (begunAt c))
 add-s : tie.Need-add-s Inv-loop2 μ-loop2 Inv-loop3 μ-loop3 Inv-loop μ-loop
 add-s c = omega (arith, few-after (facts (answered c)) (none (puts (begunAt c))))
 
+either-requires : tie.Need-either-requires Inv-loop2 μ-loop2 Inv-loop3 μ-loop3 Inv-loop μ-loop
+either-requires c κs = search needs
+
+kept-table-requires : tie.Need-kept-table-requires Inv-loop2 μ-loop2 Inv-loop3 μ-loop3 Inv-loop μ-loop
+kept-table-requires c κs = search needs
+
+-- the table is reset or purged
+abbrev keeping : tie.After-marked2 Inv-loop2 μ-loop2 Inv-loop3 μ-loop3 Inv-loop μ-loop → Answered
+keeping c = answered (c .before .before .before .before)
+
+mul-t82 : tie.Need-mul-t82 Inv-loop2 μ-loop2 Inv-loop3 μ-loop3 Inv-loop μ-loop
+mul-t82 c = omega (arith, names-within (namesAt (keeping c)) .station)
+
+element-set-from-s-2 : tie.Need-element-set-from-s-2 Inv-loop2 μ-loop2 Inv-loop3 μ-loop3 Inv-loop μ-loop
+element-set-from-s-2 c = names-within (namesAt (keeping c)) .station
+
 added-requires : tie.Need-added-requires Inv-loop2 μ-loop2 Inv-loop3 μ-loop3 Inv-loop μ-loop
 added-requires c κs = search needs
 
--- the state that the turn leaves
-abbrev leftBy : Taking → State
-leftBy c =
-    let l = c .before .before .loop3 in
-    record {
-      net = l .s .net;
-      flying = roomOf (answered c) .left + answered c .before .count .result;
-      stations = l .s .stations;
-      letters = l .s .letters;
-    }
+-- ---- the turn ends: the network is the same, and it is the step
+abbrev Ending : Type 0
+Ending = tie.Joined4 Inv-loop2 μ-loop2 Inv-loop3 μ-loop3 Inv-loop μ-loop
 
-abbrev steppedBy : Taking → Stepped
-steppedBy c = record { answer = 0; counts = planOf (answered c) .counts; state = leftBy c }
+abbrev ended : Ending → Answered
+ended c = answered (c .before .before)
 
--- what stood there before the letters were changed
-others : (c : Taking) → (leftBy c .net ≡ stateOf (answered c) .net) × (leftBy c .stations ≡ set (stateOf (answered c) .stations)
-    (meOf (answered c)) (storedBy (answered c) (keptOf (answered c))))
-others c =
-    let l = c .before .before .loop3 in
-    let m = begunAt c .before .before .before .loop2 in
-    let st = stored (puts (begunAt c)) in (
-      ap (λ (x : State). x .net) (l .inv .5) ∙ ap (λ (x : State). x .net) (m .inv .4) ∙ ap (λ (x : State). x .net) st,
-      ap (λ (x : State). x .stations) (l .inv .5) ∙ ap (λ (x : State). x .stations) (m .inv .4) ∙ ap (λ (x : State). x .stations) st,
-    )
+abbrev steppedBy : Ending → State → Stepped
+steppedBy c s = record { answer = 0; counts = planOf (ended c) .counts; state = s }
 
--- it is the step's
-stepped : (c : Taking) → steppedBy c ≡ steppedOf (stateOf (answered c)) (eventOf (answered c) .kind) (eventOf (answered c) .a)
-    (eventOf (answered c) .b)
-stepped c =
-    let b = begunAt c in
-    let n = answered c in
-    let f = facts n in
-    let q = none (puts b) in
-    let r = roomOf n in
-    let l = c .before .before .loop3 in
+after-turn : (c : Ending) → (c .if4 .s .net ≡ stateOf (ended c) .net)
+    × (steppedBy c (c .if4 .s) ≡ steppedOf (stateOf (ended c)) (eventOf (ended c) .kind) (eventOf (ended c) .a) (eventOf (ended c) .b))
+after-turn c =
+    let b = begunAt (c .before .before) in
+    let o = puts b in
+    let n = closes o in
+    let s = stateOf n in
+    let p = planOf n in
     let m = b .before .before .before .loop2 in
-    let me = meOf n in
-    let told = toldOf n in
-    let post = b .begun .result in
-    let g = P.start me told (sendOf n) _ (b .begun .ensures) in
-    let end : m .i ≡ r .left = omega arith in
-    let all : l .i ≡ length (posted me told post) = omega (arith, l .inv .2) in
-    let closed = ap (λ (x : State). set (x .letters) (r .free) (r .unused)) (m .inv .4)
-    ∙ ap (λ (x : State). set (closing (r .from) (x .letters) (m .i)) (r .free) (r .unused)) (stored (puts b))
-    ∙ ap (λ (i : ℕ). set (closing (r .from) (stateOf n .letters) i) (r .free) (r .unused)) end ∙ closed-up f q in
-    let put = l .inv .7 (leftLetters f q) closed (left-length f q)
-    ∙ ap (λ (x : List Letter). roomed letterRoom noLetter (leftLetters f q ++ x))
-    (ap (λ (i : ℕ). take i (posted me told post)) all ∙ take-length (posted me told post) ∙ g .0 ∙ new-are f q) in
-    made f q (l .s .net) (l .s .stations) (l .s .letters) (r .left + n .before .count .result) (keptOf n) (others c .0) refl
-    (others c .1) put refl
+    let l = c .before .before .before .before .loop3 in
+    let f = facts n in
+    let net = ap (λ (x : Net). keptBy x (meOf n) (p .resets) (p .purges) (toldOf n)) (sym (same-net (turnAt n))) in
+    let end : m .i ≡ roomOf n .left = omega arith in
+    let all : l .i ≡ n .before .count .result = omega arith in
+    ⊎-elim
+    (λ w. stores-again f (none o) (stores o) (laidDown o) refl (m .s) (l .s) (b .begun .result) (l .post) (m .i) (l .i) (m .inv)
+    (b .begun .ensures) (l .inv) end all (w .1 .result) (w .1 .ensures ∙ net) (c .if4 .s) (w .3))
+    (λ w. stays f (none o) (stores o) (laidDown o) refl (m .s) (l .s) (b .begun .result) (l .post) (m .i) (l .i) (m .inv)
+    (b .begun .ensures) (l .inv) end all (toldOf n)
+    (kept-same (s .net) (meOf n) (p .resets) (p .purges) (toldOf n) (sym (c .before .either .ensures) ∙ w .0 .left)) refl (c .if4 .s) (w .1))
+    (c .if4 .came)
 
 add-taken : tie.Need-add-taken Inv-loop2 μ-loop2 Inv-loop3 μ-loop3 Inv-loop μ-loop
 add-taken c =
     omega (
       arith,
-      inside (testAt (answered (c .before))),
-      small (turnAt (answered (c .before)) .before .before .before),
+      inside (testAt (ended (c .before))),
+      small (turnAt (ended (c .before)) .before .before .before),
     )
 
 loop-less : tie.Need-loop-less Inv-loop2 μ-loop2 Inv-loop3 μ-loop3 Inv-loop μ-loop
-loop-less c = omega (arith, testAt (answered (c .before)) .loop-test .taken)
+loop-less c = omega (arith, testAt (ended (c .before)) .loop-test .taken)
 
 loop-again : tie.Need-loop-again Inv-loop2 μ-loop2 Inv-loop3 μ-loop3 Inv-loop μ-loop
 loop-again c =
-    let d = c .before in
-    let n = answered d in
+    let n = ended (c .before) in
     let l = turnAt n .loop in
     let e = eventOf n in
     let q = eventAt n .event-at .ensures in
-    let r = stepped d in (
+    let r = after-turn (c .before) in (
       omega (arith, testAt n .loop-test .taken),
       refl,
-      subst⁻¹ (λ (x : Stepped). Good (x .state)) r (is-step (l .s) (e .kind) (e .a) (e .b) (l .inv .2) .good),
-      others d .0 ∙ l .inv .3,
-      Threes.goes-on _ _ (l .s) (l .tally) (l .taken) (l .inv .4) (e .kind) (e .a) (e .b) (steppedBy d) (inside (testAt n))
-          (ap (λ (x : Asked). x .kind) q) (ap (λ (x : Asked). x .a) q) (ap (λ (x : Asked). x .b) q) r (c .added .result)
-          (c .added .ensures) refl,
+      subst⁻¹ (λ (x : Stepped). Good (x .state)) (r .1) (is-step (l .s) (e .kind) (e .a) (e .b) (l .inv .2) .good),
+      r .0 ∙ l .inv .3,
+      Threes.goes-on _ _ (l .s) (l .tally) (l .taken) (l .inv .4) (e .kind) (e .a) (e .b) (steppedBy (c .before) (c .before .if4 .s))
+          (inside (testAt n)) (ap (λ (x : Asked). x .kind) q) (ap (λ (x : Asked). x .a) q) (ap (λ (x : Asked). x .b) q) (r .1)
+          (c .added .result) (c .added .ensures) refl,
     )
 
 left-over-requires : tie.Need-left-over-requires Inv-loop2 μ-loop2 Inv-loop3 μ-loop3 Inv-loop μ-loop
@@ -582,12 +490,8 @@ take-events-spec =
     count-requires
     room-of-requires
     returns
-    mul-t43
+    mul-t45
     element-set-from-s
-    either-requires
-    kept-table-requires
-    mul-t62
-    element-set-from-s-2
     cast-last
     loop2-holds
     add-j
@@ -616,6 +520,10 @@ take-events-spec =
     loop3-less
     loop3-again
     add-s
+    either-requires
+    kept-table-requires
+    mul-t82
+    element-set-from-s-2
     added-requires
     add-taken
     loop-less

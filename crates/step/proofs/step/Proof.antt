@@ -7,6 +7,7 @@ use borrow.Author.Needs.{needs}
 use borrow.Author.Tests.{not-true, not-false}
 use Rattle.lists.proofs.Tests.{is-T}
 use Rattle.net.specs.Sizes.{linkRoom, letterRoom}
+use Rattle.station.specs.declared.Station.{Station}
 use Rattle.state.specs.declared.State.{State}
 use Rattle.post.proofs.PostLaws as P
 use Rattle.step_parts.specs.declared.Names.{Names}
@@ -14,7 +15,7 @@ use Rattle.step_parts.specs.declared.Room.{Room}
 use Rattle.step_parts.proofs.Helpers.{place-few, Placed, placed}
 use Rattle.step_parts.proofs.Made.{refused-bad, refused-event, Facts, stored, answer-refusal, few-after, free-within}
 use Rattle.step_parts.proofs.Loops.{withStation, Closing, next-within, closes-more, Putting, puts-more}
-use Rattle.step_parts.proofs.Turned.{closing-begins, putting-begins, turned}
+use Rattle.step_parts.proofs.Turned.{closing-begins, putting-begins, stays}
 use Rattle.step.proofs.step.Statement.{statement}
 use Rattle.step.proofs.step.Tie as tie
 
@@ -111,9 +112,11 @@ none : (c : tie.After-struct-known2 Inv-loop μ-loop Inv-loop2 μ-loop2) → roo
 none c = c .before .before .before .if2 .left
 
 -- the station is stored
-abbrev stores : (c : tie.After-struct-known2 Inv-loop μ-loop Inv-loop2 μ-loop2) → State
-stores c =
-    withStation (begunAt (closes c) .args .t1) (meOf (closes c)) (stored (facts (closes c)) (none c) (c .before .before .kept-table .result))
+abbrev laidDown : tie.After-struct-known2 Inv-loop μ-loop Inv-loop2 μ-loop2 → Station
+laidDown c = stored (planAt (closes c) .plan-at .result) (c .before .before .kept-table .result)
+
+abbrev stores : tie.After-struct-known2 Inv-loop μ-loop Inv-loop2 μ-loop2 → State
+stores c = withStation (begunAt (closes c) .args .t1) (meOf (closes c)) (laidDown c)
 
 well-formed-requires : tie.Need-well-formed-requires Inv-loop μ-loop Inv-loop2 μ-loop2
 well-formed-requires c κs = search needs
@@ -184,8 +187,7 @@ cast-last : tie.Need-cast-last Inv-loop μ-loop Inv-loop2 μ-loop2
 cast-last c = omega arith
 
 loop-holds : tie.Need-loop-holds Inv-loop μ-loop Inv-loop2 μ-loop2
-loop-holds c =
-    let k = c .before .before .kept-table in closing-begins (facts (closes c)) (none c) (k .result) (k .ensures) (stores c) refl
+loop-holds c = closing-begins (facts (closes c)) (none c) (stores c) (laidDown c) refl
 
 add-j : tie.Need-add-j Inv-loop μ-loop Inv-loop2 μ-loop2
 add-j c = omega arith
@@ -222,10 +224,8 @@ begun-requires c κs = search needs
 
 loop2-holds : tie.Need-loop2-holds Inv-loop μ-loop Inv-loop2 μ-loop2
 loop2-holds c =
-    let p = puts c in
-    let k = p .before .before .kept-table in
-    putting-begins (facts (closes p)) (none p) (k .result) (k .ensures) (stores p) refl (c .before .before .before .loop .s)
-    (c .begun .result) (told-size (toldAt (closes p))) (c .begun .ensures)
+    putting-begins (facts (closes (puts c))) (none (puts c)) (c .before .before .before .loop .s) (c .begun .result)
+    (told-size (toldAt (closes (puts c)))) (c .begun .ensures)
 
 cast-at : tie.Need-cast-at Inv-loop μ-loop Inv-loop2 μ-loop2
 cast-at c = omega arith
@@ -275,11 +275,11 @@ returns-3 : tie.Need-returns-3 Inv-loop μ-loop Inv-loop2 μ-loop2
 returns-3 c =
     let b = c .before .before .before .before in
     let p = puts b in
-    let k = p .before .before .kept-table in
     let m = b .before .before .before .loop in
     let l = c .before .before .before .loop2 in
-    turned (facts (closes p)) (none p) (k .result) (k .ensures) (stores p) refl (m .s) (l .s) (b .begun .result) (l .post) (m .i) (l .i)
-    (m .inv) (b .begun .ensures) (l .inv) (omega arith) (omega arith)
+    let kept = p .before .before .kept-table in
+    stays (facts (closes p)) (none p) (stores p) (laidDown p) refl (m .s) (l .s) (b .begun .result) (l .post) (m .i) (l .i) (m .inv)
+    (b .begun .ensures) (l .inv) (omega arith) (omega arith) (kept .result) (kept .ensures) refl _ refl .1
 
 pub step-spec : {M : Type 1} → statement M
 step-spec =
