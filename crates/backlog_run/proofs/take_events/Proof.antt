@@ -1,203 +1,31 @@
-use Prim.Native.Nat.{ℕ, _+_, _-_, _*_, _/_, _≤_, _<_, _^_, min}
-use mathlib.Core.Bool.{Bool, true, false, _||_}
+use Prim.Native.Nat.{_+_, _-_, _*_, _≤_, _<_, _^_}
 use mathlib.Core.Logic.{⊎-elim}
 use mathlib.Core.Path.{_≡_, refl, sym, ap, _∙_, subst⁻¹}
-use mathlib.Core.List.{List}
 use native.Mathlib.Omega.{arith}
-use lib.ListN.{length, getD}
+use lib.ListN.{length}
 use denote.Ref.{now}
 use borrow.Author.Needs.{needs}
 use Rattle.net.specs.declared.Net.{Net}
-use Rattle.net.specs.Sizes.{linkRoom, letterRoom}
-use Rattle.sets.specs.Sets.{wordBy}
-use Rattle.marks.specs.Marks.{ownAt}
-use Rattle.marks.proofs.OwnLinks.{own-word}
-use Rattle.station.specs.declared.Sending.{Sending}
-use Rattle.station.specs.declared.Station.{Station}
-use Rattle.station.specs.Events.{kindOf}
-use Rattle.station_plan.specs.declared.Plan.{Plan}
-use Rattle.station_plan.specs.Carrying.{keptBy, narrowed}
-use Rattle.station_plan.specs.Plans.{toldIn}
+use Rattle.station_plan.specs.Carrying.{keptBy}
 use Rattle.state.specs.declared.State.{State}
-use Rattle.state.specs.State.{letterIn, stationIn}
 use Rattle.post.proofs.PostLaws as P
 use Rattle.step_rules.specs.declared.Stepped.{Stepped}
 use Rattle.step_rules.specs.Step.{refusing, steppedOf}
 use Rattle.step_rules.proofs.Bridge.{Good, is-step}
-use Rattle.step_parts.specs.declared.Names.{Names}
-use Rattle.step_parts.specs.declared.Room.{Room}
-use Rattle.step_parts.specs.Parts.{namesBy, placeBy}
-use Rattle.step_parts.proofs.Helpers.{place-few, Placed, placed}
-use Rattle.step_parts.proofs.Made.{refused-event, Facts, stored, answer-refusal, few-after, free-within}
-use Rattle.step_parts.proofs.Loops.{withStation, Closing, next-within, closes-more, Putting, puts-more}
+use Rattle.step_parts.proofs.Made.{refused-event, answer-refusal, few-after, free-within}
+use Rattle.step_parts.proofs.Loops.{next-within, closes-more, puts-more}
 use Rattle.step_parts.proofs.Turned.{closing-begins, putting-begins, stays, stores-again}
-use Rattle.backlog_rules.specs.Backlog.{calls}
 use Rattle.backlog_rules.proofs.Laws.{before-none}
 use Rattle.backlog_rules.proofs.Threes as Threes
-use Rattle.backlog_rules.proofs.Threes.{CameTo}
 use Rattle.backlog_run.specs.declared.Asked.{Asked}
-use Rattle.backlog_run.proofs.Turns.{told-same, told-long, sent-same, kept-same}
+use Rattle.backlog_run.proofs.Turns.{kept-same}
 use Rattle.backlog_run.proofs.take_events.Statement.{statement}
 use Rattle.backlog_run.proofs.take_events.Tie as tie
-
--- while the later letters close up
-abbrev Inv-loop2 : tie.InvT-loop2
-Inv-loop2 events s₀ net owns tally n taken place flying me who plan told send count room last from i₀ s i = Closing s₀ from last s i
-
-abbrev μ-loop2 : tie.MeasureT-loop2
-μ-loop2 events s₀ net owns tally n taken place flying me who plan told send count room last from i₀ s i = last - i
-
--- while new letters are put at the end
-abbrev Inv-loop3 : tie.InvT-loop3
-Inv-loop3 events s₀ net owns tally n taken place flying me who plan told count room last from free post₀ i₀ s post i =
-    Putting s₀ me told last count post₀ s post i
-
-abbrev μ-loop3 : tie.MeasureT-loop3
-μ-loop3 events s₀ net owns tally n taken place flying me who plan told count room last from free post₀ i₀ s post i = count - i
-
--- between two events: the state is well formed, and what the whole call answers is what the calls one by one answer from here on
-abbrev Inv-loop : tie.InvT-loop
-Inv-loop events s₀ net owns tally₀ n taken₀ s tally taken =
-    (taken ≤ n) × (n ≡ length events / 3) × Good s × (s .net ≡ net) × CameTo (calls s₀ tally₀ events) events s tally taken
-
-abbrev μ-loop : tie.MeasureT-loop
-μ-loop events s₀ net owns tally₀ n taken₀ s tally taken = n - taken
-
--- ---- the places of the code that have names, from the answer back: the plan, what the event names, its
--- three numbers, the turn's beginning
-abbrev Answered : Type 0
-Answered = tie.After-room-of Inv-loop2 μ-loop2 Inv-loop3 μ-loop3 Inv-loop μ-loop
-
-abbrev planAt : Answered → tie.After-plan-at Inv-loop2 μ-loop2 Inv-loop3 μ-loop3 Inv-loop μ-loop
-planAt c = c .before .before .before .before .before .before
-
-abbrev namesAt : Answered → tie.After-names-of Inv-loop2 μ-loop2 Inv-loop3 μ-loop3 Inv-loop μ-loop
-namesAt c = planAt c .before .before
-
-abbrev eventAt : Answered → tie.After-event-at Inv-loop2 μ-loop2 Inv-loop3 μ-loop3 Inv-loop μ-loop
-eventAt c = namesAt c .before .before
-
-abbrev turnAt : Answered → tie.At-loop Inv-loop2 μ-loop2 Inv-loop3 μ-loop3 Inv-loop μ-loop
-turnAt c = eventAt c .before .before
-
-abbrev ownsAt : tie.At-loop Inv-loop2 μ-loop2 Inv-loop3 μ-loop3 Inv-loop μ-loop
-    → tie.After-own-words Inv-loop2 μ-loop2 Inv-loop3 μ-loop3 Inv-loop μ-loop
-ownsAt c = c .before
-
--- and what they are of
-abbrev stateOf : Answered → State
-stateOf c = turnAt c .loop .s
-
-abbrev eventOf : Answered → Asked
-eventOf c = eventAt c .event-at .result
-
-abbrev namesOf : Answered → Names
-namesOf c = namesAt c .names-of .result
-
-abbrev meOf : Answered → ℕ
-meOf c = namesOf c .station
-
-abbrev planOf : Answered → Plan
-planOf c = planAt c .plan-at .result
-
-abbrev toldOf : Answered → List ℕ
-toldOf c = c .before .before .before .before .if1 .told
-
-abbrev sendOf : Answered → Sending
-sendOf c = c .before .before .if2 .send
-
-abbrev roomOf : Answered → Room
-roomOf c = c .room-of .result
-
--- the event's kind, and the place of its letter, by its numbers
-decoded : (c : tie.After-event-at Inv-loop2 μ-loop2 Inv-loop3 μ-loop3 Inv-loop μ-loop)
-    → c .event-at .result .what ≡ kindOf (c .event-at .result .kind)
-decoded c = ap (λ (x : Asked). x .what) (c .event-at .ensures) ∙ ap (λ (x : Asked). kindOf (x .kind)) (sym (c .event-at .ensures))
-
-placed-at : (c : tie.After-event-at Inv-loop2 μ-loop2 Inv-loop3 μ-loop3 Inv-loop μ-loop)
-    → c .event-at .result .place ≡ placeBy (c .event-at .result .a)
-placed-at c = ap (λ (x : Asked). x .place) (c .event-at .ensures) ∙ ap (λ (x : Asked). placeBy (x .a)) (sym (c .event-at .ensures))
-
--- what is read is within its room
-place-within : (c : tie.After-event-at Inv-loop2 μ-loop2 Inv-loop3 μ-loop3 Inv-loop μ-loop) → c .event-at .result .place < letterRoom
-place-within c = place-few (c .event-at .result .a) (c .event-at .result .place) (placed-at c)
-
-names-within : (c : tie.After-names-of Inv-loop2 μ-loop2 Inv-loop3 μ-loop3 Inv-loop μ-loop) → Placed (c .names-of .result)
-names-within c = placed _ _ _ _ _ _ _ (c .names-of .ensures)
-
--- the network, found once, is the state's own
-same-net : (c : tie.At-loop Inv-loop2 μ-loop2 Inv-loop3 μ-loop3 Inv-loop μ-loop)
-    → c .loop .s .net ≡ c .before .before .before .before .args .t1 .net
-same-net c = c .loop .inv .3
-
--- what is told and what is sent, by a test or by its function
-told-is : (c : tie.Joined1 Inv-loop2 μ-loop2 Inv-loop3 μ-loop3 Inv-loop μ-loop) → c .if1 .told ≡ toldIn (c .before .before .plan-at .result)
-    (stationIn (c .before .before .before .before .before .before .before .before .loop .s)
-    (c .before .before .before .before .names-of .result .station))
-told-is c = ⊎-elim (λ w. w .2 ∙ w .1 .ensures) (λ w. w .1 ∙ told-same _ _ _ _ (w .0 .left)) (c .if1 .came)
-
-sent-is : (c : Answered) → sendOf c ≡ narrowed (planOf c .knows) (min (stateOf c .net .links) linkRoom) (toldOf c) (planOf c .sends)
-sent-is c =
-    ⊎-elim (λ w. w .2 ∙ w .1 .ensures) (λ w. w .1 ∙ sent-same _ _ (toldOf c) _ (w .0 .left)) (c .before .before .if2 .came)
-    ∙ ap (λ (n : Net). narrowed (planOf c .knows) (min (n .links) linkRoom) (toldOf c) (planOf c .sends)) (sym (same-net (turnAt c)))
-
-own-is : (c : Answered) → getD (ownsAt (turnAt c) .own-words .result) (meOf c) 0 ≡ wordBy (ownAt (stateOf c .net) (meOf c))
-own-is c =
-    ap (λ (l : List ℕ). getD l (meOf c) 0) (ownsAt (turnAt c) .own-words .ensures)
-    ∙ own-word _ (meOf c) (names-within (namesAt c) .station)
-    ∙ ap (λ (n : Net). wordBy (ownAt n (meOf c))) (sym (same-net (turnAt c)))
-
--- what the code has seen when it has its answer
-facts : (c : Answered) → Facts (stateOf c) (eventOf c .kind) (eventOf c .a) (eventOf c .b) (eventOf c .what) (eventOf c .place)
-    (namesOf c) (getD (ownsAt (turnAt c) .own-words .result) (meOf c) 0) (planOf c) (toldOf c) (sendOf c)
-    (c .before .count .result) (roomOf c)
-facts c =
-    let l = turnAt c .loop in
-    record {
-      seen = record {
-        sized = l .inv .2 .sized;
-        holds = l .inv .2 .holds;
-        decodes = decoded (eventAt c);
-        at = placed-at (eventAt c);
-        names =
-            namesAt c .names-of .ensures ∙ ap (λ (n : Net). namesBy n (l .s .flying) (eventOf c .what) (eventOf c .a) (eventOf c .b)
-            (letterIn (l .s) (eventOf c .place))) (sym (same-net (turnAt c)));
-        mine = own-is c;
-        plans = planAt c .plan-at .ensures .1;
-      };
-      tells = told-is (c .before .before .before .before);
-      sends = sent-is c;
-      counts = c .before .count .ensures (meOf c) (toldOf c);
-      room = c .room-of .ensures;
-    }
-
--- the table that is told has its room
-told-size : (c : Answered) → length (toldOf c) ≡ linkRoom
-told-size c =
-    ap length (told-is (c .before .before .before .before))
-    ∙ told-long (planOf c .sets) (planOf c .at) (planOf c .counter) linkRoom (stationIn (stateOf c) (meOf c) .counters)
-    (turnAt c .loop .inv .2 .sized .each (meOf c) (names-within (namesAt c) .station) .counters)
-
--- the answer, from where the letters begin to close up and from where new letters begin to be put
-abbrev Stored : Type 0
-Stored = tie.After-struct-known2 Inv-loop2 μ-loop2 Inv-loop3 μ-loop3 Inv-loop μ-loop
-
-abbrev closes : Stored → Answered
-closes c = c .before .before .before .before
-
-abbrev puts : tie.After-begun Inv-loop2 μ-loop2 Inv-loop3 μ-loop3 Inv-loop μ-loop → Stored
-puts c = c .before .before .before .before
-
--- that nothing refuses
-none : (c : Stored) → roomOf (closes c) .answer ≡ 0
-none c = c .before .before .if3 .left
-
--- the station is stored, with the table that is told
-abbrev laidDown : Stored → Station
-laidDown c = stored (planOf (closes c)) (toldOf (closes c))
-
-abbrev stores : Stored → State
-stores c = withStation (stateOf (closes c)) (meOf (closes c)) (laidDown c)
+use Rattle.backlog_run.proofs.take_events.Proof.Seen.{Inv-loop2, μ-loop2, Inv-loop3, μ-loop3, Inv-loop, μ-loop, Answered, namesAt}
+use Rattle.backlog_run.proofs.take_events.Proof.Seen.{eventAt, turnAt, stateOf, eventOf, meOf, planOf, toldOf, roomOf}
+use Rattle.backlog_run.proofs.take_events.Proof.Seen.{place-within, names-within, same-net, facts, told-size, closes, puts, none}
+use Rattle.backlog_run.proofs.take_events.Proof.Seen.{laidDown, stores}
+mod Seen
 
 own-words-requires : tie.Need-own-words-requires Inv-loop2 μ-loop2 Inv-loop3 μ-loop3 Inv-loop μ-loop
 own-words-requires c κs = search needs
