@@ -1,8 +1,6 @@
 // The five marks of each link as five sets of links, and the links that a station is an end of as one such set.
 // Inner doors: the calls are in docs/CALLS.md.
 ghost use mathlib.Core.Path.{_≡_};
-ghost use mathlib.Core.Bool.{_||_};
-ghost use lib.Dec.{eqb};
 ghost use Rattle.sets.specs.Sets.{wordBy};
 ghost use Rattle.marks.specs.Marks.{marksAt, wordsWith, ownAt, ownWords};
 use net::MOST_STATIONS;

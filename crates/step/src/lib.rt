@@ -1,7 +1,7 @@
 // The network's step: one call takes the whole state and one event, and hands back the whole state after it, or the same
 // state and the number that says no. Only `step` and the test for 11 hold a state: nothing else that it calls takes or returns one, nor
-// the letters' room. The station that the event concerns is copied once out of the state and stored once into it. What the event names, and
-// what becomes of the list of letters, is `step_parts`.
+// the letters' room. The station that the event concerns is copied once out of the state and stored once into it. What the event names,
+// the plan at that station and what becomes of the list of letters are `step_parts`.
 ghost use mathlib.Core.Path.{_≡_};
 ghost use Rattle.step_rules.specs.Step.{steppedOf};
 use state::State;

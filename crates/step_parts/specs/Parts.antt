@@ -1,4 +1,4 @@
--- What an event names and what becomes of the list of letters, as the code answers it.
+-- What an event names, its plan at the station that it concerns, and what becomes of the list of letters, as the code answers it.
 use Prim.Native.Nat.{ℕ, _+_, _-_, _%_}
 use mathlib.Core.Bool.{Bool}
 use lib.Dec.{eqb, ltb}

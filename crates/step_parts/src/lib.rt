@@ -1,5 +1,5 @@
-// What an event names, and what becomes of the list of letters: all that a step needs to know of the numbers of an event beside the plan.
-// Each function takes the few values that it asks for, and no state. Every public function answers every input.
+// What an event names, what it comes to at the station that it concerns, and what becomes of the list of letters: what a step asks of an
+// event before it changes anything. Each function takes the few values that it asks for, and no state. Every public function answers every input.
 // Inner doors: the calls are in docs/CALLS.md.
 ghost use mathlib.Core.Path.{_≡_};
 ghost use mathlib.Core.Bool.{_&&_};

@@ -1,4 +1,4 @@
-use Prim.Native.Nat.{_+_, _-_, _*_, _≤_, _<_, _^_}
+use Prim.Native.Nat.{_+_, _*_, _≤_, _<_, _^_}
 use mathlib.Core.Logic.{⊎-elim}
 use mathlib.Core.Path.{_≡_, refl, sym, ap, _∙_, subst⁻¹}
 use native.Mathlib.Omega.{arith}
@@ -253,7 +253,8 @@ after-turn c =
     (b .begun .ensures) (l .inv) end all (w .1 .result) (w .1 .ensures ∙ net) (c .if4 .s) (w .3))
     (λ w. stays f (none o) (stores o) (laidDown o) refl (m .s) (l .s) (b .begun .result) (l .post) (m .i) (l .i) (m .inv)
     (b .begun .ensures) (l .inv) end all (toldOf n)
-    (kept-same (s .net) (meOf n) (p .resets) (p .purges) (toldOf n) (sym (c .before .either .ensures) ∙ w .0 .left)) refl (c .if4 .s) (w .1))
+    (kept-same (s .net) (meOf n) (p .resets) (p .purges) (toldOf n) (sym (c .before .either .ensures) ∙ w .0 .left)) refl (c .if4 .s)
+    (w .1))
     (c .if4 .came)
 
 add-taken : tie.Need-add-taken Inv-loop2 μ-loop2 Inv-loop3 μ-loop3 Inv-loop μ-loop

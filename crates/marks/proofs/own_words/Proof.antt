@@ -6,7 +6,7 @@ use lib.ListN.{length, set, drop}
 use lib.Seq.{drop-length}
 use borrow.Author.Needs.{needs}
 use Rattle.lists.specs.Lists.{below, filled}
-use Rattle.lists.proofs.Fill.{filled-more, length-filled}
+use Rattle.lists.proofs.Fill.{filled-more}
 use Rattle.net.specs.declared.Net.{Net}
 use Rattle.net.specs.Sizes.{stationRoom}
 use Rattle.sets.specs.Sets.{wordBy}

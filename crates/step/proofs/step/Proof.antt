@@ -1,4 +1,4 @@
-use Prim.Native.Nat.{ℕ, _+_, _-_, _<_}
+use Prim.Native.Nat.{ℕ, _-_, _<_}
 use mathlib.Core.Path.{_≡_, refl, sym, _∙_}
 use mathlib.Core.List.{List}
 use native.Mathlib.Omega.{arith}
@@ -13,7 +13,7 @@ use Rattle.post.proofs.PostLaws as P
 use Rattle.step_parts.specs.declared.Names.{Names}
 use Rattle.step_parts.specs.declared.Room.{Room}
 use Rattle.step_parts.proofs.Helpers.{place-few, Placed, placed}
-use Rattle.step_parts.proofs.Made.{refused-bad, refused-event, Facts, stored, answer-refusal, few-after, free-within}
+use Rattle.step_parts.proofs.Made.{refused-bad, refused-event, Facts, stored, answer-refusal, free-within}
 use Rattle.step_parts.proofs.Loops.{withStation, Closing, next-within, closes-more, Putting, puts-more}
 use Rattle.step_parts.proofs.Turned.{closing-begins, putting-begins, stays}
 use Rattle.step.proofs.step.Statement.{statement}

@@ -124,7 +124,8 @@ pub same-net : (c : tie.At-loop Inv-loop2 μ-loop2 Inv-loop3 μ-loop3 Inv-loop �
 same-net c = c .loop .inv .3
 
 -- what is told and what is sent, by a test or by its function
-pub told-is : (c : tie.Joined1 Inv-loop2 μ-loop2 Inv-loop3 μ-loop3 Inv-loop μ-loop) → c .if1 .told ≡ toldIn (c .before .before .plan-at .result)
+pub told-is : (c : tie.Joined1 Inv-loop2 μ-loop2 Inv-loop3 μ-loop3 Inv-loop μ-loop)
+    → c .if1 .told ≡ toldIn (c .before .before .plan-at .result)
     (stationIn (c .before .before .before .before .before .before .before .before .loop .s)
     (c .before .before .before .before .names-of .result .station))
 told-is c = ⊎-elim (λ w. w .2 ∙ w .1 .ensures) (λ w. w .1 ∙ told-same _ _ _ _ (w .0 .left)) (c .if1 .came)
