@@ -1,4 +1,5 @@
 pub mod Laws
 pub mod Threes
+pub mod Tracing
 pub mod Joining
 pub mod OneByOne
