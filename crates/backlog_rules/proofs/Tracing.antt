@@ -22,6 +22,7 @@ use Rattle.state.specs.State.{worldOf, stateHolds}
 use Rattle.step_rules.specs.declared.Stepped.{Stepped}
 use Rattle.step_rules.specs.Step.{event, numberOf, steppedOf}
 use Rattle.step_rules.specs.Counting.{talliedBy}
+use Rattle.step_rules.proofs.Bridge.{Good, is-step}
 use Rattle.backlog_rules.specs.declared.Answered.{Answered}
 use Rattle.backlog_rules.specs.Answers.{turnOf, turns, lastState, lastTally, tracing, answeredBy}
 use Rattle.backlog_rules.proofs.Threes.{three, none-left, Over, one, two, left-over}
@@ -177,3 +178,11 @@ module _ (s : State) (t : Tally) (es old : List ℕ) where
     answers-all l after sums new r =
         simp (T-is (stateHolds s) h, le-ltb (length old) (length (turns s t es)) (omega (arith, turns-long es s t n covers tight)))
         ((λ i. record { answer = 0; tally = r .tally i; state = r .state i }), r .output)
+
+-- ---- well formed: the state after all events
+pub last-good : (es : List ℕ) (s : State) → Good s → Good (lastState s es)
+unfolding lastState
+last-good [] s g = g
+last-good (x ∷ []) s g = g
+last-good (x ∷ y ∷ []) s g = g
+last-good (kind ∷ a ∷ b ∷ es) s g = last-good es (steppedOf s kind a b .state) (is-step s kind a b g .good)

@@ -5,7 +5,7 @@ use mathlib.Core.List.{List, [], _∷_, _++_, append-assoc}
 use native.Mathlib.Omega.{arith}
 use lib.ListN.{length, length-append}
 use Rattle.text.specs.Text.{digits}
-use Rattle.console.proofs.Puts.{byte-digits, counter-digits, count-digits}
+use Rattle.console.proofs.Puts.{count-digits}
 use Rattle.event_program.specs.Events.{answerText}
 
 abbrev pub answerParts : ℕ → ℕ → ℕ → List ℕ
@@ -15,7 +15,7 @@ pub answer-whole : (answer flying settled : ℕ) → answerParts answer flying s
 unfolding answerText
 answer-whole answer flying settled = simp append-assoc
 
-pub answer-few : (answer flying settled : ℕ) → answer < 256 → flying < 65536 → settled < 2 ^ 64
-    → length (answerParts answer flying settled) ≤ 32
+pub answer-few : (answer flying settled : ℕ) → answer < 2 ^ 64 → flying < 2 ^ 64 → settled < 2 ^ 64
+    → length (answerParts answer flying settled) ≤ 63
 answer-few answer flying settled a b c =
-    simp length-append (omega (arith, byte-digits answer a, counter-digits flying b, count-digits settled c))
+    simp length-append (omega (arith, count-digits answer a, count-digits flying b, count-digits settled c))

@@ -14,7 +14,7 @@ use Rattle.lists.specs.Places.{collect}
 use Rattle.lists.proofs.Tests.{T-is}
 use Rattle.tally.specs.declared.Tally.{Tally}
 use Rattle.tally.specs.Sums.{tallied}
-use Rattle.tally.proofs.Sums.{Fits, tallied-fits, nothing-more}
+use Rattle.tally.proofs.Sums.{Fits, tallied-fits}
 use Rattle.event_lines.specs.Steps.{start, readOn, lineEnd}
 use Rattle.net.specs.declared.Net.{Net}
 use Rattle.net.specs.Values.{networkOf}
@@ -34,11 +34,13 @@ use Rattle.state.proofs.LaidOut.{laid-sized, laid-holds, laid-means}
 use Rattle.state.proofs.Meaning.{count-is, world-holding}
 use Rattle.step_rules.specs.declared.Stepped.{Stepped}
 use Rattle.step_rules.specs.Step as Step
+use Rattle.step_rules.specs.Counting.{talliedBy}
+use Rattle.backlog_rules.proofs.Tracing.{refusal-counts-nothing}
 use Rattle.laws.specs.Tallied.{acceptedCounts, tallyBy}
 use Rattle.console.specs.Feeding as Feeding
 use Rattle.event_program.specs.Stations.{stationText, stationLine, stationsText}
 use Rattle.event_program.specs.Events.{Standing, eventBy, answerText, done, printedFor, printed, doneAll, endText}
-use Rattle.event_program.specs.Runs.{Desk, deskOf, acted, spoken}
+use Rattle.event_program.proofs.Desk.{Desk, deskOf, acted, spoken}
 
 -- a world that a good network carries
 pub record Carried (v : Net) (w : World) : Type 0 where
@@ -120,10 +122,10 @@ module _ (v : Net) (w : World) (c : Carried v w) (t : Tally) (f : Fits t) (said 
             });
         fits = subst⁻¹ Fits tally (tallied-fits t (acceptedCounts w ev));
         acts =
-            ap (λ (x : Stepped). deskOf (x .state) (tallied t (x .counts))) d
+            ap (λ (x : Stepped). deskOf (x .state) (talliedBy x t)) d
             ∙ sym (ap₂ (λ (x : World) (u : Tally). deskOf (stateOf v x) u) world tally);
         says =
-            ap (λ (x : Stepped). answerText (x .answer) (x .state .flying) (tallied t (x .counts) .settled)) d
+            ap (λ (x : Stepped). answerText (x .answer) (x .state .flying) (talliedBy x t .settled)) d
             ∙ ap (λ (n : ℕ). answerText 0 n (tallied t (acceptedCounts w ev) .settled)) (flying-is (after w ev))
             ∙ sym (ap₂ (λ (x : World) (u : Tally). answerText (refusal w ev) (length (x .letters)) (u .settled)) world tally
             ∙ ap (λ (n : ℕ). answerText n (length (after w ev .letters)) (tallied t (acceptedCounts w ev) .settled)) z);
@@ -141,11 +143,11 @@ module _ (v : Net) (w : World) (c : Carried v w) (t : Tally) (f : Fits t) (said 
         carried = subst⁻¹ (Carried v) world c;
         fits = subst⁻¹ Fits tally f;
         acts =
-            ap (λ (x : Stepped). deskOf (x .state) (tallied t (x .counts))) d ∙ ap (deskOf (stateOf v w)) (nothing-more t f)
+            ap (λ (x : Stepped). deskOf (x .state) (talliedBy x t)) d ∙ ap (deskOf (stateOf v w)) (sym (refusal-counts-nothing (Step.refusing n (stateOf v w)) t h))
             ∙ sym (ap₂ (λ (x : World) (u : Tally). deskOf (stateOf v x) u) world tally);
         says =
-            ap (λ (x : Stepped). answerText (x .answer) (x .state .flying) (tallied t (x .counts) .settled)) d
-            ∙ ap₂ (λ (k : ℕ) (u : Tally). answerText n k (u .settled)) (flying-is w) (nothing-more t f)
+            ap (λ (x : Stepped). answerText (x .answer) (x .state .flying) (talliedBy x t .settled)) d
+            ∙ ap₂ (λ (k : ℕ) (u : Tally). answerText n k (u .settled)) (flying-is w) (sym (refusal-counts-nothing (Step.refusing n (stateOf v w)) t h))
             ∙ sym (ap₂ (λ (x : World) (u : Tally). answerText (refusal w ev) (length (x .letters)) (u .settled)) world tally
             ∙ ap (λ (k : ℕ). answerText k (length (w .letters)) (t .settled)) p);
       }

@@ -40,7 +40,7 @@ put-word-requires-3 c κs = search needs
 same-length : tie.Need-same-length
 same-length c = search needs
 
-few : (c : tie.Start) → (c .args .answer < 256) × (c .args .flying < 65536) × (c .args .settled < 2 ^ 64)
+few : (c : tie.Start) → (c .args .answer < 2 ^ 64) × (c .args .flying < 2 ^ 64) × (c .args .settled < 2 ^ 64)
 few c = search needs
 
 returns : tie.Need-returns
@@ -60,8 +60,8 @@ returns c =
     let n4 = chain-next (32 ∷ []) n3 (at-word2 .put-word2 .ensures) in
     let n5 = chain-next (digits (a .settled)) n4 (at-number3 .put-number3 .ensures) in
     let n6 = chain-next (10 ∷ []) n5 (at-word3 .put-word3 .ensures) in
-    put-same _ _ 32 (a .at) (now (a .out)) _ _ (answer-whole (a .answer) (a .flying) (a .settled))
-    (put-done _ 32 (a .at) (now (a .out)) _ _ n6 (answer-few (a .answer) (a .flying) (a .settled) (f .0) (f .1) (f .2)) (omega arith))
+    put-same _ _ 63 (a .at) (now (a .out)) _ _ (answer-whole (a .answer) (a .flying) (a .settled))
+    (put-done _ 63 (a .at) (now (a .out)) _ _ n6 (answer-few (a .answer) (a .flying) (a .settled) (f .0) (f .1) (f .2)) (omega arith))
 
 pub put-answer-spec : {M : Type 1} → statement M
 put-answer-spec =
