@@ -92,9 +92,10 @@ module _ (s : State) (t : Tally) (r : Reading) (bytes list trace : List ℕ) whe
       is-listed : (l ≡ listedBy (writes (numbersIn r bytes)) r bytes) × (list′ ≡ onto (numbersIn r bytes) list)
       unfolding listing
       is-listed =
-          let w = le-ltb (length list) (3 * length bytes) roomy in
-          (said ∙ ap (λ (b : Bool). listedBy (if b then denied 10 else writes (numbersIn r bytes)) r bytes) w,
-          filled ∙ ap (λ (b : Bool). writingOutput (if b then denied 10 else writes (numbersIn r bytes)) list) w)
+          let w = le-ltb (length list) (3 * length bytes) roomy in (
+            said ∙ ap (λ (b : Bool). listedBy (if b then denied 10 else writes (numbersIn r bytes)) r bytes) w,
+            filled ∙ ap (λ (b : Bool). writingOutput (if b then denied 10 else writes (numbersIn r bytes)) list) w,
+          )
 
       is-running : running s t r bytes list trace ≡ tracing s t (numbersIn r bytes) trace
       unfolding running
@@ -212,6 +213,8 @@ module _ (trace old : List ℕ) (i at : ℕ) (out : List ℕ) (p : Printing trac
       let count : at ≡ length (answersText trace) = sym (ap length all ∙ length-take-le at out within) in
       simp (le-ltb (length old) (21 * length trace) room) (
         (λ j. record { answer = 0; written = count j }),
-        (sym (take-append-drop at out) ∙ ap₂ (λ (x y : List ℕ). x ++ y) (sym all) (p .tail ∙ ap (λ (k : ℕ). drop k old) count),
-        (within, sym (length-take-le at out within))),
+        (
+          sym (take-append-drop at out) ∙ ap₂ (λ (x y : List ℕ). x ++ y) (sym all) (p .tail ∙ ap (λ (k : ℕ). drop k old) count),
+          (within, sym (length-take-le at out within)),
+        ),
       )

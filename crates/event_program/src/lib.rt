@@ -53,7 +53,14 @@ pub fn begin(net: Net) -> Ran
 // Promise: for the lines that end in these bytes, in the trace and in the answer what the steps one by one come to (`Answers.turns`), and
 // the reading of the line under way behind them; 10 where the list has fewer than three places for each byte or the trace is too short, 11
 // for a bad state: then state, tally, reading and trace are as they were.
-pub fn run_lines(given: State, t: Tally, r: Reading, bytes: &[u8], list: &mut [u32], trace: &mut [u64]) -> Ran
+pub fn run_lines(
+    given: State,
+    t: Tally,
+    r: Reading,
+    bytes: &[u8],
+    list: &mut [u32],
+    trace: &mut [u64],
+) -> Ran
     ensures answer { λ n. ⌜ n ≡ ranBy (running given t r (now (bytes .entry)) (now (list .entry)) (now (trace .entry))) given t r
         (now (bytes .entry)) ⌝ }
     ensures list { λ n. ⌜ now (list .exit) ≡ writingOutput (listing r (now (bytes .entry)) (now (list .entry))) (now (list .entry)) ⌝ }
