@@ -102,7 +102,8 @@ module _ (s : State) (t : Tally) (kind a b : ℕ) (xs : List ℕ) (g : Good s) (
   pub refused-turn : turns s t (kind ∷ a ∷ b ∷ xs) ≡ turnOf (steppedOf s kind a b .answer) t s ++ turns s t xs
   unfolding turns
   refused-turn =
-      ap₂ (λ (u : State) (v : Tally). turnOf (steppedOf s kind a b .answer) v u ++ turns u v xs) (same-state s t e g n) (same-tally s t e g n)
+      ap₂ (λ (u : State) (v : Tally). turnOf (steppedOf s kind a b .answer) v u ++ turns u v xs) (same-state s t e g n)
+      (same-tally s t e g n)
 
   pub refused-state : lastState s (kind ∷ a ∷ b ∷ xs) ≡ lastState s xs
   unfolding lastState
