@@ -48,7 +48,7 @@ module _ (s : State) (t : Tally) (events old : List ℕ) where
   wrote = tracing s t events old
 
   long : length (turns s t events) ≡ traceSize events
-  long = turns-long events s t ((length events + 2) / 3) (omega arith) (omega arith)
+  long = turns-long events s t (traceSize events / 3) (omega arith) (omega arith) ∙ omega arith
 
   run-writes : GoodState s → traceSize events ≤ length old → wrote ≡ writes (turns s t events)
   unfolding tracing fitting
