@@ -11,7 +11,7 @@ use lib.ListN.{length, take, drop}
 use Rattle.tally.specs.declared.Tally.{Tally}
 use Rattle.tally.specs.Sums.{largest, added, tallied}
 use Rattle.tally.proofs.Sums.{Fits}
-use Rattle.world.specs.World.{Event, refusal}
+use Rattle.world.specs.World.{World, Event, refusal}
 use Rattle.world.specs.History.{run, everSettled}
 use Rattle.state.specs.declared.State.{State}
 use Rattle.state.specs.State.{worldOf, Sized}
@@ -19,7 +19,8 @@ use Rattle.step_rules.proofs.Bridge.{Good}
 use Rattle.backlog_rules.specs.Backlog.{stopping, andBefore}
 use Rattle.backlog_rules.proofs.Threes.{stoppedAt}
 use Rattle.backlog_rules.proofs.OneByOne.{takenBy, OneByOne}
-use Rattle.backlog_rules.proofs.Answering.{allEvents, Answers}
+use Rattle.backlog_rules.proofs.Tracing.{no-kind}
+use Rattle.backlog_rules.proofs.Answering.{noKind, allEvents, Answers}
 use Rattle.laws.specs.Flood.{onlyNotices}
 use Rattle.laws.specs.Tallied.{everCounted}
 use Rattle.step_counted.proofs.Runs.{LentCalls}
@@ -45,6 +46,9 @@ pub record Demand1 : Type 0 where
   -- The run with answers: 11 for a state that isn't well formed, 10 for a trace that is too short, else 0, whatever the events.
   pub run-number : (before : Tally) (s : State) (events old : List ℕ) (c : RunsAnswered before s events old) (n : ℕ)
       → (c .answer .answer ≡ n) ↔ Run s events old n
+  -- An event that is refused has its number in the trace (Demand2, run-told). One or two numbers left over are an event of no kind, which
+  -- every world refuses as 6.
+  pub left-over-six : (w : World) → refusal w noKind ≡ 6
   -- Refused, it leaves state, tally and trace as they were; a longer trace keeps its tail where it is not.
   pub run-refused : (before : Tally) (s : State) (events old : List ℕ) (c : RunsAnswered before s events old) → (c .answer .answer ≡ 0 → ⊥)
       → (c .answer .state ≡ s) × ((c .tally ≡ before) × (c .trace ≡ old))
@@ -58,6 +62,7 @@ demand1 =
       backlog-bad = Backlogs.backlog-bad;
       backlog-keeps = Backlogs.backlog-keeps;
       run-number = AnsweredRuns.run-numbers;
+      left-over-six = λ w. no-kind w 0 0;
       run-refused = AnsweredRuns.run-refused;
       run-tail = AnsweredRuns.run-tail;
     }
