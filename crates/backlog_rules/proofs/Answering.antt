@@ -1,7 +1,7 @@
--- The run with answers is the calls of the step one by one, over all events of its list: each given the state that the one before it handed
--- back and lent the same tally, whatever it answered. What a refused event leaves; two lists in one call; and where no event is refused,
--- what the backlog's call leaves. From the place of a list that a loop has come to: Tracing.antt. In the world that the state means, and
--- with all that holds of runs of calls: demands/proofs/AnsweredRuns.antt.
+-- The run with answers is the calls of the step one by one, over all events of its list: each given the state that the one before it
+-- handed back and lent the same tally, whatever it answered. What a refused event leaves; two lists in one call; and where no event is
+-- refused, what the backlog's call leaves. From the place of a list that a loop has come to, and that the state stays well formed:
+-- Tracing.antt. In the world that the state means, and with all that holds of runs of calls: demands/proofs/AnsweredRuns.antt.
 use Prim.Native.Nat.{ℕ, _*_, _-_}
 use mathlib.Core.Path.{_≡_, refl, sym, ap, ap₂, _∙_, transport}
 use mathlib.Core.List.{List, [], _∷_, _++_}
@@ -85,14 +85,6 @@ answers-once none none = (refl, (refl, refl))
 answers-once {s} {t = t} (more {e = e} p) (more q) =
     let r = answers-once p q in
     (ap (λ (l : List ℕ). turnOf (stepOf s e .answer) (talliedBy (stepOf s e) t) (stepOf s e .state) ++ l) (r .0), r .1)
-
--- WELL FORMED: the state that it hands back, whatever the list
-pub last-good : (s : State) (xs : List ℕ) → Good s → Good (lastState s xs)
-unfolding lastState
-last-good s [] g = g
-last-good s (x ∷ []) g = g
-last-good s (x ∷ y ∷ []) g = g
-last-good s (kind ∷ a ∷ b ∷ xs) g = last-good (steppedOf s kind a b .state) xs (is-step s kind a b g .good)
 
 -- ---- A REFUSED EVENT changes nothing: its number and the two standing numbers are told, and the run goes on from the same state and tally
 module _ (s : State) (t : Tally) (kind a b : ℕ) (xs : List ℕ) (g : Good s) (n : steppedOf s kind a b .answer ≡ 0 → ⊥) where

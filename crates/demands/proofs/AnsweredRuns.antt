@@ -28,9 +28,9 @@ use Rattle.backlog_rules.specs.declared.Taken.{Taken}
 use Rattle.backlog_rules.specs.declared.Answered.{Answered}
 use Rattle.backlog_rules.specs.Answers.{turns, lastState, lastTally, tracing, answeredBy}
 use Rattle.backlog_rules.proofs.Laws.{good-state}
-use Rattle.backlog_rules.proofs.Tracing.{turns-long}
+use Rattle.backlog_rules.proofs.Tracing.{turns-long, last-good}
 use Rattle.backlog_rules.proofs.Answering as A
-use Rattle.backlog_rules.proofs.Answering.{allEvents, stepOf, Answers, answers, last-good, as-backlog}
+use Rattle.backlog_rules.proofs.Answering.{allEvents, stepOf, Answers, answers, as-backlog}
 use Rattle.laws.specs.Flood.{onlyNotices}
 use Rattle.laws.specs.Tallied.{everCounted, tallyAfter}
 use Rattle.laws.proofs.Tallies as Tallies
@@ -235,7 +235,7 @@ module _ (before : Tally) (s : State) (events old : List ℕ) (c : RunsAnswered 
     where
       go : (w : Writing) → Good (answeredBy w s before events .state)
       go (denied n) = g
-      go (writes trace) = last-good s events g
+      go (writes trace) = last-good events s g
 
 -- ---- TWO LISTS, whole events first: the second call is given what the first one left, and is lent the trace's rest
 module _ (before : Tally) (s : State) (xs ys old : List ℕ) (n : ℕ) (l : length xs ≡ 3 * n) (c : RunsAnswered before s xs old)
