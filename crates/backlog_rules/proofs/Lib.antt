@@ -3,3 +3,4 @@ pub mod Threes
 pub mod Tracing
 pub mod Joining
 pub mod OneByOne
+pub mod Answering

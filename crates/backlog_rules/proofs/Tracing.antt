@@ -32,7 +32,7 @@ pub refusal-counts-nothing : (r : Stepped) (t : Tally) → (r .answer ≡ 0 → 
 refusal-counts-nothing r t h = simp (ne-eqb (r .answer) 0 h)
 
 -- there is no kind 0: an event of that kind is refused as 6
-no-kind : (w : World) (a b : ℕ) → refusal w (event 0 a b) ≡ 6
+pub no-kind : (w : World) (a b : ℕ) → refusal w (event 0 a b) ≡ 6
 unfolding refusal exists comes dueOf
 no-kind w a b = refl
 

@@ -1,8 +1,7 @@
--- A run with answers: the calls of the step one by one, as for a backlog, but a refused event changes nothing and the run goes on. What each
--- event came to stands in a trace that is lent: three numbers an event, as the event has three.
+-- A run with answers: the calls of the step one by one, as for a backlog, but a refused event changes nothing and the run goes on. What
+-- each event came to stands in a trace that is lent: three numbers an event, as the event has three.
 use Prim.Native.Nat.{ℕ}
 use mathlib.Core.List.{List, [], _∷_, _++_}
-use lib.Dec.{eqb}
 use Rattle.lists.specs.Lists.{if_then_else_}
 use Rattle.fields.specs.Output.{Writing, denied, writes, fitting}
 use Rattle.tally.specs.declared.Tally.{Tally}
