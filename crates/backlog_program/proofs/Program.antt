@@ -82,7 +82,7 @@ module _ (net : Network) (t : T (sheetHolds net)) where
       (map eventLine (linesOf (joined pieces)))
   run-prints pieces =
       let said = map eventLine (linesOf (joined pieces)) in
-      ap ranText (stands-whole s noTally first-good pieces (firstRan v) first-stands .same)
+      stands-whole s noTally first-good pieces (firstRan v) first-stands
       ∙ ap takenText (ap (calls s noTally) (whole-numbers pieces) ∙ sym (good-state s noTally (numbersOf said) (first-good .holds)))
 
 pub backlog-program : (file : List ℕ) (pieces : List (List ℕ)) → callsText file pieces ≡ backlogProgram file (joined pieces)

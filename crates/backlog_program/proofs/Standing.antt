@@ -23,8 +23,9 @@ use Rattle.console.specs.Feeding.{closingBy, piecesRead, piecesText, wholeText}
 use Rattle.event_list.specs.Lines.{passes, lists, numbersIn, lineAfter}
 use Rattle.event_list.proofs.Whole.{Threes, whole-events}
 use Rattle.backlog_program.specs.declared.Ran.{Ran}
+use Rattle.backlog_program.specs.Backlog.{takenText}
 use Rattle.backlog_program.specs.Runs.{ranOn}
-use Rattle.backlog_program.specs.Calls.{ranAfter, piecesRan, wholeRan}
+use Rattle.backlog_program.specs.Calls.{ranAfter, piecesRan, wholeRan, ranText}
 
 -- the count has 64 bits
 abbrev pub ranOf : Taken → Reading → Ran
@@ -118,17 +119,11 @@ module _ (s : State) (t : Tally) (g : Good s) where
       (stands-all pieces (xs ++ numbersIn r p) (lineAfter r p) (ranAfter n p) (stands-more xs r n a p p (λ z. refl)))
 
   -- ---- the whole input: at its end a line that is begun ends too
-  pub record Ends (xs : List ℕ) (n : Ran) : Type 0 where
-    pub line : Reading
-    pub same : n ≡ ranOf (calls s t xs) line
-
   pub stands-whole : (pieces : List (List ℕ)) (n : Ran) → Stands [] start n
-      → Ends (wholeText start readOn lineEnd passes lists isBegun tt pieces) (wholeRan n pieces)
+      → ranText (wholeRan n pieces) ≡ takenText (calls s t (wholeText start readOn lineEnd passes lists isBegun tt pieces))
   unfolding wholeText wholeRan
   stands-whole pieces n a =
       let all = stands-all pieces [] start n a in
       let last : Reading → List ℕ = λ q. closingBy (isBegun q) in
-      let e = stands-more (numbersAll start pieces) (lineAll start pieces) (piecesRan n pieces) all (last (lineAll start pieces))
-      (last (piecesRan n pieces .reading))
-      (λ z. ap last (ap (λ (m : Ran). m .reading) (all .same) ∙ all .reading z)) in
-      record { line = e .line; same = e .same }
+      ap ranText (stands-more (numbersAll start pieces) (lineAll start pieces) (piecesRan n pieces) all (last (lineAll start pieces))
+      (last (piecesRan n pieces .reading)) (λ z. ap last (ap (λ (m : Ran). m .reading) (all .same) ∙ all .reading z)) .same)

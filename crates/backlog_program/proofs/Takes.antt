@@ -42,7 +42,7 @@ module _ (n : Ran) (bytes old : List ℕ) where
   module _ (z : n .answer ≡ 0) (l : Listed) (new : List ℕ) where
     -- it says no
     abbrev denying : ℕ → Ran
-    denying k = record { answer = k; taken = n .taken; reading = n .reading; tally = n .tally; state = n .state }
+    denying k = ranBy (denied k) n bytes
 
     pub takes-short : l ≡ listedBy (listing (n .reading) bytes old) (n .reading) bytes
         → new ≡ writingOutput (listing (n .reading) bytes old) old → (l .answer ≡ 0 → ⊥) → Takes (denying (l .answer)) new
