@@ -1,1 +1,2 @@
 pub mod OwnLinks
+pub mod OnePass

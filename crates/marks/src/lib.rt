@@ -67,15 +67,25 @@ pub fn own_links(net: Net, s: u8) -> u64
     own
 }
 
-// Each station's own links, found once for a call that asks for many stations.
+// Each station's own links, found in one pass over the links for a call that asks for many stations.
 // Promise: equals `Marks.ownWords`: at each place of the room of stations the links that this station is an end of.
 pub fn own_words(net: Net) -> [u64; STATION_ROOM]
     ensures { λ r. ⌜ r ≡ ownWords net ⌝ }
 {
+    let links = sets::at_most_64(net.links);
     let mut owns = [0u64; STATION_ROOM];
-    for i in 0..MOST_STATIONS {
-        let at = i as usize;
-        owns[at] = own_links(net, i);
+    for k in 0..links {
+        let i = k as usize;
+        let low = net.low[i];
+        let high = net.high[i];
+        if low < MOST_STATIONS {
+            let at = low as usize;
+            owns[at] = sets::put(owns[at], k, true);
+        }
+        if high < MOST_STATIONS {
+            let at = high as usize;
+            owns[at] = sets::put(owns[at], k, true);
+        }
     }
     owns
 }

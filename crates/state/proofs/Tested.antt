@@ -1,73 +1,40 @@
--- What the test of a whole state has seen, place by place, is the definition.
-use Prim.Native.Nat.{ℕ, _+_, _-_, _*_, _≤_, _<_, min}
-use mathlib.Core.Bool.{Bool, true, false, not, _&&_, _||_}
+-- The test of a whole state: what its three loops have seen so far, with a law for the beginning, for one turn and for the end; and that
+-- what they have seen in the end is the definition. Two walks cite them: the test's own and the network's step, which has the same loops.
+use Prim.Native.Nat.{ℕ, _+_, _*_, _%_, _≤_, _<_, min, max}
+use mathlib.Core.Bool.{Bool, true, false, _&&_, _||_}
 use mathlib.Core.Path.{_≡_, refl, sym, ap, ap₂, _∙_, subst, subst⁻¹}
-use mathlib.Core.List.{List, [], _∷_}
+use mathlib.Core.List.{List}
 use native.Mathlib.Decide.{decLt, ℕ-discrete}
 use native.Mathlib.Omega.{arith}
+use lib.Bits.{bitOr}
 use lib.Dec.{T, eqb, ltb, leb, leb→le}
 use lib.ListN.{length, getD}
 use borrow.Author.Tests.{eq-eqb, ne-eqb, lt-ltb, le-ltb, le-leb}
 use Rattle.lists.specs.Lists.{if_then_else_, every, below}
-use Rattle.lists.proofs.Tests.{and-l, and-r, and-i, and-no, and-yes, T-is, is-T, same-test, every-append, or-left}
-use Rattle.lists.proofs.Numbers.{below-at, at-below, below-snoc, all-fails}
-use Rattle.net.specs.declared.Letter.{Letter}
-use Rattle.net.specs.declared.Net.{Net}
+use Rattle.lists.specs.Words.{inWord}
+use Rattle.lists.proofs.Tests.{and-l, and-r, and-i, and-assoc, T-is, is-T, same-test, or-left}
+use Rattle.lists.proofs.Numbers.{below-at, at-below}
 use Rattle.net.specs.Letters.{letterHolds}
-use Rattle.net.specs.Values.{networkOf, linkCount}
-use Rattle.net.specs.Sizes.{stationRoom, letterRoom}
+use Rattle.net.specs.Values.{networkOf}
+use Rattle.net.specs.Sizes.{stationRoom, linkRoom, letterRoom}
 use Rattle.sheet_rules.specs.Values.{netHolds}
-use Rattle.sheet_rules.proofs.Good.{few-places}
-use Rattle.state_rules.specs.Carried.{letterTest}
-use Rattle.state_rules.proofs.LetterTests.{letter-is, letter-past}
+use Rattle.marks.specs.Marks.{ownWords}
+use Rattle.marks.proofs.OwnLinks.{own-word}
+use Rattle.state_rules.specs.Carried.{pastSubject, counterHolds, wayTest, letterTest, inRooms, gatheredHold}
+use Rattle.state_rules.proofs.Gathered.{gather-more, gather-both, or-zero, most-more, least-more}
 use Rattle.state.specs.declared.State.{State}
-use Rattle.state.specs.State.{stationIn, letterIn, stationPlace, letterPlace, isNoLetter, stationsHold}
+use Rattle.state.specs.State.{stationIn, letterIn, stationPlace, placeTest, letterPlace, isNoLetter, stationsHold}
 use Rattle.state.specs.State.{lettersHold, stateHolds, Fits, Ends64, Sized}
-use Rattle.state.proofs.Places.{restAt}
+use Rattle.state.proofs.Places.{place-is, letter-seen}
 
--- what holds below i, and at i, holds below i + 1
-pub upto-more : (P : ℕ → Type 0) (i : ℕ) → ((t : ℕ) → t < i → P t) → P i → (t : ℕ) → t < i + 1 → P t
-upto-more P i f p t h = go (ℕ-discrete i t)
-  where
-    go : Dec (i ≡ t) → P t
-    go (yes e) = subst P e p
-    go (no n) = f t (omega arith)
+-- two tests of the same numbers that agree below n
+every-same : (p q : ℕ → Bool) (n : ℕ) → ((k : ℕ) → k < n → p k ≡ q k) → every p (below n) ≡ every q (below n)
+every-same p q n e =
+    same-test (every p (below n)) (every q (below n)) (λ t. at-below q n (λ k h. subst T (e k h) (below-at p n t k h)))
+    (λ t. at-below p n (λ k h. subst⁻¹ T (e k h) (below-at q n t k h)))
 
-pub upto-none : (P : ℕ → Type 0) (t : ℕ) → t < 0 → P t
-upto-none P t h = absurd (never h)
-  where
-    never : t < 0 → ⊥
-    never h = omega arith
-
--- ---- the frame
-module _ (net : Net) (flying : ℕ) (r : Bool) (e : r ≡ (netHolds net && leb flying letterRoom)) (q : r ≡ true) where
-  pub frame-net : T (netHolds net)
-  frame-net = and-l (netHolds net) _ (is-T _ (sym e ∙ q))
-
-  pub frame-few : flying ≤ letterRoom
-  frame-few = leb→le flying letterRoom (and-r (netHolds net) _ (is-T _ (sym e ∙ q)))
-
--- ---- a letter, by the ends of its link
-pub letter-seen : (net : Net) (x : Letter) (r : Bool) (k : ℕ) → T (netHolds net) → k ≡ min (x .link) 63
-    → r ≡ letterTest (net .links) (getD (net .low) k 0) (getD (net .high) k 0) x → r ≡ letterHolds (networkOf net) x
-letter-seen net x r k t e d =
-    d ∙ ap (λ (n : ℕ). letterTest n (getD (net .low) k 0) (getD (net .high) k 0) x) links ∙ go (decLt (x .link) (linkCount net))
-  where
-    links : net .links ≡ linkCount net
-    links = omega (arith, few-places net t)
-
-    go : Dec (x .link < linkCount net) → letterTest (linkCount net) (getD (net .low) k 0) (getD (net .high) k 0) x ≡ letterHolds
-        (networkOf net) x
-    go (yes h) =
-        subst⁻¹ (λ (i : ℕ). letterTest (linkCount net) (getD (net .low) i 0) (getD (net .high) i 0) x ≡ letterHolds (networkOf net) x) same
-        (letter-is net x h)
-      where
-        same : k ≡ x .link
-        same = omega arith
-    go (no h) = letter-past net x (getD (net .low) k 0) (getD (net .high) k 0) (omega arith)
-
--- ---- an unused place, as one number
-pub sum-zero : (a b : ℕ) (c : Bool) → eqb b 0 ≡ c → eqb (a + b) 0 ≡ (eqb a 0 && c)
+-- ---- an unused place of the letters, as one number
+sum-zero : (a b : ℕ) (c : Bool) → eqb b 0 ≡ c → eqb (a + b) 0 ≡ (eqb a 0 && c)
 sum-zero a b c e = go (ℕ-discrete a 0) (ℕ-discrete b 0) ∙ ap (λ (x : Bool). eqb a 0 && x) e
   where
     go : Dec (a ≡ 0) → Dec (b ≡ 0) → eqb (a + b) 0 ≡ (eqb a 0 && eqb b 0)
@@ -87,95 +54,196 @@ word-zero l s t b e =
     sum-zero (l + s * 65536) (t * 4294967296) b (same-zero (t * 4294967296) t (λ p. omega arith) (λ p. omega arith) ∙ e)
     ∙ ap (λ (x : Bool). x && b) (sum-zero l (s * 65536) (eqb s 0) (same-zero (s * 65536) s (λ p. omega arith) (λ p. omega arith)))
 
+-- ---- the third loop: the places beyond the letters
 module _ (s : State) where
+  abbrev pub restAt : ℕ → ℕ → Bool
+  restAt used t = ltb t used || isNoLetter (letterIn s t)
+
+  pub record Resting (used rest j : ℕ) : Type 0 where
+    pub from : used ≤ j
+    pub within : j ≤ letterRoom
+    pub clean : eqb rest 0 ≡ every (restAt used) (below j)
+
+  pub resting-begins : (used : ℕ) → used ≤ letterRoom → Resting used 0 used
+  resting-begins used h =
+      record {
+        from = omega arith;
+        within = h;
+        clean = sym (T-is _ (at-below (restAt used) used (λ t l. or-left (ltb t used) _ (is-T _ (lt-ltb t used l)))));
+      }
+
+  pub resting-more : {used rest j : ℕ} → Resting used rest j → j < letterRoom → (w : ℕ) → eqb w 0 ≡ isNoLetter (letterIn s j)
+      → Resting used (bitOr rest w) (j + 1)
+  resting-more {used} {rest} {j} r h w e =
+      record {
+        from = omega arith;
+        within = omega arith;
+        clean = gather-more (restAt used) j _ _ (r .clean) (or-zero rest w ∙ ap (λ (b : Bool). eqb rest 0 && b)
+            (e ∙ sym (ap (λ (b : Bool). b || isNoLetter (letterIn s j)) (le-ltb j used (r .from)))));
+      }
+
+module _ (s : State) (owns : List ℕ) where
+  -- ---- the first loop: the stations
+  abbrev pub placedAt : ℕ → Bool
+  placedAt t = placeTest (s .net .links) (ltb t (s .net .stations)) (getD owns t 0) (stationIn s t)
+
+  pub record Placing (placed : Bool) (i : ℕ) : Type 0 where
+    pub within : i ≤ stationRoom
+    pub right : placed ≡ every placedAt (below i)
+    pub fits : (t : ℕ) → t < i → Fits (stationIn s t)
+
+  pub placing-begins : Placing true 0
+  placing-begins = record { within = omega arith; right = refl; fits = λ t h. absurd (never h) }
+    where
+      never : {t : ℕ} → t < 0 → ⊥
+      never h = omega arith
+
+  pub placing-more : {placed : Bool} {i : ℕ} → Placing placed i → i < stationRoom → (r b : Bool)
+      → (r ≡ placedAt i) × Fits (stationIn s i) → b ≡ (placed && r) → Placing b (i + 1)
+  placing-more {placed} {i} p h r b e d =
+      record {
+        within = omega arith;
+        right = gather-more placedAt i placed b (p .right) (d ∙ ap (λ (x : Bool). placed && x) (e .0));
+        fits = λ t l. go t l (ℕ-discrete i t);
+      }
+    where
+      go : (t : ℕ) → t < i + 1 → Dec (i ≡ t) → Fits (stationIn s t)
+      go t l (yes q) = subst (λ (k : ℕ). Fits (stationIn s k)) q (e .1)
+      go t l (no n) = p .fits t (omega arith)
+
+  -- ---- the second: the letters in flight
+  abbrev pub ownedAt : ℕ → Bool
+  ownedAt t = inWord (getD owns (letterIn s t .sender % stationRoom) 0) (letterIn s t .link % linkRoom)
+
+  abbrev pub toldAt : ℕ → Bool
+  toldAt t = leb (pastSubject (letterIn s t .body)) (s .net .links)
+
+  pub record Gathering (used ways ended most least j : ℕ) : Type 0 where
+    pub within : j ≤ used
+    pub rooms : inRooms ways ≡ every (λ t. wayTest (letterIn s t)) (below j)
+    pub ends : inWord ended 0 ≡ every ownedAt (below j)
+    pub told : leb most (s .net .links) ≡ every toldAt (below j)
+    pub counts : leb 1 least ≡ every (λ t. counterHolds (letterIn s t .body)) (below j)
+
+  pub gathering-begins : (used : ℕ) → Gathering used 0 1 0 1 0
+  gathering-begins used =
+      record { within = omega arith; rooms = refl; ends = refl; told = le-leb 0 (s .net .links) (omega arith); counts = refl }
+
+  pub gathering-more : {used ways ended most least j : ℕ} → Gathering used ways ended most least j → j < used → (w e m l p c : ℕ)
+      → inRooms w ≡ (inRooms ways && wayTest (letterIn s j)) → inWord e 0 ≡ (inWord ended 0 && ownedAt j)
+      → p ≡ pastSubject (letterIn s j .body) → m ≡ max most p
+      → leb 1 c ≡ counterHolds (letterIn s j .body) → l ≡ min least c
+      → Gathering used w e m l (j + 1)
+  gathering-more {used} {ways} {ended} {most} {least} {j} g h w e m l p c ew ee ep em ec el =
+      record {
+        within = omega arith;
+        rooms = gather-more (λ t. wayTest (letterIn s t)) j _ _ (g .rooms) ew;
+        ends = gather-more ownedAt j _ _ (g .ends) ee;
+        told = gather-more toldAt j _ _ (g .told) (ap (λ (n : ℕ). leb n (s .net .links)) em ∙ most-more most p (s .net .links)
+            ∙ ap (λ (n : ℕ). leb most (s .net .links) && leb n (s .net .links)) ep);
+        counts = gather-more (λ t. counterHolds (letterIn s t .body)) j _ _ (g .counts) (ap (leb 1) el ∙ least-more least c 1
+            ∙ ap (λ (b : Bool). leb 1 least && b) ec);
+      }
+
+  -- ---- all is seen
   abbrev frame : Bool
   frame = netHolds (s .net) && leb (s .flying) letterRoom
 
-  abbrev pub StationSeen : ℕ → Type 0
-  StationSeen t = (stationPlace (s .net) t (stationIn s t) ≡ true) × Fits (stationIn s t)
-
-  abbrev pub LetterSeen : ℕ → Type 0
-  LetterSeen t = letterHolds (networkOf (s .net)) (letterIn s t) ≡ true
-
-  -- ---- refused
-  pub refused : false ≡ stateHolds s → (false ≡ stateHolds s) × (false ≡ true → Sized s)
-  refused e = (e, λ q. absurd (never q))
-    where
-      never : false ≡ true → ⊥
-      never q = subst (λ (b : Bool). T (not b)) q tt
-
-  pub frame-bad : (r : Bool) → r ≡ frame → r ≡ false → false ≡ stateHolds s
-  unfolding stateHolds
-  frame-bad r e d = sym (ap (λ (b : Bool). b && (stationsHold s && lettersHold s)) (sym e ∙ d))
-
-  pub station-bad : (i : ℕ) → i < stationRoom → stationPlace (s .net) i (stationIn s i) ≡ false → false ≡ stateHolds s
-  unfolding stateHolds stationsHold
-  station-bad i h d =
-      sym (ap (λ (b : Bool). frame && (b && lettersHold s)) (all-fails (λ i. stationPlace (s .net) i (stationIn s i)) stationRoom i h d)
-      ∙ and-no frame)
-
-  letters-bad : (j : ℕ) → j < letterRoom → letterPlace (s .net) (s .flying) j (letterIn s j) ≡ false → false ≡ stateHolds s
-  unfolding stateHolds lettersHold
-  letters-bad j h d =
-      sym (ap (λ (b : Bool). frame && (stationsHold s && b))
-      (all-fails (λ j. letterPlace (s .net) (s .flying) j (letterIn s j)) letterRoom j h d)
-      ∙ ap (λ (b : Bool). frame && b) (and-no (stationsHold s)) ∙ and-no frame)
-
-  pub letter-bad : (j : ℕ) → j < s .flying → s .flying ≤ letterRoom → letterHolds (networkOf (s .net)) (letterIn s j) ≡ false
-      → false ≡ stateHolds s
-  letter-bad j h few d =
-      letters-bad j (omega arith) (ap (λ (b : Bool). if b then letterHolds (networkOf (s .net)) (letterIn s j) else isNoLetter
-      (letterIn s j)) (lt-ltb j (s .flying) h) ∙ d)
-
-  -- ---- the places beyond the letters
-  pub rest-none : true ≡ every (restAt s (s .flying)) (below (s .flying))
-  rest-none =
-      sym (T-is _ (at-below (restAt s (s .flying)) (s .flying) (λ t h. or-left (ltb t (s .flying)) _ (is-T _ (lt-ltb t (s .flying) h)))))
-
-  pub rest-more : (r clean : Bool) (j : ℕ) → s .flying ≤ j → clean ≡ every (restAt s (s .flying)) (below j)
-      → r ≡ (clean && isNoLetter (letterIn s j))
-      → r ≡ every (restAt s (s .flying)) (below (j + 1))
-  rest-more r clean j h e d =
-      d ∙ ap₂ (λ (a b : Bool). a && b) e (sym (ap (λ (b : Bool). (b || isNoLetter (letterIn s j)) && true) (le-ltb j (s .flying) h)
-      ∙ and-yes (isNoLetter (letterIn s j))))
-      ∙ sym (ap (every (restAt s (s .flying))) (below-snoc j) ∙ every-append (restAt s (s .flying)) (below j) (j ∷ []))
-
-  -- ---- all is seen
-  module _ (clean : Bool) (n : T frame) (f : (t : ℕ) → t < stationRoom → StationSeen t) (g : (t : ℕ) → t < s .flying → LetterSeen t)
-      (e : clean ≡ every (restAt s (s .flying)) (below letterRoom)) where
-    rest-is : clean ≡ lettersHold s
-    unfolding lettersHold
-    rest-is =
-        e ∙ same-test (every (restAt s (s .flying)) (below letterRoom))
-        (every (λ j. letterPlace (s .net) (s .flying) j (letterIn s j)) (below letterRoom))
-        (λ t. at-below (λ j. letterPlace (s .net) (s .flying) j (letterIn s j)) letterRoom
-        (λ k h. forth k (below-at (restAt s (s .flying)) letterRoom t k h) (decLt k (s .flying))))
-        (λ t. at-below (restAt s (s .flying)) letterRoom (λ k h. back k
-        (below-at (λ j. letterPlace (s .net) (s .flying) j (letterIn s j)) letterRoom t k h) (decLt k (s .flying))))
-      where
-        forth : (k : ℕ) → T (restAt s (s .flying) k) → Dec (k < s .flying) → T (letterPlace (s .net) (s .flying) k (letterIn s k))
-        forth k t (yes h) =
-            is-T _ (ap (λ (b : Bool). if b then letterHolds (networkOf (s .net)) (letterIn s k) else isNoLetter (letterIn s k))
-            (lt-ltb k (s .flying) h) ∙ g k h)
-        forth k t (no h) =
-            let d = le-ltb k (s .flying) (omega arith) in
-            subst⁻¹ (λ (b : Bool). T (if b then letterHolds (networkOf (s .net)) (letterIn s k) else isNoLetter (letterIn s k))) d
-            (subst (λ (b : Bool). T (b || isNoLetter (letterIn s k))) d t)
-
-        back : (k : ℕ) → T (letterPlace (s .net) (s .flying) k (letterIn s k)) → Dec (k < s .flying) → T (restAt s (s .flying) k)
-        back k t (yes h) = or-left (ltb k (s .flying)) _ (is-T _ (lt-ltb k (s .flying) h))
-        back k t (no h) =
-            let d = le-ltb k (s .flying) (omega arith) in
-            subst⁻¹ (λ (b : Bool). T (b || isNoLetter (letterIn s k))) d
-            (subst (λ (b : Bool). T (if b then letterHolds (networkOf (s .net)) (letterIn s k) else isNoLetter (letterIn s k))) d t)
-
-    stations-are : stationsHold s ≡ true
+  module _ (e : owns ≡ ownWords (s .net)) where
+    stations-are : {placed : Bool} {i : ℕ} → Placing placed i → i ≡ stationRoom → placed ≡ stationsHold s
     unfolding stationsHold
-    stations-are = T-is _ (at-below (λ i. stationPlace (s .net) i (stationIn s i)) stationRoom (λ k h. is-T _ (f k h .0)))
+    stations-are {placed} {i} p q =
+        p .right ∙ ap (λ (n : ℕ). every placedAt (below n)) q
+        ∙ every-same placedAt (λ t. stationPlace (s .net) t (stationIn s t)) stationRoom
+        (λ t h. place-is (s .net) t (stationIn s t) (getD owns t 0) (p .fits t (omega arith))
+        (ap (λ (w : List ℕ). getD w t 0) e ∙ own-word (s .net) t h))
 
-    pub all-seen : clean ≡ stateHolds s
+    module _ (t : T frame) where
+      carried-are : {ways ended most least j : ℕ} → Gathering (s .flying) ways ended most least j → j ≡ s .flying
+          → gatheredHold (s .net .links) ways ended most least ≡ every (λ k. letterHolds (networkOf (s .net)) (letterIn s k)) (below (s .flying))
+      carried-are {ways} {ended} {most} {least} {j} g q =
+          ap₂ (λ (a b : Bool). ((a && b) && leb most (s .net .links)) && leb 1 least) (g .rooms) (g .ends)
+          ∙ ap₂ (λ (a b : Bool). ((every (λ t. wayTest (letterIn s t)) (below j) && every ownedAt (below j)) && a) && b) (g .told) (g .counts)
+          ∙ ap (λ (b : Bool). (b && every toldAt (below j)) && every (λ t. counterHolds (letterIn s t .body)) (below j))
+          (gather-both (λ t. wayTest (letterIn s t)) ownedAt j)
+          ∙ ap (λ (b : Bool). b && every (λ t. counterHolds (letterIn s t .body)) (below j))
+          (gather-both (λ t. wayTest (letterIn s t) && ownedAt t) toldAt j)
+          ∙ gather-both (λ t. (wayTest (letterIn s t) && ownedAt t) && toldAt t) (λ t. counterHolds (letterIn s t .body)) j
+          ∙ ap (λ (n : ℕ). every one (below n)) q
+          ∙ every-same one (λ k. letterHolds (networkOf (s .net)) (letterIn s k)) (s .flying)
+          (λ k h. letter-seen (s .net) (letterIn s k) (and-l (netHolds (s .net)) _ t) owns e)
+        where
+          one : ℕ → Bool
+          one k = letterTest (s .net .links) (getD owns (letterIn s k .sender % stationRoom) 0) (letterIn s k)
+
+      abbrev letterAt : ℕ → Bool
+      letterAt j = letterPlace (s .net) (s .flying) j (letterIn s j)
+
+      abbrev flies : ℕ → Bool
+      flies k = letterHolds (networkOf (s .net)) (letterIn s k)
+
+      few : s .flying ≤ letterRoom
+      few = leb→le (s .flying) letterRoom (and-r (netHolds (s .net)) _ t)
+
+      letters-are : (every flies (below (s .flying)) && every (restAt s (s .flying)) (below letterRoom)) ≡ lettersHold s
+      unfolding lettersHold
+      letters-are =
+          same-test (every flies (below (s .flying)) && every (restAt s (s .flying)) (below letterRoom)) (every letterAt (below letterRoom))
+          (λ u. at-below letterAt letterRoom (λ k h. forth k (and-l (every flies (below (s .flying))) _ u)
+          (below-at (restAt s (s .flying)) letterRoom (and-r (every flies (below (s .flying))) _ u) k h) (decLt k (s .flying))))
+          (λ u. and-i (every flies (below (s .flying))) _
+          (at-below flies (s .flying) (λ k h. subst (λ (b : Bool). T (if b then flies k else isNoLetter (letterIn s k))) (lt-ltb k (s .flying) h)
+          (below-at letterAt letterRoom u k (omega (arith, few)))))
+          (at-below (restAt s (s .flying)) letterRoom (λ k h. back k (below-at letterAt letterRoom u k h) (decLt k (s .flying)))))
+        where
+          forth : (k : ℕ) → T (every flies (below (s .flying))) → T (restAt s (s .flying) k) → Dec (k < s .flying) → T (letterAt k)
+          forth k f r (yes h) =
+              subst⁻¹ (λ (b : Bool). T (if b then flies k else isNoLetter (letterIn s k))) (lt-ltb k (s .flying) h)
+              (below-at flies (s .flying) f k h)
+          forth k f r (no h) =
+              let d = le-ltb k (s .flying) (omega arith) in
+              subst⁻¹ (λ (b : Bool). T (if b then flies k else isNoLetter (letterIn s k))) d
+              (subst (λ (b : Bool). T (b || isNoLetter (letterIn s k))) d r)
+
+          back : (k : ℕ) → T (letterAt k) → Dec (k < s .flying) → T (restAt s (s .flying) k)
+          back k u (yes h) = or-left (ltb k (s .flying)) _ (is-T _ (lt-ltb k (s .flying) h))
+          back k u (no h) =
+              let d = le-ltb k (s .flying) (omega arith) in
+              subst⁻¹ (λ (b : Bool). T (b || isNoLetter (letterIn s k))) d
+              (subst (λ (b : Bool). T (if b then flies k else isNoLetter (letterIn s k))) d u)
+
+    pub all-seen : {placed : Bool} {i used ways ended most least j rest k : ℕ} (framed carried r : Bool) → framed ≡ frame
+        → used ≡ min (s .flying) letterRoom → Placing placed i → stationRoom ≤ i → Gathering used ways ended most least j → used ≤ j
+        → Resting s used rest k → letterRoom ≤ k → carried ≡ gatheredHold (s .net .links) ways ended most least
+        → r ≡ ((framed && placed) && (carried && eqb rest 0)) → r ≡ stateHolds s
     unfolding stateHolds
-    all-seen = rest-is ∙ sym (ap₂ (λ (a b : Bool). a && (b && lettersHold s)) (T-is frame n) stations-are)
+    all-seen {placed} {i} {used} {ways} {ended} {most} {least} {j} {rest} {k} framed carried r ef eu p hi g hj q hk ec er =
+        er ∙ sym (and-assoc framed placed (carried && eqb rest 0)) ∙ go framed ef
+      where
+        go : (x : Bool) → x ≡ frame → (x && (placed && (carried && eqb rest 0))) ≡ (frame && (stationsHold s && lettersHold s))
+        go false d = ap (λ (b : Bool). b && (stationsHold s && lettersHold s)) d
+        go true d =
+            ap₂ (λ (a b : Bool). a && b) (stations-are p at-all)
+            (ap₂ (λ (a b : Bool). a && b) (ec ∙ carried-are t (subst (λ (n : ℕ). Gathering n ways ended most least j) all g) at-last)
+            (q .clean ∙ ap₂ (λ (m n : ℕ). every (restAt s m) (below n)) all at-end) ∙ letters-are t)
+            ∙ ap (λ (b : Bool). b && (stationsHold s && lettersHold s)) d
+          where
+            t : T frame
+            t = is-T frame (sym d)
 
-    pub seen-sized : Ends64 (s .net) → length (s .stations) ≡ stationRoom → length (s .letters) ≡ letterRoom → clean ≡ true → Sized s
-    seen-sized n a b q = record { ends = n; stations = a; letters = b; each = λ i h. f i h .1 }
+            all : used ≡ s .flying
+            all = omega (arith, few t)
+
+            at-all : i ≡ stationRoom
+            at-all = omega (arith, p .within)
+
+            at-last : j ≡ s .flying
+            at-last = omega (arith, g .within, few t)
+
+            at-end : k ≡ letterRoom
+            at-end = omega (arith, q .within)
+
+  -- what the type says, told along
+  pub seen-sized : {placed : Bool} {i : ℕ} → Placing placed i → stationRoom ≤ i → Ends64 (s .net) → length (s .stations) ≡ stationRoom
+      → length (s .letters) ≡ letterRoom → Sized s
+  seen-sized p h n a b = record { ends = n; stations = a; letters = b; each = λ t l. p .fits t (omega (arith, p .within)) }

@@ -1,7 +1,7 @@
 -- What a state value means, and which of them are well formed: the used places say what the world is, and unused ones are zero.
 -- That a well-formed one is determined by its meaning: proofs/Meaning.antt.
 use Prim.Native.Nat.{ℕ, _^_, _<_}
-use mathlib.Core.Bool.{Bool, true, false, _&&_}
+use mathlib.Core.Bool.{Bool, true, false, _&&_, _||_}
 use mathlib.Core.Path.{_≡_}
 use mathlib.Core.List.{[], map}
 use lib.Dec.{leb, ltb}
@@ -21,7 +21,7 @@ use Rattle.station.specs.declared.Station.{Station}
 use Rattle.station.specs.declared.Condition.the-variants.{Down}
 use Rattle.station.specs.Holding.{isDown}
 use Rattle.station.specs.Values.{holdingOf, laid, blank, noWords}
-use Rattle.state_rules.specs.Formed.{stationFormed}
+use Rattle.state_rules.specs.Formed.{stationFormed, stationTest}
 use Rattle.world.specs.World.{World, noLetter}
 use Rattle.state.specs.declared.State.{State}
 
@@ -74,6 +74,10 @@ isNoLetter x = isZero (x .link) && isZero (x .sender) && isRequest (x .body)
 -- a station that is there holds what it may, with its own unused room zero; a place beyond the stations is zero
 abbrev pub stationPlace : Net → ℕ → Station → Bool
 stationPlace net i st = if ltb i (net .stations) then stationFormed net i st else isBlank st
+
+-- the same as the code asks, with the links of the network and the station's own: an unused place is a down station without links
+abbrev pub placeTest : ℕ → Bool → ℕ → Station → Bool
+placeTest links used own st = (used || isDown (st .condition)) && stationTest (if used then links else 0) own st
 
 -- a letter in flight may travel; a place beyond them is zero
 abbrev pub letterPlace : Net → ℕ → ℕ → Letter → Bool

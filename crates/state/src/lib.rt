@@ -1,12 +1,12 @@
 // The whole network as one value: what every station holds and the letters in flight, and its test (11).
-// An inner door: the calls are in docs/CALLS.md.
+// Inner doors: the calls are in docs/CALLS.md.
 ghost use mathlib.Core.Path.{_≡_};
-ghost use mathlib.Core.Bool.{true, _&&_};
-ghost use Prim.Native.Nat.{min, _≤_, _<_};
+ghost use mathlib.Core.Bool.{true, _&&_, _||_};
+ghost use Prim.Native.Nat.{min, _≤_};
 ghost use lib.Dec.{leb, eqb};
+ghost use Rattle.lists.specs.Lists.{if_then_else_};
 ghost use Rattle.sheet_rules.specs.Values.{netHolds};
-ghost use Rattle.station.specs.Holding.{isDown};
-ghost use Rattle.state.specs.State.{isRequest, isBlank, isNoLetter, noWord, stationPlace, stateHolds, Fits, Sized};
+ghost use Rattle.state.specs.State.{isRequest, isNoLetter, placeTest, stateHolds, Fits, Sized};
 ghost use Rattle.net.specs.Values.{networkOf};
 ghost use Rattle.station.specs.Acts.{stopAct};
 ghost use Rattle.station.specs.Done.{doneBy};
@@ -21,7 +21,6 @@ use net::LETTER_ROOM;
 use net::LINK_ROOM;
 use net::Letter;
 use net::MOST_LETTERS;
-use net::MOST_LINKS;
 use net::MOST_STATIONS;
 use net::Net;
 use net::STATION_ROOM;
@@ -38,39 +37,30 @@ pub struct State {
 
 // ---- the test
 
-fn no_words(w: Words) -> bool
-    ensures { λ r. ⌜ r ≡ noWord w ⌝ }
+// As many links as concern a place of the stations: an unused one has none.
+fn either(a: bool, b: bool) -> bool
+    ensures { λ r. ⌜ r ≡ (a || b) ⌝ }
 {
-    let early = sets::both(sets::both(w.token == 0, w.turn == 0), w.testing == 0);
-    sets::both(sets::both(early, w.asked == 0), w.quiet == 0)
+    if a { true } else { b }
 }
 
-// Whether an unused place of the stations is zero.
-fn is_blank(st: Station) -> bool
-    ensures { λ r. ⌜ r ≡ isBlank st ⌝ }
+fn links_there(used: bool, links: u8) -> u8
+    ensures { λ r. ⌜ r ≡ (if used then links else 0) ⌝ }
+{
+    if used { links } else { 0 }
+}
+
+// Whether a place of the stations is right: an unused one is down, with no mark and no counter, as a station without links.
+// What the type says of the station is told along: the network's step needs it of every station of a state.
+// Promise: equals `State.placeTest`: a station that is there, well formed by these links and own links; else an unused place, zero. And what
+// the type itself says of the station.
+pub fn station_place(links: u8, used: bool, own: u64, st: Station) -> bool
+    ensures { λ r. ⌜ (r ≡ placeTest links used own st) × Fits st ⌝ }
 {
     let condition = st.condition;
-    if !sets::both(station_kinds::is_down(condition), no_words(st.marks)) {
-        return false;
-    }
-    for k in 0..MOST_LINKS {
-        let i = k as usize;
-        if st.counters[i] != 0 {
-            return false;
-        }
-    }
-    true
-}
-
-// Whether a place of the stations is right. What the type says of the station is told along: the network's step needs it of
-// every station of a state.
-fn station_place(net: Net, i: u8, st: Station) -> bool
-    ensures { λ r. ⌜ (r ≡ stationPlace net i st) × Fits st ⌝ }
-{
-    if i < net.stations {
-        return state_rules::station_formed(net, i, st);
-    }
-    is_blank(st)
+    let stands = either(used, station_kinds::is_down(condition));
+    let there = links_there(used, links);
+    sets::both(stands, state_rules::station_formed(there, own, st))
 }
 
 // 0 of a request, which an unused place holds, and of nothing else.
@@ -85,26 +75,50 @@ fn tag_of(b: Body) -> u64
 }
 
 // 0 of an unused place of the letters, and of nothing else. Its parts stand side by side as in memory, so that it is one load; the words of
-// all unused places are added up with no jump between them.
-fn word_of(x: Letter) -> u64
-    ensures { λ r. ⌜ (eqb r 0 ≡ isNoLetter x) × (r < 17179869184) ⌝ }
+// all unused places are joined with no jump between them.
+// Promise: 0 where the letter is that of an unused place (`State.isNoLetter`), and nowhere else.
+pub fn word_of(x: Letter) -> u64
+    ensures { λ r. ⌜ eqb r 0 ≡ isNoLetter x ⌝ }
 {
     let body = x.body;
     x.link as u64 + x.sender as u64 * 65536 + tag_of(body) * 4294967296
 }
 
-// A place of the links' room, whatever the number.
-fn in_room(link: u16) -> usize
-    ensures { λ r. ⌜ r ≡ min link 63 ⌝ }
-{
-    if link < 63 { link as usize } else { 63 }
-}
-
 // Whether the network is good and no more letters are in flight than there is room for.
-fn frame_holds(net: Net, flying: u16) -> bool
+// Promise: the network keeps the sheet rules (`Values.netHolds`), and at most 4,096 letters are in flight.
+pub fn frame_holds(net: Net, flying: u16) -> bool
     ensures { λ r. ⌜ r ≡ (netHolds net && leb flying letterRoom) ⌝ }
 {
     sets::both(sheet_rules::keeps_sheet_rules(net), flying <= MOST_LETTERS)
+}
+
+// As many letters as there is room for.
+// Promise: the smaller of the two.
+pub fn few(flying: u16) -> u16
+    ensures { λ r. ⌜ r ≡ min flying letterRoom ⌝ }
+{
+    if flying < MOST_LETTERS {
+        flying
+    } else {
+        MOST_LETTERS
+    }
+}
+
+// Whether all that was seen of a state is right: its frame, its stations, its letters in flight and the places beyond them.
+// Promise: all four tests pass.
+pub fn all_hold(framed: bool, placed: bool, carried: bool, rest: u64) -> bool
+    ensures { λ r. ⌜ r ≡ ((framed && placed) && (carried && eqb rest 0)) ⌝ }
+{
+    if !framed {
+        return false;
+    }
+    if !placed {
+        return false;
+    }
+    if !carried {
+        return false;
+    }
+    rest == 0
 }
 
 // Whether the state is well formed. Where not, a call that is given it refuses with 11.
@@ -115,31 +129,38 @@ pub fn well_formed(s: State) -> bool
 {
     let net = s.net;
     let flying = s.flying;
-    if !frame_holds(net, flying) {
-        return false;
-    }
+    let framed = frame_holds(net, flying);
+    let owns = marks::own_words(net);
+    let mut placed = true;
     for i in 0..MOST_STATIONS {
         let at = i as usize;
         let st = s.stations[at];
-        if !station_place(net, i, st) {
-            return false;
-        }
+        let right = station_place(net.links, i < net.stations, owns[at], st);
+        placed = sets::both(placed, right);
     }
-    for j in 0..flying {
+    let used = few(flying);
+    let mut ways: u64 = 0;
+    let mut ended: u64 = 1;
+    let mut most: u16 = 0;
+    let mut least: u16 = 1;
+    for j in 0..used {
         let at = j as usize;
         let x = s.letters[at];
-        let k = in_room(x.link);
-        if !state_rules::letter_formed(net.links, net.low[k], net.high[k], x) {
-            return false;
-        }
+        let body = x.body;
+        let k = x.sender as usize % STATION_ROOM;
+        ways = state_rules::joined_ways(ways, x.link, x.sender);
+        ended = state_rules::still_ended(ended, owns[k], x.link);
+        most = state_rules::larger(most, state_rules::past_subject(body));
+        least = state_rules::smaller(least, state_rules::counter_said(body));
     }
     let mut rest: u64 = 0;
-    for j in flying..MOST_LETTERS {
+    for j in used..MOST_LETTERS {
         let at = j as usize;
         let x = s.letters[at];
-        rest += word_of(x);
+        rest = rest | word_of(x);
     }
-    rest == 0
+    let carried = state_rules::letters_formed(net.links, ways, ended, most, least);
+    all_hold(framed, placed, carried, rest)
 }
 
 // ---- The state right after a sheet is read: every station down, no letter in flight.

@@ -5,14 +5,14 @@ use mathlib.Core.Path.{_≡_, refl, sym, ap, ap₂, _∙_, subst, subst⁻¹}
 use mathlib.Core.List.{List}
 use native.Mathlib.Decide.{decLt}
 use native.Mathlib.Omega.{arith}
-use lib.Dec.{T, eqb, ltb, eqb→eq}
+use lib.Dec.{T, eqb, ltb}
 use lib.ListN.{length, getD, drop, length-drop}
 use lib.Seq.{getD-drop, length-take-le}
 use borrow.Author.Tests.{lt-ltb, le-ltb}
 use Rattle.lists.specs.Lists.{every, from, below}
 use Rattle.lists.specs.Words.{inWord}
-use Rattle.lists.proofs.Tests.{and-l, and-r, and-i, and-no, and-yes, same-test, every-at, at-every}
-use Rattle.lists.proofs.Numbers.{every-from, from-every, length-map-below, all-fails}
+use Rattle.lists.proofs.Tests.{and-l, and-r, and-i, same-test, every-at, at-every}
+use Rattle.lists.proofs.Numbers.{every-from, from-every, length-map-below}
 use Rattle.net.specs.declared.Net.{Net}
 use Rattle.net.specs.Network.{isEnd}
 use Rattle.net.specs.Letters.{isCounter}
@@ -32,24 +32,9 @@ use Rattle.station.specs.Values.{holdingOf}
 use Rattle.station.proofs.Slots.{rule}
 use Rattle.station.proofs.Laid.{mark-of, marks-of, table-of, condition-of}
 use Rattle.station.proofs.HoldingLaws.{Formed, formed, holds}
-use Rattle.state_rules.specs.Formed.{stationFormed}
+use Rattle.state_rules.specs.Formed.{stationFormed, stationTest}
 use Rattle.state_rules.specs.Steps.{everyPlace, counterTest, conditionMarks, marksTest}
 use Rattle.state_rules.proofs.PlaceLaws.{place-at, at-place, places-same, in-of}
-
--- ---- one place of the counters, in the order in which the code asks
-module _ (there live : Bool) (c : ℕ) where
-  pub counter-none : there ≡ false → eqb c 0 ≡ counterTest there live c
-  counter-none e = simp e
-
-  pub counter-live : (r : Bool) → there ≡ true → live ≡ true → r ≡ isCounter c → r ≡ counterTest there live c
-  counter-live r e l p = p ∙ sym (and-yes (isCounter c)) ∙ simp (e, l)
-
-  pub counter-one : there ≡ true → live ≡ false → eqb c 1 ≡ counterTest there live c
-  counter-one e l =
-      same-test (eqb c 1) (isCounter c && (false || eqb c 1))
-      (λ t. and-i (isCounter c) _ (subst⁻¹ (λ (x : ℕ). T (isCounter x)) (eqb→eq c 1 t) tt) t)
-      (λ t. and-r (isCounter c) _ t)
-      ∙ simp (e, l)
 
 -- ---- one link: the slot's test is that of the counter and that of the marks
 abbrev linkCounter : Condition → ℕ → Bool
@@ -223,29 +208,10 @@ module _ (net : Net) (s : ℕ) (st : Station) where
         (λ t. forth (and-l (everyPlace ownMarks) _ t) (and-r (everyPlace ownMarks) _ t))
         (λ t. and-i (everyPlace ownMarks) _ (back t .0) (back t .1))
 
-    -- ---- the code's answers
-    module _ (own : ℕ) (r : Bool) (e : own ≡ wordBy (ownAt net s)) (d : r ≡ everyPlace (marksPlace own)) where
-      marks-read : r ≡ everyPlace ownMarks
-      marks-read =
-          d ∙ places-same (marksPlace own) ownMarks
-          (λ t h. ap (λ (b : Bool). marksTest (st .condition) b (marksAt (st .marks) t)) (in-of own (ownAt net s) e t h))
-
-      pub mismarked : r ≡ false → false ≡ stationFormed net s st
-      mismarked q = ap (λ (b : Bool). b && everyPlace ownCounter) (sym q ∙ marks-read) ∙ parts
-
-      module _ (m : ℕ) (live : Bool) (em : m ≡ linkCount net) (el : live ≡ isLive (st .condition)) where
-        pub miscounted : (k : ℕ) → k < linkRoom → counterPlace m live k ≡ false → false ≡ stationFormed net s st
-        unfolding everyPlace
-        miscounted k h q =
-            sym (and-no (everyPlace ownMarks))
-            ∙ ap (λ (b : Bool). everyPlace ownMarks && b)
-            (sym (all-fails ownCounter linkRoom k h (ap₂ (λ (n : ℕ) (b : Bool). counterPlace n b k) (sym em) (sym el) ∙ q)))
-            ∙ parts
-
-        pub well-formed : (k : ℕ) → k ≡ linkRoom → r ≡ true → every (counterPlace m live) (below k) ≡ true → true ≡ stationFormed net s st
-        unfolding everyPlace
-        well-formed k n q c =
-            ap₂ (λ (a b : Bool). a && b) (sym q ∙ marks-read)
-            (sym c ∙ ap (λ (x : ℕ). every (counterPlace m live) (below x)) n
-            ∙ ap₂ (λ (n : ℕ) (b : Bool). every (counterPlace n b) (below linkRoom)) em el)
-            ∙ parts
+    -- by its own links it is the code's test
+    pub test-is : (own : ℕ) → own ≡ wordBy (ownAt net s) → stationTest (net .links) own st ≡ stationFormed net s st
+    unfolding stationTest
+    test-is own e =
+        ap (λ (b : Bool). b && everyPlace ownCounter) (places-same (marksPlace own) ownMarks
+        (λ t h. ap (λ (b : Bool). marksTest (st .condition) b (marksAt (st .marks) t)) (in-of own (ownAt net s) e t h)))
+        ∙ parts

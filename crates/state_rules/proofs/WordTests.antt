@@ -7,7 +7,7 @@ use lib.Dec.{T, eqb}
 use Rattle.lists.specs.Words.{inWord}
 use Rattle.lists.proofs.Tests.{same-test}
 use Rattle.sets.specs.Sets.{wordBy}
-use Rattle.sets.proofs.WordLaws.{by-same}
+use Rattle.sets.proofs.WordLaws.{by-ext, by-same}
 use Rattle.marks.specs.declared.Marks.{Marks}
 use Rattle.marks.specs.declared.Words.{Words}
 use Rattle.marks.specs.Marks.{marksAt}
@@ -139,3 +139,24 @@ module _ (w : Words) where
         ∙ places-both (λ t. (testsApart t && askedTests t) && tokenApart t) marksOwn
         ∙ places-same (λ t. liveTest (inWord own t) (marksAt w t)) (λ t. marksTest Live (inWord own t) (marksAt w t))
         (λ t h. live-marks (inWord own t) (marksAt w t))
+
+-- ---- no mark at all: each word is zero
+abbrev noMarks : Marks → Bool
+noMarks m = (((not (m .token) && not (m .turn)) && not (m .testing)) && not (m .asked)) && not (m .quiet)
+
+no-marks : (own : Bool) (m : Marks) → noMarks m ≡ marksTest Down own m
+no-marks true m = marks-same noMarks (marksTest Down true) tt tt m
+no-marks false m = marks-same noMarks (marksTest Down false) tt tt m
+
+zero-places : (w : ℕ) → w < 2 ^ 64 → eqb w 0 ≡ everyPlace (λ t. not (inWord w t))
+zero-places w l = none-places w (inWord w) (by-ext w (inWord w) l (λ t h. refl))
+
+pub none-is : (w : Words) (own : ℕ) → w .token < 2 ^ 64 → w .turn < 2 ^ 64 → w .testing < 2 ^ 64 → w .asked < 2 ^ 64 → w .quiet < 2 ^ 64
+    → ((((eqb (w .token) 0 && eqb (w .turn) 0) && eqb (w .testing) 0) && eqb (w .asked) 0) && eqb (w .quiet) 0)
+    ≡ everyPlace (λ t. marksTest Down (inWord own t) (marksAt w t))
+none-is w own a b c d e =
+    ap₂ (λ (x y : Bool). x && y) (ap₂ (λ (x y : Bool). x && y) (ap₂ (λ (x y : Bool). x && y)
+    (ap₂ (λ (x y : Bool). x && y) (zero-places (w .token) a) (zero-places (w .turn) b) ∙ places-both _ _) (zero-places (w .testing) c)
+    ∙ places-both _ _) (zero-places (w .asked) d) ∙ places-both _ _) (zero-places (w .quiet) e)
+    ∙ places-both _ _
+    ∙ places-same _ (λ t. marksTest Down (inWord own t) (marksAt w t)) (λ t h. no-marks (inWord own t) (marksAt w t))

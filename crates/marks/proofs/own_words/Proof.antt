@@ -1,45 +1,49 @@
-use Prim.Native.Nat.{ℕ, _-_, _≤_}
-use mathlib.Core.Path.{_≡_, refl, sym, ap, _∙_}
-use mathlib.Core.List.{List, map, append-nil, _++_}
-use native.Mathlib.Omega.{arith}
-use lib.ListN.{length, set, drop}
-use lib.Seq.{drop-length}
-use borrow.Author.Needs.{needs}
-use Rattle.lists.specs.Lists.{below, filled}
-use Rattle.lists.proofs.Fill.{filled-more}
-use Rattle.net.specs.declared.Net.{Net}
-use Rattle.net.specs.Sizes.{stationRoom}
-use Rattle.sets.specs.Sets.{wordBy}
-use Rattle.marks.specs.Marks.{ownAt, ownWords}
 use Rattle.marks.proofs.own_words.Statement.{statement}
 use Rattle.marks.proofs.own_words.Tie as tie
-
--- the places that have been gone through are filled
-abbrev own : Net → ℕ → ℕ
-own net s = wordBy (ownAt net s)
+use Prim.Native.Nat.{ℕ, _≤_, _<_, _-_}
+use mathlib.Core.Bool.{Bool}
+use mathlib.Core.Logic.{⊎-elim}
+use mathlib.Core.Path.{_≡_, refl, _∙_}
+use native.Mathlib.Omega.{arith}
+use borrow.Author.Needs.{needs}
+use lib.ListN.{getD}
+use Rattle.net.specs.Network.{isEnd}
+use Rattle.net.specs.Values.{networkOf, linkCount}
+use Rattle.sets.specs.Sets.{upTo}
+use Rattle.marks.proofs.OnePass.{wordsAt, withEnd, ownsUpTo, pass-begun, pass-more, pass-ends, end-stored, end-beyond}
 
 abbrev Inv-loop : tie.InvT-loop
-Inv-loop net owns₀ i₀ owns i = (i ≤ stationRoom) × (owns ≡ filled (own net) owns₀ i)
+Inv-loop net links owns₀ k₀ owns k = (k ≤ links) × (owns ≡ ownsUpTo net k)
 
 abbrev μ-loop : tie.MeasureT-loop
-μ-loop net owns₀ i₀ owns i = stationRoom - i
+μ-loop net links owns₀ k₀ owns k = links - k
 
--- all places filled, nothing of the old room is left
-all : (net : Net) (old : List ℕ) (i : ℕ) → length old ≡ stationRoom → i ≡ stationRoom → filled (own net) old i ≡ ownWords net
-unfolding ownWords
-all net old i h e =
-    ap (filled (own net) old) e
-    ∙ ap (λ (l : List ℕ). map (own net) (below stationRoom) ++ l) (ap (λ (n : ℕ). drop n old) (sym h) ∙ drop-length old)
-    ∙ append-nil (map (own net) (below stationRoom))
+at-most-64-requires : tie.Need-at-most-64-requires Inv-loop μ-loop
+at-most-64-requires c κs = search needs
 
 loop-holds : tie.Need-loop-holds Inv-loop μ-loop
-loop-holds c = (omega arith, refl)
+loop-holds c = (omega arith, pass-begun _ _ refl)
+
+cast-i : tie.Need-cast-i Inv-loop μ-loop
+cast-i c = omega arith
+
+element-copy-out-low : tie.Need-element-copy-out-low Inv-loop μ-loop
+element-copy-out-low c = omega arith
+
+element-copy-out-high : tie.Need-element-copy-out-high Inv-loop μ-loop
+element-copy-out-high c = omega arith
 
 cast-at : tie.Need-cast-at Inv-loop μ-loop
 cast-at c = omega arith
 
-own-links-requires : tie.Need-own-links-requires Inv-loop μ-loop
-own-links-requires c κs = search needs
+mul-put : tie.Need-mul-put Inv-loop μ-loop
+mul-put c = omega arith
+
+array-read-put : tie.Need-array-read-put Inv-loop μ-loop
+array-read-put c = omega arith
+
+put-requires : tie.Need-put-requires Inv-loop μ-loop
+put-requires c κs = search needs
 
 mul-owns : tie.Need-mul-owns Inv-loop μ-loop
 mul-owns c = omega arith
@@ -47,22 +51,50 @@ mul-owns c = omega arith
 array-write-owns : tie.Need-array-write-owns Inv-loop μ-loop
 array-write-owns c = omega arith
 
-add-i : tie.Need-add-i Inv-loop μ-loop
-add-i c = omega arith
+cast-at-2 : tie.Need-cast-at-2 Inv-loop μ-loop
+cast-at-2 c = omega arith
+
+mul-put-2 : tie.Need-mul-put-2 Inv-loop μ-loop
+mul-put-2 c = omega arith
+
+array-read-put-2 : tie.Need-array-read-put-2 Inv-loop μ-loop
+array-read-put-2 c = omega arith
+
+put-requires-2 : tie.Need-put-requires-2 Inv-loop μ-loop
+put-requires-2 c κs = search needs
+
+mul-owns-2 : tie.Need-mul-owns-2 Inv-loop μ-loop
+mul-owns-2 c = omega arith
+
+array-write-owns-2 : tie.Need-array-write-owns-2 Inv-loop μ-loop
+array-write-owns-2 c = omega arith
+
+add-k : tie.Need-add-k Inv-loop μ-loop
+add-k c = omega arith
 
 loop-less : tie.Need-loop-less Inv-loop μ-loop
 loop-less c = omega arith
 
 loop-again : tie.Need-loop-again Inv-loop μ-loop
 loop-again c =
-    let l = c .before .before .loop in
-    let net = c .before .before .before .args .net in (
-      omega arith,
-      (λ j. set (l .inv .1 j) (l .i) (c .own-links .ensures j)) ∙ filled-more (own net) _ (l .i) (omega arith),
-    )
+    let l = c .before .before .before .before .before .loop in
+    let net = c .before .before .before .before .before .before .before .args .t1 in
+    let f : ℕ → ℕ → Bool = λ s. upTo (λ t. isEnd (networkOf net) t s) (l .k) in
+    let low = getD (net .low) (l .k) 0 in
+    let high = getD (net .high) (l .k) 0 in
+    let one : c .before .if1 .owns ≡ wordsAt (withEnd f (l .k) low) =
+    ⊎-elim (λ w. w .2 ∙ end-stored f (l .k) low _ _ (w .0 .taken) (l .inv .1) (w .1 .ensures))
+    (λ w. w .1 ∙ end-beyond f (l .k) low _ (w .0 .left) (l .inv .1)) (c .before .if1 .came) in
+    let two : c .if2 .owns ≡ wordsAt (withEnd (withEnd f (l .k) low) (l .k) high) =
+    ⊎-elim (λ w. w .2 ∙ end-stored (withEnd f (l .k) low) (l .k) high _ _ (w .0 .taken) one (w .1 .ensures))
+    (λ w. w .1 ∙ end-beyond (withEnd f (l .k) low) (l .k) high _ (w .0 .left) one) (c .if2 .came) in
+    let h : l .k < linkCount net = omega (arith, c .before .before .before .before .before .before .at-most-64 .ensures) in
+    (omega arith, two ∙ pass-more net (l .k) h)
 
 returns : tie.Need-returns Inv-loop μ-loop
-returns c = let l = c .before .loop in l .inv .1 ∙ all _ _ (l .i) refl (omega arith)
+returns c =
+    let e : c .before .loop .k ≡ linkCount (c .before .before .before .args .t1) = omega (arith, c .before .before .at-most-64 .ensures) in
+    pass-ends (c .before .before .before .args .t1) _ (c .before .loop .k) e (c .before .loop .inv .1)
 
 pub own-words-spec : {M : Type 1} → statement M
 own-words-spec =
@@ -70,12 +102,24 @@ own-words-spec =
     (tie.spec
     Inv-loop
     μ-loop
+    at-most-64-requires
     loop-holds
+    cast-i
+    element-copy-out-low
+    element-copy-out-high
     cast-at
-    own-links-requires
+    mul-put
+    array-read-put
+    put-requires
     mul-owns
     array-write-owns
-    add-i
+    cast-at-2
+    mul-put-2
+    array-read-put-2
+    put-requires-2
+    mul-owns-2
+    array-write-owns-2
+    add-k
     loop-less
     loop-again
     returns)

@@ -1,6 +1,8 @@
-use native.Mathlib.Omega.{arith}
+use Prim.Native.Nat.{ℕ}
+use mathlib.Core.Bool.{Bool, _&&_, _||_}
+use mathlib.Core.Path.{ap, ap₂, _∙_}
+use Rattle.state_rules.specs.Formed.{stationTest}
 use Rattle.state.specs.State.{Fits}
-use Rattle.state.proofs.Places.{place-used, place-unused}
 use borrow.Author.Needs.{needs}
 use Rattle.state.proofs.station_place.Statement.{statement}
 use Rattle.state.proofs.station_place.Tie as tie
@@ -16,22 +18,39 @@ fits c =
       quiet = search needs;
     }
 
+is-down-requires : tie.Need-is-down-requires
+is-down-requires c κs = search needs
+
+either-requires : tie.Need-either-requires
+either-requires c κs = search needs
+
+links-there-requires : tie.Need-links-there-requires
+links-there-requires c κs = search needs
+
 station-formed-requires : tie.Need-station-formed-requires
 station-formed-requires c κs = search needs
 
+both-requires : tie.Need-both-requires
+both-requires c κs = search needs
+
 returns : tie.Need-returns
 returns c =
-    let a = c .before .before .before .args in
-    (place-used (a .net) (a .i) (a .st) _ (c .before .if1 .taken) (c .station-formed .ensures), fits (c .before .before .before))
-
-is-blank-requires : tie.Need-is-blank-requires
-is-blank-requires c κs = search needs
-
-returns-2 : tie.Need-returns-2
-returns-2 c =
-    let a = c .before .before .before .args in
-    (place-unused (a .net) (a .i) (a .st) _ (c .before .if1 .left) (c .is-blank .ensures), fits (c .before .before .before))
+    let b = c .before .before .before .before .before in
+    let a = b .args in (
+      c .both .ensures
+          ∙ ap₂ (λ (x y : Bool). x && y)
+          (c .before .before .before .either .ensures ∙ ap (λ (x : Bool). a .used || x) (c .before .before .before .before .is-down .ensures))
+          (c .before .station-formed .ensures ∙ ap (λ (n : ℕ). stationTest n (a .own) (a .st)) (c .before .before .links-there .ensures)),
+      fits b,
+    )
 
 pub station-place-spec : {M : Type 1} → statement M
 station-place-spec =
-    tie.close (tie.spec station-formed-requires returns is-blank-requires returns-2)
+    tie.close
+    (tie.spec
+    is-down-requires
+    either-requires
+    links-there-requires
+    station-formed-requires
+    both-requires
+    returns)

@@ -1,4 +1,3 @@
-use native.Mathlib.Omega.{arith}
 use Rattle.state.proofs.Tested.{word-zero}
 use borrow.Author.Needs.{needs}
 use Rattle.state.proofs.word_of.Statement.{statement}
@@ -28,7 +27,7 @@ add-result-2 c = search needs
 returns : tie.Need-returns
 returns c =
     let a = c .before .before .before .args in
-    (word-zero (a .x .link) (a .x .sender) (c .tag-of .result) _ (c .tag-of .ensures .0), omega (arith, c .tag-of .ensures .1))
+    word-zero (a .x .link) (a .x .sender) (c .tag-of .result) _ (c .tag-of .ensures .0)
 
 pub word-of-spec : {M : Type 1} → statement M
 word-of-spec =
