@@ -1,12 +1,11 @@
 -- The list as the code fills it: one line's numbers, and the loop of `list_lines`, crate `console`'s law of feeding with nothing held.
 use Prim.Native.Nat.{ℕ, _+_, _-_, _*_, _/_, _≤_, _<_}
 use mathlib.Core.Bool.{true, false}
-use mathlib.Core.Path.{_≡_, refl, sym, ap, _∙_, subst}
-use mathlib.Core.List.{List, [], _∷_, _++_}
-use native.Mathlib.Decide.{ℕ-discrete}
+use mathlib.Core.Path.{_≡_, refl, subst}
+use mathlib.Core.List.{List, [], _∷_}
 use native.Mathlib.Omega.{arith}
-use lib.ListN.{length, take, drop, set, length-append}
-use borrow.Author.Tests.{lt-ltb, le-ltb, eq-eqb, ne-eqb}
+use lib.ListN.{length, take, drop, set}
+use borrow.Author.Tests.{lt-ltb, le-ltb}
 use Rattle.fields.specs.Output.{writingOutput}
 use Rattle.text.proofs.Chains.{stored-three}
 use Rattle.event_lines.specs.declared.Reading.{Reading}
@@ -14,11 +13,9 @@ use Rattle.event_lines.specs.declared.End.{End}
 use Rattle.event_lines.specs.Ends.{endFrom}
 use Rattle.event_lines.specs.Steps.{start, readOn, fed, lineEnd}
 use Rattle.console.specs.Outputs.{Counts, Put}
-use Rattle.console.specs.Feeding.{heldAfter, readAfter, textAfter}
 use Rattle.console.proofs.Puts.{put-done}
 use Rattle.console.proofs.Feeding as Feeding
-use Rattle.event_list.specs.declared.Listed.{Listed}
-use Rattle.event_list.specs.Lines.{threeOf, passes, lists, numbersIn, lineAfter, listing, listedBy}
+use Rattle.event_list.specs.Lines.{threeOf, passes, lists, listing, listedBy}
 
 -- ---- one line
 pub line-put : (said : List ℕ) (at : ℕ) (old : List ℕ) (kind a b : ℕ) → at + 3 ≤ length old → kind ∷ a ∷ b ∷ [] ≡ threeOf said

@@ -9,8 +9,8 @@ use Rattle.console.specs.Feeding.{readAfter, textAfter}
 use Rattle.event_list.specs.declared.Asked.{Asked}
 use Rattle.event_list.specs.declared.Listed.{Listed}
 
--- the numbers of a line that is given by what it says (crate `event_lines`, eventLine). A malformed one says 6 alone: its numbers are 0, and
--- there is no kind 0
+-- the numbers of a line that is given by what it says (crate `event_lines`, eventLine). A malformed one says 6 alone: its numbers are 0,
+-- and there is no kind 0
 abbrev pub threeOf : List ℕ → List ℕ
 threeOf said = getD said 1 0 ∷ getD said 2 0 ∷ getD said 3 0 ∷ []
 

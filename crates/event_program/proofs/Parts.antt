@@ -5,7 +5,6 @@ use mathlib.Core.Path.{_≡_, refl, sym, ap, ap₂, _∙_, subst⁻¹}
 use mathlib.Core.List.{List, [], _∷_, _++_, append-assoc, append-nil}
 use native.Mathlib.Decide.{decLe}
 use native.Mathlib.Omega.{arith}
-use lib.Dec.{ltb}
 use lib.ListN.{length, getD, take, drop, length-append, length-drop, take-append-drop}
 use lib.Seq.{take-at, drop-at, drop-drop, length-take-le}
 use borrow.Author.Tests.{le-ltb, lt-ltb}
@@ -24,14 +23,14 @@ use Rattle.backlog_rules.specs.declared.Answered.{Answered}
 use Rattle.backlog_rules.specs.Answers.{turns, tracing, answeredBy}
 use Rattle.backlog_rules.proofs.Threes.{three}
 use Rattle.backlog_rules.proofs.Tracing.{turns-long}
-use Rattle.console.specs.declared.Wrote.{Wrote}
 use Rattle.console.specs.Outputs.{Counts, Put, wroteBy}
 use Rattle.event_program.specs.declared.Ran.{Ran}
 use Rattle.event_program.specs.Events.{answerText}
 use Rattle.event_program.specs.Runs.{running, ranAs, ranBy, answersText, answersMost}
 
 -- the trace of a piece's lines is as long as their numbers
-pub trace-size : (s : State) (t : Tally) (r : Reading) (bytes : List ℕ) → length (turns s t (numbersIn r bytes)) ≡ length (numbersIn r bytes)
+pub trace-size : (s : State) (t : Tally) (r : Reading) (bytes : List ℕ)
+    → length (turns s t (numbersIn r bytes)) ≡ length (numbersIn r bytes)
 trace-size s t r bytes =
     let w = whole-events bytes r in
     turns-long (numbersIn r bytes) s t (w .count) (omega (arith, w .size)) (omega (arith, w .size)) ∙ sym (w .size)
@@ -127,7 +126,9 @@ module _ (s : State) (t : Tally) (r : Reading) (bytes list trace : List ℕ) whe
 
         -- where the call refuses, or does all
         pub ran-refused : (d .answer ≡ 0 → ⊥) → RanLines (ranAs (d .answer) 0 r (d .tally) (d .state)) list′ trace′
-        ran-refused q = subst⁻¹ (λ (w : Writing). RanBy w (ranAs (d .answer) 0 r (d .tally) (d .state))) is-running (go (ways s t (numbersIn r bytes) trace) (done .0) (done .1))
+        ran-refused q =
+            subst⁻¹ (λ (w : Writing). RanBy w (ranAs (d .answer) 0 r (d .tally) (d .state))) is-running
+            (go (ways s t (numbersIn r bytes) trace) (done .0) (done .1))
           where
             go : {w : Writing} → Ways s t (numbersIn r bytes) trace w → d ≡ answeredBy w s t (numbersIn r bytes)
                 → trace′ ≡ writingOutput w trace → RanBy w (ranAs (d .answer) 0 r (d .tally) (d .state))
@@ -136,7 +137,9 @@ module _ (s : State) (t : Tally) (r : Reading) (bytes list trace : List ℕ) whe
             go (whole h) e o = absurd (q (ap (λ (x : Answered). x .answer) e))
 
         pub ran-all : d .answer ≡ 0 → RanLines (ranAs 0 (l .size) (l .reading) (d .tally) (d .state)) list′ trace′
-        ran-all q = subst⁻¹ (λ (w : Writing). RanBy w (ranAs 0 (l .size) (l .reading) (d .tally) (d .state))) is-running (go (ways s t (numbersIn r bytes) trace) (done .0) (done .1))
+        ran-all q =
+            subst⁻¹ (λ (w : Writing). RanBy w (ranAs 0 (l .size) (l .reading) (d .tally) (d .state))) is-running
+            (go (ways s t (numbersIn r bytes) trace) (done .0) (done .1))
           where
             size : l .size ≡ length (turns s t (numbersIn r bytes))
             size = size-is ∙ sym (trace-size s t r bytes)

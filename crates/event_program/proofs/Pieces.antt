@@ -2,7 +2,7 @@
 -- way and in what is printed, as long as the state is well formed, and it stays so.
 use Prim.Native.Nat.{ℕ}
 use mathlib.Core.Bool.{Bool}
-use mathlib.Core.Path.{_≡_, refl, sym, ap, ap₂, _∙_, subst, subst⁻¹}
+use mathlib.Core.Path.{_≡_, refl, sym, ap, ap₂, _∙_, subst⁻¹}
 use mathlib.Core.List.{List, [], _∷_, _++_}
 use Rattle.lists.specs.Lists.{if_then_else_}
 use Rattle.lists.proofs.Tests.{T-is}

@@ -1,15 +1,14 @@
 -- THE EVENT PROGRAM: whatever the pieces that standard input comes in, its calls print, in all, exactly what document 01 says of the file
 -- and of the whole input.
 use Prim.Native.Nat.{ℕ}
-use mathlib.Core.Bool.{Bool, true}
+use mathlib.Core.Bool.{Bool}
 use mathlib.Core.Path.{_≡_, refl, sym, ap, ap₂, _∙_}
-use mathlib.Core.List.{List, [], _∷_, _++_, map}
+use mathlib.Core.List.{List, _++_, map}
 use native.Mathlib.Omega.{arith}
-use lib.Dec.{T, eqb}
+use lib.Dec.{T}
 use borrow.Author.Tests.{ne-eqb}
 use Rattle.lists.specs.Lists.{if_then_else_}
 use Rattle.lists.proofs.Tests.{T-is}
-use Rattle.tally.specs.Sums.{largest}
 use Rattle.event_lines.specs.Events.{eventLine}
 use Rattle.event_lines.specs.Split.{linesOf}
 use Rattle.event_lines.specs.Steps.{start, readOn, lineEnd}
@@ -22,9 +21,8 @@ use Rattle.sheet_rules.specs.Values.{netHolds}
 use Rattle.sheet.specs.Sheet.{Sheet, refused, sheet}
 use Rattle.sheet.specs.Values.{valueOf}
 use Rattle.sheet.proofs.ValueLaws.{value-means, value-holds, low-long, high-long}
-use Rattle.world.specs.World.{World, fresh}
+use Rattle.world.specs.World.{fresh}
 use Rattle.world.proofs.Keeps.{fresh-formed}
-use Rattle.state.specs.declared.State.{State}
 use Rattle.state.specs.State.{stateOf, Ends64}
 use Rattle.state.specs.declared.Begun.{Begun}
 use Rattle.state.proofs.LaidOut.{laid-sized, laid-holds}
@@ -38,13 +36,13 @@ use Rattle.console.proofs.Faults.{refusal-counts}
 use Rattle.console.proofs.Goods.{file-holds}
 use Rattle.event_lines.proofs.Begun.{not-first, byte-begins}
 use Rattle.event_program.specs.Stations.{stationsText}
-use Rattle.event_program.specs.Events.{Standing, noTally, begins, printed, doneAll, endText, outputBy, eventProgram}
+use Rattle.event_program.specs.Events.{noTally, begins, doneAll, outputBy, eventProgram}
 use Rattle.event_program.specs.declared.Ran.{Ran}
 use Rattle.event_program.specs.Runs.{ranAs, firstRan}
 use Rattle.event_program.specs.Calls.{runText, openedText, callsText}
 use Rattle.event_program.proofs.Desk.{Desk, deskOf, acted, spoken}
 use Rattle.event_program.proofs.Pieces.{whole-same}
-use Rattle.event_program.proofs.Worlds.{Carried, lines-print, Ends, lines-end, end-prints}
+use Rattle.event_program.proofs.Worlds.{Carried, lines-print, lines-end, end-prints}
 
 no-fits : Fits noTally
 no-fits = record { settled = omega arith; raised = omega arith; dropped = omega arith }

@@ -2,7 +2,7 @@
 -- of that world, and the stations' lines are those of its tables.
 use Prim.Native.Nat.{ℕ, zero, suc, _+_, _≤_, _<_}
 use mathlib.Core.Bool.{Bool, true}
-use mathlib.Core.Path.{_≡_, refl, sym, ap, ap₂, _∙_, subst, subst⁻¹}
+use mathlib.Core.Path.{_≡_, refl, sym, ap, ap₂, _∙_, subst⁻¹}
 use mathlib.Core.List.{List, [], _∷_, _++_}
 use native.Mathlib.Decide.{ℕ-discrete}
 use native.Mathlib.Omega.{arith}
@@ -136,6 +136,7 @@ module _ (v : Net) (w : World) (c : Carried v w) (t : Tally) (f : Fits t) (said 
   line-refused n p h =
       let z : refusal w ev ≡ 0 → ⊥ = λ q. h (sym p ∙ q) in
       let d = stepped-refused v w c (getD said 1 0) (getD said 2 0) (getD said 3 0) n p h in
+      let uncounted : talliedBy (Step.refusing n (stateOf v w)) t ≡ t = sym (refusal-counts-nothing (Step.refusing n (stateOf v w)) t h) in
       let world : next w ev ≡ w = step-refuses w ev z in
       let tally : tallyBy (accepted w ev) t (acceptedCounts w ev) ≡ t = ap (λ (x : Bool). tallyBy x t (acceptedCounts w ev))
       (is-refused w ev z) in
@@ -143,11 +144,11 @@ module _ (v : Net) (w : World) (c : Carried v w) (t : Tally) (f : Fits t) (said 
         carried = subst⁻¹ (Carried v) world c;
         fits = subst⁻¹ Fits tally f;
         acts =
-            ap (λ (x : Stepped). deskOf (x .state) (talliedBy x t)) d ∙ ap (deskOf (stateOf v w)) (sym (refusal-counts-nothing (Step.refusing n (stateOf v w)) t h))
+            ap (λ (x : Stepped). deskOf (x .state) (talliedBy x t)) d ∙ ap (deskOf (stateOf v w)) uncounted
             ∙ sym (ap₂ (λ (x : World) (u : Tally). deskOf (stateOf v x) u) world tally);
         says =
             ap (λ (x : Stepped). answerText (x .answer) (x .state .flying) (talliedBy x t .settled)) d
-            ∙ ap₂ (λ (k : ℕ) (u : Tally). answerText n k (u .settled)) (flying-is w) (sym (refusal-counts-nothing (Step.refusing n (stateOf v w)) t h))
+            ∙ ap₂ (λ (k : ℕ) (u : Tally). answerText n k (u .settled)) (flying-is w) uncounted
             ∙ sym (ap₂ (λ (x : World) (u : Tally). answerText (refusal w ev) (length (x .letters)) (u .settled)) world tally
             ∙ ap (λ (k : ℕ). answerText k (length (w .letters)) (t .settled)) p);
       }

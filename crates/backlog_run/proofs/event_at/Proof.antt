@@ -7,7 +7,6 @@ use denote.Ref.{now}
 use borrow.Author.Needs.{needs}
 use borrow.Author.Tests.{le-leb, lt-leb}
 use Rattle.lists.specs.Lists.{if_then_else_}
-use Rattle.backlog_run.specs.declared.Asked.{Asked}
 use Rattle.backlog_run.specs.Events.{asking, numbers, askedAt}
 use Rattle.backlog_run.proofs.event_at.Statement.{statement}
 use Rattle.backlog_run.proofs.event_at.Tie as tie

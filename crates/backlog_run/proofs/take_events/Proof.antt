@@ -1,6 +1,6 @@
-use Prim.Native.Nat.{_+_, _*_, _≤_, _<_, _^_}
+use Prim.Native.Nat.{_+_, _<_, _^_}
 use mathlib.Core.Logic.{⊎-elim}
-use mathlib.Core.Path.{_≡_, refl, sym, ap, _∙_, subst⁻¹}
+use mathlib.Core.Path.{_≡_, refl, sym, ap, _∙_}
 use native.Mathlib.Omega.{arith}
 use lib.ListN.{length}
 use denote.Ref.{now}
@@ -12,11 +12,9 @@ use Rattle.state.specs.declared.State.{State}
 use Rattle.post.proofs.PostLaws as P
 use Rattle.step_rules.specs.declared.Stepped.{Stepped}
 use Rattle.step_rules.specs.Step.{refusing, steppedOf}
-use Rattle.step_rules.proofs.Bridge.{Good, is-step}
 use Rattle.step_parts.proofs.Made.{refused-event, answer-refusal, few-after, free-within}
 use Rattle.step_parts.proofs.Loops.{next-within, closes-more, puts-more}
 use Rattle.step_parts.proofs.Turned.{closing-begins, putting-begins, stays, stores-again}
-use Rattle.backlog_run.specs.declared.Asked.{Asked}
 use Rattle.backlog_run.specs.Events.{eventCount}
 use Rattle.backlog_run.proofs.Course.{count-tight, course-begins, course-taken, course-refused, course-stops, course-ends}
 use Rattle.backlog_run.proofs.Turns.{kept-same}

@@ -3,7 +3,6 @@ use mathlib.Core.Path.{_≡_, refl}
 use native.Mathlib.Omega.{arith}
 use lib.ListN.{length}
 use denote.Ref.{now}
-use borrow.Author.Needs.{needs}
 use Rattle.console.proofs.Puts.{wrote-short}
 use Rattle.event_program.specs.Runs.{answersText, answersMost}
 use Rattle.event_program.proofs.Parts.{Printing, printing-begins, printing-room, printing-more, printing-done}
@@ -33,7 +32,9 @@ roomy : (c : tie.At-loop Inv-loop μ-loop) → 21 * length (now (entry c .args .
 roomy c = omega arith
 
 returns : tie.Need-returns Inv-loop μ-loop
-returns c = let a = c .before .before .before .args in wrote-short (answersMost (now (a .trace))) (answersText (now (a .trace))) (now (a .out)) (omega arith)
+returns c =
+    let a = c .before .before .before .args in
+    wrote-short (answersMost (now (a .trace))) (answersText (now (a .trace))) (now (a .out)) (omega arith)
 
 loop-holds : tie.Need-loop-holds Inv-loop μ-loop
 loop-holds c = (omega arith, refl, printing-begins _ _)

@@ -51,8 +51,8 @@ returns-2 c =
     let o = asking d in
     let l = listing o in
     let a = entry l .args in
-    ran-refused (a .given) (a .t) (a .r) (now (a .bytes)) (now (a .list)) (now (a .trace)) (l .list-lines .result) _ (l .list-lines .ensures .0)
-    (l .list-lines .ensures .1 .0) (o .if1 .left) (d .run-with-answers .result) _ (d .run-with-answers .ensures) (c .if2 .taken)
+    ran-refused (a .given) (a .t) (a .r) (now (a .bytes)) (now (a .list)) (now (a .trace)) (l .list-lines .result) _
+    (l .list-lines .ensures .0) (l .list-lines .ensures .1 .0) (o .if1 .left) (d .run-with-answers .result) _ (d .run-with-answers .ensures) (c .if2 .taken)
 
 same-length-4 : tie.Need-same-length-4
 same-length-4 c = search needs
@@ -66,8 +66,8 @@ returns-3 c =
     let o = asking d in
     let l = listing o in
     let a = entry l .args in
-    ran-all (a .given) (a .t) (a .r) (now (a .bytes)) (now (a .list)) (now (a .trace)) (l .list-lines .result) _ (l .list-lines .ensures .0)
-    (l .list-lines .ensures .1 .0) (o .if1 .left) (d .run-with-answers .result) _ (d .run-with-answers .ensures) (c .if2 .left)
+    ran-all (a .given) (a .t) (a .r) (now (a .bytes)) (now (a .list)) (now (a .trace)) (l .list-lines .result) _
+    (l .list-lines .ensures .0) (l .list-lines .ensures .1 .0) (o .if1 .left) (d .run-with-answers .result) _ (d .run-with-answers .ensures) (c .if2 .left)
 
 pub run-lines-spec : {M : Type 1} → statement M
 run-lines-spec =

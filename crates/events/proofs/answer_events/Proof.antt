@@ -7,7 +7,8 @@ use Rattle.events.proofs.answer_events.Statement.{statement}
 use Rattle.events.proofs.answer_events.Tie as tie
 
 abbrev Inv-loop : tie.InvT-loop
-Inv-loop file list₀ trace₀ out₀ ran₀ turns₀ list trace out ran turns = (length list ≡ 24576) × (length trace ≡ 24576) × (length out ≡ 516096)
+Inv-loop file list₀ trace₀ out₀ ran₀ turns₀ list trace out ran turns =
+    (length list ≡ 24576) × (length trace ≡ 24576) × (length out ≡ 516096)
 
 abbrev μ-loop : tie.MeasureT-loop
 μ-loop file list₀ trace₀ out₀ ran₀ turns₀ list trace out ran turns = turns

@@ -1,6 +1,6 @@
 -- What `take_events` knows at the places of its code that have names: the three loops' invariants, what it has seen of an event when it has
 -- its answer (`facts`), and the station as it is stored first.
-use Prim.Native.Nat.{ℕ, _-_, _/_, _≤_, _<_, min}
+use Prim.Native.Nat.{ℕ, _-_, _≤_, _<_, min}
 use mathlib.Core.Logic.{⊎-elim}
 use mathlib.Core.Path.{_≡_, sym, ap, _∙_}
 use mathlib.Core.List.{List}
