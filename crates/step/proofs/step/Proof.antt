@@ -1,329 +1,289 @@
-use Prim.Native.Nat.{ℕ, _-_, _<_}
-use mathlib.Core.Path.{_≡_, refl, sym, _∙_}
-use mathlib.Core.List.{List}
+use Prim.Native.Nat.{ℕ}
+use mathlib.Core.Bool.{Bool, true, false}
+use mathlib.Core.Path.{_≡_, refl, sym, ap, _∙_}
 use native.Mathlib.Omega.{arith}
-use lib.ListN.{length}
 use borrow.Author.Needs.{needs}
-use borrow.Author.Tests.{not-true, not-false}
+use Rattle.lists.specs.Lists.{if_then_else_}
 use Rattle.lists.proofs.Tests.{is-T}
-use Rattle.net.specs.Sizes.{linkRoom, letterRoom}
-use Rattle.station.specs.declared.Station.{Station}
-use Rattle.state.specs.declared.State.{State}
+use Rattle.tally.specs.declared.Tally.{Tally}
 use Rattle.post.proofs.PostLaws as P
-use Rattle.step_parts.specs.declared.Names.{Names}
-use Rattle.step_parts.specs.declared.Room.{Room}
-use Rattle.step_parts.proofs.Helpers.{place-few, Placed, placed}
-use Rattle.step_parts.proofs.Made.{refused-bad, refused-event, Facts, stored, answer-refusal, free-within}
-use Rattle.step_parts.proofs.Loops.{withStation, Closing, next-within, closes-more, Putting, puts-more}
+use Rattle.world.specs.World.{refusal}
+use Rattle.state.specs.declared.State.{State}
+use Rattle.state.specs.State.{worldOf, stateHolds}
+use Rattle.step_rules.specs.declared.Stepped.{Stepped}
+use Rattle.step_rules.specs.Step.{event, refusing, steppedOf}
+use Rattle.step_parts.proofs.Made.{refused-bad, refused-event, answer-refusal, free-within}
+use Rattle.step_parts.proofs.Loops.{next-within, closes-more, puts-more}
 use Rattle.step_parts.proofs.Turned.{closing-begins, putting-begins, stays}
 use Rattle.step.proofs.step.Statement.{statement}
 use Rattle.step.proofs.step.Tie as tie
+use Rattle.step.proofs.step.Proof.Seen.{I1, μ1, I2, μ2, I3, μ3, I4, μ4, I5, μ5, place-within, names-within, tested, facts, told-size}
+use Rattle.step.proofs.step.Proof.Seen.{toldAt, namesAt, testAt, begunAt, roomOf, closes, puts, none, known, laidDown, stores}
+use Rattle.step.proofs.step.Proof.Test as T
+mod Seen
+mod Test
 
--- while the later letters close up, and while new letters are put at the end
-abbrev Inv-loop : tie.InvT-loop
-Inv-loop kind a b s₀ flying place me own who plan told send count room last i₀ s i = Closing s₀ (room .from) last s i
+-- ---- the two answers: nothing refuses, or a number says no
+answered : (n : ℕ) → n ≡ 0 → {t : Tally} {u : State} {r : Stepped} → record { answer = 0; counts = t; state = u } ≡ r
+    → record { answer = n; counts = t; state = u } ≡ r
+answered n e {t} {u} q = ap (λ (k : ℕ). record { answer = k; counts = t; state = u }) e ∙ q
 
-abbrev μ-loop : tie.MeasureT-loop
-μ-loop kind a b s₀ flying place me own who plan told send count room last i₀ s i = last - i
+refused : (s : State) (kind a b n : ℕ) (good : Bool) (m : ℕ) → good ≡ stateHolds s → n ≡ (if good then m else 11)
+    → (good ≡ true → m ≡ refusal (worldOf s) (event kind a b)) → (n ≡ 0 → ⊥) → refusing n s ≡ steppedOf s kind a b
+refused s kind a b n true m t e f h = refused-event s kind a b (is-T _ (sym t)) n (e ∙ f refl) h
+refused s kind a b n false m t e f h = ap (λ (k : ℕ). refusing k s) e ∙ refused-bad s kind a b (sym t)
 
-abbrev Inv-loop2 : tie.InvT-loop2
-Inv-loop2 kind a b s₀ flying place me own who plan told count room last free post₀ i₀ s post i =
-    Putting s₀ me told last count post₀ s post i
-
-abbrev μ-loop2 : tie.MeasureT-loop2
-μ-loop2 kind a b s₀ flying place me own who plan told count room last free post₀ i₀ s post i = count - i
-
--- what is read is within its room
-place-within : (c : tie.After-place-of Inv-loop μ-loop Inv-loop2 μ-loop2) → c .place-of .result < letterRoom
-place-within c = place-few (c .before .before .before .before .before .args .a) (c .place-of .result) (c .place-of .ensures)
-
-names-within : (c : tie.After-names-of Inv-loop μ-loop Inv-loop2 μ-loop2) → Placed (c .names-of .result)
-names-within c = placed _ _ _ _ _ _ _ (c .names-of .ensures)
-
--- ---- the places of the code that have names, from the answer back: the table that is told, the plan, what the event names, the beginning
-abbrev Answered : Type 0
-Answered = tie.After-room-of Inv-loop μ-loop Inv-loop2 μ-loop2
-
-abbrev toldAt : Answered → tie.After-told-table Inv-loop μ-loop Inv-loop2 μ-loop2
-toldAt c = c .before .before .before .before
-
-abbrev planAt : Answered → tie.After-plan-at Inv-loop μ-loop Inv-loop2 μ-loop2
-planAt c = toldAt c .before .before
-
-abbrev namesAt : Answered → tie.After-names-of Inv-loop μ-loop Inv-loop2 μ-loop2
-namesAt c = planAt c .before .before .before
-
-abbrev placeAt : Answered → tie.After-place-of Inv-loop μ-loop Inv-loop2 μ-loop2
-placeAt c = namesAt c .before .before
-
-abbrev begunAt : Answered → tie.Start Inv-loop μ-loop Inv-loop2 μ-loop2
-begunAt c = placeAt c .before .before .before .before .before
-
--- and what they are of, in the step's own words
-abbrev namesOf : Answered → Names
-namesOf c = namesAt c .names-of .result
-
-abbrev meOf : Answered → ℕ
-meOf c = namesOf c .station
-
-abbrev toldOf : Answered → List ℕ
-toldOf c = toldAt c .told-table .result
-
-abbrev roomOf : Answered → Room
-roomOf c = c .room-of .result
-
--- what the code has seen when it has its answer
-facts : (c : Answered) → Facts (begunAt c .args .t1) (begunAt c .args .kind) (begunAt c .args .a) (begunAt c .args .b)
-    (placeAt c .before .kind-of .result) (placeAt c .place-of .result) (namesOf c)
-    (planAt c .before .before .own-links .result) (planAt c .plan-at .result) (toldOf c)
-    (c .before .before .narrow .result) (c .before .count .result) (roomOf c)
-facts c =
-    let good = not-false _ (placeAt c .before .before .before .if1 .left) in
-    let tested = placeAt c .before .before .before .before .well-formed .ensures in
-    record {
-      seen = record {
-        sized = tested .1 good;
-        holds = is-T _ (sym (tested .0) ∙ good);
-        decodes = placeAt c .before .kind-of .ensures;
-        at = placeAt c .place-of .ensures;
-        names = namesAt c .names-of .ensures;
-        mine = planAt c .before .before .own-links .ensures;
-        plans = planAt c .plan-at .ensures .1;
-      };
-      tells = toldAt c .told-table .ensures;
-      sends = c .before .before .narrow .ensures;
-      counts = c .before .count .ensures (meOf c) (toldOf c);
-      room = c .room-of .ensures;
-    }
-
--- the table that is told has its room
-told-size : (c : tie.After-told-table Inv-loop μ-loop Inv-loop2 μ-loop2) → length (c .told-table .result) ≡ linkRoom
-told-size c = search needs
-
--- the answer, from where the letters begin to close up and from where new letters begin to be put
-abbrev closes : tie.After-struct-known2 Inv-loop μ-loop Inv-loop2 μ-loop2 → Answered
-closes c = c .before .before .before .before .before
-
-abbrev puts : tie.After-begun Inv-loop μ-loop Inv-loop2 μ-loop2 → tie.After-struct-known2 Inv-loop μ-loop Inv-loop2 μ-loop2
-puts c = c .before .before .before .before
-
--- that nothing refuses
-none : (c : tie.After-struct-known2 Inv-loop μ-loop Inv-loop2 μ-loop2) → roomOf (closes c) .answer ≡ 0
-none c = c .before .before .before .if2 .left
-
--- the station is stored
-abbrev laidDown : tie.After-struct-known2 Inv-loop μ-loop Inv-loop2 μ-loop2 → Station
-laidDown c = stored (planAt (closes c) .plan-at .result) (c .before .before .kept-table .result)
-
-abbrev stores : tie.After-struct-known2 Inv-loop μ-loop Inv-loop2 μ-loop2 → State
-stores c = withStation (begunAt (closes c) .args .t1) (meOf (closes c)) (laidDown c)
-
-well-formed-requires : tie.Need-well-formed-requires Inv-loop μ-loop Inv-loop2 μ-loop2
-well-formed-requires c κs = search needs
-
-returns : tie.Need-returns Inv-loop μ-loop Inv-loop2 μ-loop2
-returns c =
-    let a = c .before .before .args in refused-bad (a .t1) (a .kind) (a .a) (a .b)
-    (sym (c .before .well-formed .ensures .0) ∙ not-true _ (c .if1 .taken))
-
-kind-of-requires : tie.Need-kind-of-requires Inv-loop μ-loop Inv-loop2 μ-loop2
+kind-of-requires : tie.Need-kind-of-requires I1 μ1 I2 μ2 I3 μ3 I4 μ4 I5 μ5
 kind-of-requires c κs = search needs
 
-place-of-requires : tie.Need-place-of-requires Inv-loop μ-loop Inv-loop2 μ-loop2
+place-of-requires : tie.Need-place-of-requires I1 μ1 I2 μ2 I3 μ3 I4 μ4 I5 μ5
 place-of-requires c κs = search needs
 
-mul-x : tie.Need-mul-x Inv-loop μ-loop Inv-loop2 μ-loop2
-mul-x c = omega (arith, place-within c)
+mul-x-3 : tie.Need-mul-x-3 I1 μ1 I2 μ2 I3 μ3 I4 μ4 I5 μ5
+mul-x-3 c = omega (arith, place-within c)
 
-element-copy-out-x : tie.Need-element-copy-out-x Inv-loop μ-loop Inv-loop2 μ-loop2
-element-copy-out-x c = place-within c
+element-copy-out-x-3 : tie.Need-element-copy-out-x-3 I1 μ1 I2 μ2 I3 μ3 I4 μ4 I5 μ5
+element-copy-out-x-3 c = place-within c
 
-names-of-requires : tie.Need-names-of-requires Inv-loop μ-loop Inv-loop2 μ-loop2
+names-of-requires : tie.Need-names-of-requires I1 μ1 I2 μ2 I3 μ3 I4 μ4 I5 μ5
 names-of-requires c κs = search needs
 
-own-links-requires : tie.Need-own-links-requires Inv-loop μ-loop Inv-loop2 μ-loop2
-own-links-requires c κs = search needs
-
-cast-who : tie.Need-cast-who Inv-loop μ-loop Inv-loop2 μ-loop2
+cast-who : tie.Need-cast-who I1 μ1 I2 μ2 I3 μ3 I4 μ4 I5 μ5
 cast-who c = omega arith
 
-mul-st : tie.Need-mul-st Inv-loop μ-loop Inv-loop2 μ-loop2
-mul-st c = omega arith
+mul-st-2 : tie.Need-mul-st-2 I1 μ1 I2 μ2 I3 μ3 I4 μ4 I5 μ5
+mul-st-2 c = omega (arith, names-within c .station)
 
-element-copy-out-st : tie.Need-element-copy-out-st Inv-loop μ-loop Inv-loop2 μ-loop2
-element-copy-out-st c = names-within (c .before) .station
+element-copy-out-st-2 : tie.Need-element-copy-out-st-2 I1 μ1 I2 μ2 I3 μ3 I4 μ4 I5 μ5
+element-copy-out-st-2 c = names-within c .station
 
-plan-at-requires : tie.Need-plan-at-requires Inv-loop μ-loop Inv-loop2 μ-loop2
+mul-plan-at : tie.Need-mul-plan-at I1 μ1 I2 μ2 I3 μ3 I4 μ4 I5 μ5
+mul-plan-at c = omega (arith, names-within (c .before) .station)
+
+array-read-plan-at : tie.Need-array-read-plan-at I1 μ1 I2 μ2 I3 μ3 I4 μ4 I5 μ5
+array-read-plan-at c = names-within (c .before) .station
+
+plan-at-requires : tie.Need-plan-at-requires I1 μ1 I2 μ2 I3 μ3 I4 μ4 I5 μ5
 plan-at-requires c κs = search needs
 
-told-table-requires : tie.Need-told-table-requires Inv-loop μ-loop Inv-loop2 μ-loop2
+told-table-requires : tie.Need-told-table-requires I1 μ1 I2 μ2 I3 μ3 I4 μ4 I5 μ5
 told-table-requires c κs = search needs
 
-narrow-requires : tie.Need-narrow-requires Inv-loop μ-loop Inv-loop2 μ-loop2
+narrow-requires : tie.Need-narrow-requires I1 μ1 I2 μ2 I3 μ3 I4 μ4 I5 μ5
 narrow-requires c κs = search needs
 
-count-requires : tie.Need-count-requires Inv-loop μ-loop Inv-loop2 μ-loop2
+count-requires : tie.Need-count-requires I1 μ1 I2 μ2 I3 μ3 I4 μ4 I5 μ5
 count-requires c κs = search needs
 
-room-of-requires : tie.Need-room-of-requires Inv-loop μ-loop Inv-loop2 μ-loop2
+room-of-requires : tie.Need-room-of-requires I1 μ1 I2 μ2 I3 μ3 I4 μ4 I5 μ5
 room-of-requires c κs = search needs
 
-returns-2 : tie.Need-returns-2 Inv-loop μ-loop Inv-loop2 μ-loop2
-returns-2 c =
-    let n = c .before .before in
-    let a = begunAt n .args in
-    refused-event (a .t1) (a .kind) (a .a) (a .b) (facts n .seen .holds) _ (answer-refusal (facts n)) (c .if2 .taken)
+answer-by-requires : tie.Need-answer-by-requires I1 μ1 I2 μ2 I3 μ3 I4 μ4 I5 μ5
+answer-by-requires c κs = search needs
 
-kept-table-requires : tie.Need-kept-table-requires Inv-loop μ-loop Inv-loop2 μ-loop2
+kept-table-requires : tie.Need-kept-table-requires I1 μ1 I2 μ2 I3 μ3 I4 μ4 I5 μ5
 kept-table-requires c κs = search needs
 
-mul-t43 : tie.Need-mul-t43 Inv-loop μ-loop Inv-loop2 μ-loop2
-mul-t43 c = omega (arith, names-within (namesAt (c .before .before .before .before)) .station)
+mul-t100 : tie.Need-mul-t100 I1 μ1 I2 μ2 I3 μ3 I4 μ4 I5 μ5
+mul-t100 c = omega (arith, names-within (namesAt (c .before .before .before)) .station)
 
-element-set-from-s : tie.Need-element-set-from-s Inv-loop μ-loop Inv-loop2 μ-loop2
-element-set-from-s c = names-within (namesAt (c .before .before .before .before)) .station
+element-set-from-s : tie.Need-element-set-from-s I1 μ1 I2 μ2 I3 μ3 I4 μ4 I5 μ5
+element-set-from-s c = names-within (namesAt (c .before .before .before)) .station
 
-cast-last : tie.Need-cast-last Inv-loop μ-loop Inv-loop2 μ-loop2
+cast-last : tie.Need-cast-last I1 μ1 I2 μ2 I3 μ3 I4 μ4 I5 μ5
 cast-last c = omega arith
 
-loop-holds : tie.Need-loop-holds Inv-loop μ-loop Inv-loop2 μ-loop2
-loop-holds c = closing-begins (facts (closes c)) (none c) (stores c) (laidDown c) refl
+loop4-holds : tie.Need-loop4-holds I1 μ1 I2 μ2 I3 μ3 I4 μ4 I5 μ5
+loop4-holds c = closing-begins (known c) (none c) (stores c) (laidDown c) refl
 
-add-j : tie.Need-add-j Inv-loop μ-loop Inv-loop2 μ-loop2
-add-j c = omega arith
+add-j-3 : tie.Need-add-j-3 I1 μ1 I2 μ2 I3 μ3 I4 μ4 I5 μ5
+add-j-3 c = omega arith
 
-mul-y : tie.Need-mul-y Inv-loop μ-loop Inv-loop2 μ-loop2
+mul-y : tie.Need-mul-y I1 μ1 I2 μ2 I3 μ3 I4 μ4 I5 μ5
 mul-y c = omega arith
 
-element-copy-out-y : tie.Need-element-copy-out-y Inv-loop μ-loop Inv-loop2 μ-loop2
-element-copy-out-y c = next-within (c .before .loop .inv) (omega arith)
+element-copy-out-y : tie.Need-element-copy-out-y I1 μ1 I2 μ2 I3 μ3 I4 μ4 I5 μ5
+element-copy-out-y c = next-within (c .before .loop4 .inv) (omega arith)
 
-mul-y-2 : tie.Need-mul-y-2 Inv-loop μ-loop Inv-loop2 μ-loop2
+mul-y-2 : tie.Need-mul-y-2 I1 μ1 I2 μ2 I3 μ3 I4 μ4 I5 μ5
 mul-y-2 c = omega arith
 
-element-set-from-y : tie.Need-element-set-from-y Inv-loop μ-loop Inv-loop2 μ-loop2
-element-set-from-y c = omega (arith, next-within (c .before .before .loop .inv) (omega arith))
+element-set-from-y : tie.Need-element-set-from-y I1 μ1 I2 μ2 I3 μ3 I4 μ4 I5 μ5
+element-set-from-y c = omega (arith, next-within (c .before .before .loop4 .inv) (omega arith))
 
-add-i : tie.Need-add-i Inv-loop μ-loop Inv-loop2 μ-loop2
-add-i c = omega arith
-
-loop-less : tie.Need-loop-less Inv-loop μ-loop Inv-loop2 μ-loop2
-loop-less c = omega arith
-
-loop-again : tie.Need-loop-again Inv-loop μ-loop Inv-loop2 μ-loop2
-loop-again c = closes-more (c .before .before .loop .inv) (omega arith)
-
-mul-unused : tie.Need-mul-unused Inv-loop μ-loop Inv-loop2 μ-loop2
-mul-unused c = let p = c .before .before .before in omega (arith, free-within (facts (closes p)) (none p))
-
-element-set-from-unused : tie.Need-element-set-from-unused Inv-loop μ-loop Inv-loop2 μ-loop2
-element-set-from-unused c = let p = c .before .before .before in free-within (facts (closes p)) (none p)
-
-begun-requires : tie.Need-begun-requires Inv-loop μ-loop Inv-loop2 μ-loop2
-begun-requires c κs = search needs
-
-loop2-holds : tie.Need-loop2-holds Inv-loop μ-loop Inv-loop2 μ-loop2
-loop2-holds c =
-    putting-begins (facts (closes (puts c))) (none (puts c)) (c .before .before .before .loop .s) (c .begun .result)
-    (told-size (toldAt (closes (puts c)))) (c .begun .ensures)
-
-cast-at : tie.Need-cast-at Inv-loop μ-loop Inv-loop2 μ-loop2
-cast-at c = omega arith
-
-add-at : tie.Need-add-at Inv-loop μ-loop Inv-loop2 μ-loop2
-add-at c = omega arith
-
-subject-requires : tie.Need-subject-requires Inv-loop μ-loop Inv-loop2 μ-loop2
-subject-requires c κs = search needs
-
-cast-subject : tie.Need-cast-subject Inv-loop μ-loop Inv-loop2 μ-loop2
-cast-subject c = omega arith
-
-mul-first : tie.Need-mul-first Inv-loop μ-loop Inv-loop2 μ-loop2
-mul-first c = omega (arith, P.subject-few (c .before .before .loop2 .post) _ (c .subject .ensures))
-
-array-read-first : tie.Need-array-read-first Inv-loop μ-loop Inv-loop2 μ-loop2
-array-read-first c = P.subject-few (c .before .before .loop2 .post) _ (c .subject .ensures)
-
-first-requires : tie.Need-first-requires Inv-loop μ-loop Inv-loop2 μ-loop2
-first-requires c κs = search needs
-
-mul-y-3 : tie.Need-mul-y-3 Inv-loop μ-loop Inv-loop2 μ-loop2
-mul-y-3 c = omega arith
-
-element-set-from-y-2 : tie.Need-element-set-from-y-2 Inv-loop μ-loop Inv-loop2 μ-loop2
-element-set-from-y-2 c = omega (arith, c .before .before .before .loop2 .inv .fits)
-
-rest-requires : tie.Need-rest-requires Inv-loop μ-loop Inv-loop2 μ-loop2
-rest-requires c κs = search needs
-
-add-i-2 : tie.Need-add-i-2 Inv-loop μ-loop Inv-loop2 μ-loop2
+add-i-2 : tie.Need-add-i-2 I1 μ1 I2 μ2 I3 μ3 I4 μ4 I5 μ5
 add-i-2 c = omega arith
 
-loop2-less : tie.Need-loop2-less Inv-loop μ-loop Inv-loop2 μ-loop2
-loop2-less c = omega arith
+loop4-less : tie.Need-loop4-less I1 μ1 I2 μ2 I3 μ3 I4 μ4 I5 μ5
+loop4-less c = omega arith
 
-loop2-again : tie.Need-loop2-again Inv-loop μ-loop Inv-loop2 μ-loop2
-loop2-again c =
-    puts-more (c .before .before .before .before .loop2 .inv) (omega arith) _ _ _ (c .before .before .subject .ensures)
+loop4-again : tie.Need-loop4-again I1 μ1 I2 μ2 I3 μ3 I4 μ4 I5 μ5
+loop4-again c = closes-more (c .before .before .loop4 .inv) (omega arith)
+
+mul-unused : tie.Need-mul-unused I1 μ1 I2 μ2 I3 μ3 I4 μ4 I5 μ5
+mul-unused c = let p = c .before .before .before in omega (arith, free-within (known p) (none p))
+
+element-set-from-unused : tie.Need-element-set-from-unused I1 μ1 I2 μ2 I3 μ3 I4 μ4 I5 μ5
+element-set-from-unused c = let p = c .before .before .before in free-within (known p) (none p)
+
+begun-requires : tie.Need-begun-requires I1 μ1 I2 μ2 I3 μ3 I4 μ4 I5 μ5
+begun-requires c κs = search needs
+
+loop5-holds : tie.Need-loop5-holds I1 μ1 I2 μ2 I3 μ3 I4 μ4 I5 μ5
+loop5-holds c =
+    putting-begins (known (puts c)) (none (puts c)) (c .before .before .before .loop4 .s) (c .begun .result)
+    (told-size (toldAt (closes (puts c)))) (c .begun .ensures)
+
+cast-at-4 : tie.Need-cast-at-4 I1 μ1 I2 μ2 I3 μ3 I4 μ4 I5 μ5
+cast-at-4 c = omega arith
+
+add-at : tie.Need-add-at I1 μ1 I2 μ2 I3 μ3 I4 μ4 I5 μ5
+add-at c = omega arith
+
+subject-requires : tie.Need-subject-requires I1 μ1 I2 μ2 I3 μ3 I4 μ4 I5 μ5
+subject-requires c κs = search needs
+
+cast-subject : tie.Need-cast-subject I1 μ1 I2 μ2 I3 μ3 I4 μ4 I5 μ5
+cast-subject c = omega arith
+
+mul-first : tie.Need-mul-first I1 μ1 I2 μ2 I3 μ3 I4 μ4 I5 μ5
+mul-first c = omega (arith, P.subject-few (c .before .before .loop5 .post) _ (c .subject .ensures))
+
+array-read-first : tie.Need-array-read-first I1 μ1 I2 μ2 I3 μ3 I4 μ4 I5 μ5
+array-read-first c = P.subject-few (c .before .before .loop5 .post) _ (c .subject .ensures)
+
+first-requires : tie.Need-first-requires I1 μ1 I2 μ2 I3 μ3 I4 μ4 I5 μ5
+first-requires c κs = search needs
+
+mul-y-3 : tie.Need-mul-y-3 I1 μ1 I2 μ2 I3 μ3 I4 μ4 I5 μ5
+mul-y-3 c = omega arith
+
+element-set-from-y-2 : tie.Need-element-set-from-y-2 I1 μ1 I2 μ2 I3 μ3 I4 μ4 I5 μ5
+element-set-from-y-2 c = omega (arith, c .before .before .before .loop5 .inv .fits)
+
+rest-requires : tie.Need-rest-requires I1 μ1 I2 μ2 I3 μ3 I4 μ4 I5 μ5
+rest-requires c κs = search needs
+
+add-i-3 : tie.Need-add-i-3 I1 μ1 I2 μ2 I3 μ3 I4 μ4 I5 μ5
+add-i-3 c = omega arith
+
+loop5-less : tie.Need-loop5-less I1 μ1 I2 μ2 I3 μ3 I4 μ4 I5 μ5
+loop5-less c = omega arith
+
+loop5-again : tie.Need-loop5-again I1 μ1 I2 μ2 I3 μ3 I4 μ4 I5 μ5
+loop5-again c =
+    puts-more (c .before .before .before .before .loop5 .inv) (omega arith) _ _ _ (c .before .before .subject .ensures)
     (c .before .first .ensures) (c .rest .ensures)
 
-add-s : tie.Need-add-s Inv-loop μ-loop Inv-loop2 μ-loop2
+add-s : tie.Need-add-s I1 μ1 I2 μ2 I3 μ3 I4 μ4 I5 μ5
 add-s c = omega arith
 
-returns-3 : tie.Need-returns-3 Inv-loop μ-loop Inv-loop2 μ-loop2
-returns-3 c =
+returns : tie.Need-returns I1 μ1 I2 μ2 I3 μ3 I4 μ4 I5 μ5
+returns c =
     let b = c .before .before .before .before in
     let p = puts b in
-    let m = b .before .before .before .loop in
-    let l = c .before .before .before .loop2 in
+    let m = b .before .before .before .loop4 in
+    let l = c .before .before .before .loop5 in
     let kept = p .before .before .kept-table in
-    stays (facts (closes p)) (none p) (stores p) (laidDown p) refl (m .s) (l .s) (b .begun .result) (l .post) (m .i) (l .i) (m .inv)
-    (b .begun .ensures) (l .inv) (omega arith) (omega arith) (kept .result) (kept .ensures) refl _ refl .1
+    answered (closes p .answer-by .result) (p .before .before .before .if1 .taken)
+    (stays (known p) (none p) (stores p) (laidDown p) refl (m .s) (l .s) (b .begun .result) (l .post) (m .i) (l .i) (m .inv)
+    (b .begun .ensures) (l .inv) (omega arith) (omega arith) (kept .result) (kept .ensures) refl _ refl .1)
+
+returns-2 : tie.Need-returns-2 I1 μ1 I2 μ2 I3 μ3 I4 μ4 I5 μ5
+returns-2 c =
+    let n = c .before in
+    let a = begunAt n .args in
+    refused (a .t1) (a .kind) (a .a) (a .b) _ (testAt n .all-hold .result) (roomOf n .answer) (tested (testAt n) .0) (n .answer-by .ensures)
+    (λ g. answer-refusal (facts n g)) (c .if1 .left)
 
 pub step-spec : {M : Type 1} → statement M
 step-spec =
     tie.close
     (tie.spec
-    Inv-loop
-    μ-loop
-    Inv-loop2
-    μ-loop2
-    well-formed-requires
-    returns
+    I1
+    μ1
+    I2
+    μ2
+    I3
+    μ3
+    I4
+    μ4
+    I5
+    μ5
+    T.own-words-requires
+    T.frame-holds-requires
+    T.loop-holds
+    T.cast-at
+    T.mul-st
+    T.element-copy-out-st
+    T.mul-station-place
+    T.array-read-station-place
+    T.station-place-requires
+    T.both-requires
+    T.add-i
+    T.loop-less
+    T.loop-again
+    T.few-requires
+    T.loop2-holds
+    T.cast-at-2
+    T.mul-x
+    T.element-copy-out-x
+    T.cast-k
+    T.joined-ways-requires
+    T.mul-still-ended
+    T.array-read-still-ended
+    T.still-ended-requires
+    T.past-subject-requires
+    T.larger-requires
+    T.counter-said-requires
+    T.smaller-requires
+    T.add-j
+    T.loop2-less
+    T.loop2-again
+    T.loop3-holds
+    T.cast-at-3
+    T.mul-x-2
+    T.element-copy-out-x-2
+    T.word-of-requires
+    T.add-j-2
+    T.loop3-less
+    T.loop3-again
+    T.letters-formed-requires
+    T.all-hold-requires
     kind-of-requires
     place-of-requires
-    mul-x
-    element-copy-out-x
+    mul-x-3
+    element-copy-out-x-3
     names-of-requires
-    own-links-requires
     cast-who
-    mul-st
-    element-copy-out-st
+    mul-st-2
+    element-copy-out-st-2
+    mul-plan-at
+    array-read-plan-at
     plan-at-requires
     told-table-requires
     narrow-requires
     count-requires
     room-of-requires
-    returns-2
+    answer-by-requires
     kept-table-requires
-    mul-t43
+    mul-t100
     element-set-from-s
     cast-last
-    loop-holds
-    add-j
+    loop4-holds
+    add-j-3
     mul-y
     element-copy-out-y
     mul-y-2
     element-set-from-y
-    add-i
-    loop-less
-    loop-again
+    add-i-2
+    loop4-less
+    loop4-again
     mul-unused
     element-set-from-unused
     begun-requires
-    loop2-holds
-    cast-at
+    loop5-holds
+    cast-at-4
     add-at
     subject-requires
     cast-subject
@@ -333,8 +293,9 @@ step-spec =
     mul-y-3
     element-set-from-y-2
     rest-requires
-    add-i-2
-    loop2-less
-    loop2-again
+    add-i-3
+    loop5-less
+    loop5-again
     add-s
-    returns-3)
+    returns
+    returns-2)
