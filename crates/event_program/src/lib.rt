@@ -53,7 +53,14 @@ pub fn begin(net: Net) -> Ran
 // Promise: for the lines that end in these bytes, in the trace and in the answer what the steps one by one come to (`Answers.turns`), and
 // the reading of the line under way behind them; 10 where the list has fewer than three places for each byte or the trace is too short, 11
 // for a bad state: then state, tally, reading and trace are as they were.
-pub fn run_lines(given: State, t: Tally, r: Reading, bytes: &[u8], list: &mut [u32], trace: &mut [u64]) -> Ran
+pub fn run_lines(
+    given: State,
+    t: Tally,
+    r: Reading,
+    bytes: &[u8],
+    list: &mut [u32],
+    trace: &mut [u64],
+) -> Ran
     ensures answer { λ n. ⌜ n ≡ ranBy (running given t r (now (bytes .entry)) (now (list .entry)) (now (trace .entry))) given t r
         (now (bytes .entry)) ⌝ }
     ensures list { λ n. ⌜ now (list .exit) ≡ writingOutput (listing r (now (bytes .entry)) (now (list .entry))) (now (list .entry)) ⌝ }
@@ -100,11 +107,12 @@ fn put_answer(out: &mut [u8], at: usize, answer: u64, flying: u64, settled: u64)
     ensures { λ r. ⌜ Put (answerText answer flying settled) 63 at (now (out .entry)) r (now (out .exit)) ⌝ }
 {
     let a = text::put_number(out, at, answer);
-    let b = text::put_word(out, a, b" ");
-    let c = text::put_number(out, b, flying);
-    let d = text::put_word(out, c, b" ");
-    let e = text::put_number(out, d, settled);
-    text::put_word(out, e, b"\n")
+    out[a] = 32;
+    let c = text::put_number(out, a + 1, flying);
+    out[c] = 32;
+    let e = text::put_number(out, c + 1, settled);
+    out[e] = 10;
+    e + 1
 }
 
 // A line for each event of a trace.
