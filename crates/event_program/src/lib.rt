@@ -107,11 +107,12 @@ fn put_answer(out: &mut [u8], at: usize, answer: u64, flying: u64, settled: u64)
     ensures { λ r. ⌜ Put (answerText answer flying settled) 63 at (now (out .entry)) r (now (out .exit)) ⌝ }
 {
     let a = text::put_number(out, at, answer);
-    let b = text::put_word(out, a, b" ");
-    let c = text::put_number(out, b, flying);
-    let d = text::put_word(out, c, b" ");
-    let e = text::put_number(out, d, settled);
-    text::put_word(out, e, b"\n")
+    out[a] = 32;
+    let c = text::put_number(out, a + 1, flying);
+    out[c] = 32;
+    let e = text::put_number(out, c + 1, settled);
+    out[e] = 10;
+    e + 1
 }
 
 // A line for each event of a trace.

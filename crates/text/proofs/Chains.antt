@@ -117,3 +117,12 @@ stored-three old at x y z h =
 pub put-three : (old : List ℕ) (at x y z : ℕ) → at + 3 ≤ length old
     → set (set (set old at x) (at + 1) y) (at + 2) z ≡ putAt (x ∷ y ∷ z ∷ []) at old
 put-three old at x y z h = stored-three old at x y z h .output (omega arith)
+
+-- behind a text that was put, with room for one more
+module _ {xs : List ℕ} {from : ℕ} {old : List ℕ} {at : ℕ} {out : List ℕ} (c : Chain xs from old at out)
+    (h : from + length xs < length old) where
+  pub chain-room : at < length out
+  chain-room = omega (arith, c .size, c .place, place-fits xs from old (omega arith))
+
+  pub chain-stored : (x : ℕ) → Chain (xs ++ (x ∷ [])) from old (at + 1) (set out at x)
+  chain-stored x = chain-next (x ∷ []) c (stored out at (at + 1) x chain-room refl)
