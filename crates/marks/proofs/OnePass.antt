@@ -1,5 +1,5 @@
 -- Each station's own links, found in one pass over the links: one link puts its number into the words of its two ends.
-use Prim.Native.Nat.{ℕ, _+_, _≤_, _<_}
+use Prim.Native.Nat.{ℕ, _+_, _*_, _%_, _^_, _≤_, _<_}
 use mathlib.Core.Bool.{Bool, true, false, _&&_, _||_}
 use mathlib.Core.Path.{_≡_, refl, sym, ap, ap₂, _∙_}
 use mathlib.Core.List.{List, map}
@@ -7,18 +7,21 @@ use native.Mathlib.Decide.{decLt, ℕ-discrete}
 use native.Mathlib.Omega.{arith}
 use lib.Dec.{eqb, ltb}
 use lib.ListN.{length, getD, set, length-set}
+use lib.Pow.{pow-pos}
 use lib.Seq.{ext-getD, getD-set-same, getD-set-other}
 use borrow.Author.Tests.{eq-eqb, ne-eqb, lt-ltb, le-ltb}
 use Rattle.lists.specs.Lists.{if_then_else_, below}
 use Rattle.lists.specs.Words.{inWord}
 use Rattle.lists.proofs.Numbers.{getD-map-below, length-map-below}
+use Rattle.lists.proofs.Tests.{and-yes}
+use Rattle.lists.proofs.Words.{none-in, zero-is-out}
 use Rattle.lists.proofs.Fill.{map-below-same}
 use Rattle.net.specs.declared.Net.{Net}
 use Rattle.net.specs.Network.{isEnd}
 use Rattle.net.specs.Values.{networkOf, linkCount}
 use Rattle.net.specs.Sizes.{stationRoom}
 use Rattle.sets.specs.Sets.{wordBy, upTo}
-use Rattle.sets.proofs.WordLaws.{in-by, by-same, upto-none}
+use Rattle.sets.proofs.WordLaws.{in-by, by-same, on-is, upto-none}
 use Rattle.marks.specs.Marks.{ownAt, ownWords}
 use Rattle.marks.proofs.OwnLinks.{own-read}
 
@@ -26,7 +29,7 @@ use Rattle.marks.proofs.OwnLinks.{own-read}
 unfoldable pub wordsAt : (ℕ → ℕ → Bool) → List ℕ
 wordsAt f = map (λ s. wordBy (f s)) (below stationRoom)
 
--- the same with link k put into the word of station e, if it has a place
+-- the same with link k put into the word of station e, if it has a place there
 module _ (f : ℕ → ℕ → Bool) (k e : ℕ) where
   abbrev pub withEnd : ℕ → ℕ → Bool
   withEnd s t = f s t || (eqb t k && eqb e s)
@@ -40,30 +43,39 @@ module _ (f : ℕ → ℕ → Bool) (k e : ℕ) where
       table false true = refl
       table false false = refl
 
-  there : (s : ℕ) → e ≡ s → wordBy (λ t. if eqb t k then true else inWord (wordBy (f s)) t) ≡ wordBy (withEnd s)
-  there s q =
-      by-same (λ t. if eqb t k then true else inWord (wordBy (f s)) t) (withEnd s)
-      (λ t h. ap (λ (b : Bool). if eqb t k then true else b) (in-by (f s) t h) ∙ table (f s t) (eqb t k)
-      ∙ sym (ap (λ (b : Bool). f s t || (eqb t k && b)) (eq-eqb e s q)))
+  -- the number of the link, as the code makes it
+  one-bit : k < 64 → (t : ℕ) → t < 64 → inWord ((1 * 2 ^ k) % 2 ^ 64) t ≡ eqb t k
+  one-bit l t h =
+      ap (λ (w : ℕ). inWord w t) (bit ∙ on-is 0 k true (pow-pos 64) l (zero-is-out 0 k (none-in k)) refl)
+      ∙ in-by (λ t. if eqb t k then true else inWord 0 t) t h
+      ∙ ap (λ (b : Bool). if eqb t k then true else b) (zero-is-out 0 t (none-in t)) ∙ table (eqb t k)
     where
-      table : (a b : Bool) → (if b then true else a) ≡ (a || (b && true))
-      table true true = refl
-      table true false = refl
-      table false true = refl
-      table false false = refl
+      bit : (1 * 2 ^ k) % 2 ^ 64 ≡ 0 + (1 * 2 ^ k) % 2 ^ 64
+      bit = omega arith
 
-  pub end-stored : (os : List ℕ) (w : ℕ) → e < stationRoom → os ≡ wordsAt f → w ≡ wordBy (λ t. if eqb t k then true else inWord (getD os e 0) t)
-      → set os e w ≡ wordsAt withEnd
+      table : (b : Bool) → (if b then true else false) ≡ b
+      table true = refl
+      table false = refl
+
+  there : (s : ℕ) → k < 64 → e ≡ s → wordBy (λ t. inWord (wordBy (f s)) t || inWord ((1 * 2 ^ k) % 2 ^ 64) t) ≡ wordBy (withEnd s)
+  there s l q =
+      by-same (λ t. inWord (wordBy (f s)) t || inWord ((1 * 2 ^ k) % 2 ^ 64) t) (withEnd s)
+      (λ t h. ap₂ (λ (a b : Bool). a || b) (in-by (f s) t h) (one-bit l t h ∙ sym (and-yes (eqb t k)))
+      ∙ sym (ap (λ (b : Bool). f s t || (eqb t k && b)) (eq-eqb e s q)))
+
+  pub end-stored : (os : List ℕ) (w : ℕ) → k < 64 → e < stationRoom → os ≡ wordsAt f
+      → w ≡ wordBy (λ t. inWord (getD os e 0) t || inWord ((1 * 2 ^ k) % 2 ^ 64) t) → set os e w ≡ wordsAt withEnd
   unfolding wordsAt
-  end-stored os w h p d =
-      ap₂ (λ (l : List ℕ) (v : ℕ). set l e v) p (d ∙ ap (λ (v : ℕ). wordBy (λ t. if eqb t k then true else inWord v t)) read)
-      ∙ ext-getD 0 (set (wordsAt f) e new) (wordsAt withEnd)
-      (length-set (wordsAt f) e new ∙ length-map-below (λ s. wordBy (f s)) stationRoom
-      ∙ sym (length-map-below (λ s. wordBy (withEnd s)) stationRoom))
-      (λ s l. go s (room s l) (ℕ-discrete s e))
+  end-stored os w z h p d =
+      ap₂ (λ (l : List ℕ) (v : ℕ). set l e v) p
+      (d ∙ ap (λ (v : ℕ). wordBy (λ t. inWord v t || inWord ((1 * 2 ^ k) % 2 ^ 64) t)) read ∙ there e z refl)
+      ∙ ext-getD 0 (set (wordsAt f) e new) (wordsAt withEnd) (length-set (wordsAt f) e new ∙ sizes) (λ s l. go s (room s l) (ℕ-discrete s e))
     where
       new : ℕ
-      new = wordBy (λ t. if eqb t k then true else inWord (wordBy (f e)) t)
+      new = wordBy (withEnd e)
+
+      sizes : length (wordsAt f) ≡ length (wordsAt withEnd)
+      sizes = length-map-below (λ s. wordBy (f s)) stationRoom ∙ sym (length-map-below (λ s. wordBy (withEnd s)) stationRoom)
 
       read : getD os e 0 ≡ wordBy (f e)
       read = ap (λ (l : List ℕ). getD l e 0) p ∙ getD-map-below (λ s. wordBy (f s)) stationRoom e 0 h
@@ -75,7 +87,7 @@ module _ (f : ℕ → ℕ → Bool) (k e : ℕ) where
       go s l (yes q) =
           ap (λ (x : ℕ). getD (set (wordsAt f) e new) x 0) q
           ∙ getD-set-same (wordsAt f) e new 0 (omega (arith, length-map-below (λ s. wordBy (f s)) stationRoom))
-          ∙ there e refl ∙ ap (λ (x : ℕ). wordBy (withEnd x)) (sym q) ∙ sym (getD-map-below (λ s. wordBy (withEnd s)) stationRoom s 0 l)
+          ∙ ap (λ (x : ℕ). wordBy (withEnd x)) (sym q) ∙ sym (getD-map-below (λ s. wordBy (withEnd s)) stationRoom s 0 l)
       go s l (no n) =
           getD-set-other (wordsAt f) e s new 0 n ∙ getD-map-below (λ s. wordBy (f s)) stationRoom s 0 l ∙ elsewhere s (λ q. n (sym q))
           ∙ sym (getD-map-below (λ s. wordBy (withEnd s)) stationRoom s 0 l)

@@ -1,8 +1,7 @@
 // The five marks of each link as five sets of links, and the links that a station is an end of as one such set.
 // Inner doors: the calls are in docs/CALLS.md.
 ghost use mathlib.Core.Path.{_≡_};
-ghost use Rattle.sets.specs.Sets.{wordBy};
-ghost use Rattle.marks.specs.Marks.{marksAt, wordsWith, ownAt, ownWords};
+ghost use Rattle.marks.specs.Marks.{marksAt, wordsWith, ownWords};
 use net::MOST_STATIONS;
 use net::Net;
 use net::STATION_ROOM;
@@ -53,21 +52,7 @@ pub fn with_marks(w: Words, k: u8, m: Marks) -> Words
     }
 }
 
-// The links that the station s is an end of.
-// Promise: the links that exist and have s as an end (`Marks.ownAt`).
-pub fn own_links(net: Net, s: u8) -> u64
-    ensures { λ r. ⌜ r ≡ wordBy (ownAt net s) ⌝ }
-{
-    let m = sets::at_most_64(net.links);
-    let mut own: u64 = 0;
-    for k in 0..m {
-        let i = k as usize;
-        own = sets::put(own, k, net::is_end(net.low[i], net.high[i], s as u16));
-    }
-    own
-}
-
-// Each station's own links, found in one pass over the links for a call that asks for many stations.
+// The links that each station is an end of, found in one pass over the links: a call that looks at a whole state asks for many stations.
 // Promise: equals `Marks.ownWords`: at each place of the room of stations the links that this station is an end of.
 pub fn own_words(net: Net) -> [u64; STATION_ROOM]
     ensures { λ r. ⌜ r ≡ ownWords net ⌝ }
@@ -80,11 +65,11 @@ pub fn own_words(net: Net) -> [u64; STATION_ROOM]
         let high = net.high[i];
         if low < MOST_STATIONS {
             let at = low as usize;
-            owns[at] = sets::put(owns[at], k, true);
+            owns[at] = sets::join(owns[at], 1u64 << k);
         }
         if high < MOST_STATIONS {
             let at = high as usize;
-            owns[at] = sets::put(owns[at], k, true);
+            owns[at] = sets::join(owns[at], 1u64 << k);
         }
     }
     owns

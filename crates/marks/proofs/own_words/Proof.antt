@@ -36,14 +36,20 @@ element-copy-out-high c = omega arith
 cast-at : tie.Need-cast-at Inv-loop μ-loop
 cast-at c = omega arith
 
-mul-put : tie.Need-mul-put Inv-loop μ-loop
-mul-put c = omega arith
+mul-join : tie.Need-mul-join Inv-loop μ-loop
+mul-join c = omega arith
 
-array-read-put : tie.Need-array-read-put Inv-loop μ-loop
-array-read-put c = omega arith
+array-read-join : tie.Need-array-read-join Inv-loop μ-loop
+array-read-join c = omega arith
 
-put-requires : tie.Need-put-requires Inv-loop μ-loop
-put-requires c κs = search needs
+cast-join : tie.Need-cast-join Inv-loop μ-loop
+cast-join c = omega arith
+
+shl-join : tie.Need-shl-join Inv-loop μ-loop
+shl-join c = omega arith
+
+join-requires : tie.Need-join-requires Inv-loop μ-loop
+join-requires c κs = search needs
 
 mul-owns : tie.Need-mul-owns Inv-loop μ-loop
 mul-owns c = omega arith
@@ -54,14 +60,20 @@ array-write-owns c = omega arith
 cast-at-2 : tie.Need-cast-at-2 Inv-loop μ-loop
 cast-at-2 c = omega arith
 
-mul-put-2 : tie.Need-mul-put-2 Inv-loop μ-loop
-mul-put-2 c = omega arith
+mul-join-2 : tie.Need-mul-join-2 Inv-loop μ-loop
+mul-join-2 c = omega arith
 
-array-read-put-2 : tie.Need-array-read-put-2 Inv-loop μ-loop
-array-read-put-2 c = omega arith
+array-read-join-2 : tie.Need-array-read-join-2 Inv-loop μ-loop
+array-read-join-2 c = omega arith
 
-put-requires-2 : tie.Need-put-requires-2 Inv-loop μ-loop
-put-requires-2 c κs = search needs
+cast-join-2 : tie.Need-cast-join-2 Inv-loop μ-loop
+cast-join-2 c = omega arith
+
+shl-join-2 : tie.Need-shl-join-2 Inv-loop μ-loop
+shl-join-2 c = omega arith
+
+join-requires-2 : tie.Need-join-requires-2 Inv-loop μ-loop
+join-requires-2 c κs = search needs
 
 mul-owns-2 : tie.Need-mul-owns-2 Inv-loop μ-loop
 mul-owns-2 c = omega arith
@@ -82,13 +94,14 @@ loop-again c =
     let f : ℕ → ℕ → Bool = λ s. upTo (λ t. isEnd (networkOf net) t s) (l .k) in
     let low = getD (net .low) (l .k) 0 in
     let high = getD (net .high) (l .k) 0 in
+    let h : l .k < linkCount net = omega (arith, c .before .before .before .before .before .before .at-most-64 .ensures) in
+    let z : l .k < 64 = omega arith in
     let one : c .before .if1 .owns ≡ wordsAt (withEnd f (l .k) low) =
-    ⊎-elim (λ w. w .2 ∙ end-stored f (l .k) low _ _ (w .0 .taken) (l .inv .1) (w .1 .ensures))
+    ⊎-elim (λ w. w .2 ∙ end-stored f (l .k) low _ _ z (w .0 .taken) (l .inv .1) (w .1 .ensures))
     (λ w. w .1 ∙ end-beyond f (l .k) low _ (w .0 .left) (l .inv .1)) (c .before .if1 .came) in
     let two : c .if2 .owns ≡ wordsAt (withEnd (withEnd f (l .k) low) (l .k) high) =
-    ⊎-elim (λ w. w .2 ∙ end-stored (withEnd f (l .k) low) (l .k) high _ _ (w .0 .taken) one (w .1 .ensures))
+    ⊎-elim (λ w. w .2 ∙ end-stored (withEnd f (l .k) low) (l .k) high _ _ z (w .0 .taken) one (w .1 .ensures))
     (λ w. w .1 ∙ end-beyond (withEnd f (l .k) low) (l .k) high _ (w .0 .left) one) (c .if2 .came) in
-    let h : l .k < linkCount net = omega (arith, c .before .before .before .before .before .before .at-most-64 .ensures) in
     (omega arith, two ∙ pass-more net (l .k) h)
 
 returns : tie.Need-returns Inv-loop μ-loop
@@ -108,15 +121,19 @@ own-words-spec =
     element-copy-out-low
     element-copy-out-high
     cast-at
-    mul-put
-    array-read-put
-    put-requires
+    mul-join
+    array-read-join
+    cast-join
+    shl-join
+    join-requires
     mul-owns
     array-write-owns
     cast-at-2
-    mul-put-2
-    array-read-put-2
-    put-requires-2
+    mul-join-2
+    array-read-join-2
+    cast-join-2
+    shl-join-2
+    join-requires-2
     mul-owns-2
     array-write-owns-2
     add-k
