@@ -136,15 +136,7 @@ fn take_events(mut s: State, t: Tally, events: &[u32], stops: bool, trace: &mut 
             }
             continue;
         }
-        // nothing refuses it: from here on the state is changed, in place
-        let turned = plan.condition;
-        let marked = plan.marks;
-        s.stations[who] = Station {
-            condition: turned,
-            counters: told,
-            marks: marked,
-        };
-        // the later letters close up
+        // nothing refuses it: from here on the state is changed, in place; first the later letters close up
         let last = room.left as usize;
         let from = room.from;
         for i in from..last {
@@ -165,16 +157,29 @@ fn take_events(mut s: State, t: Tally, events: &[u32], stops: bool, trace: &mut 
             post = post::rest(post);
         }
         s.flying = room.left + count;
-        // the table is reset or purged last: what is told is told as it was before
+        // the station is stored last, since what is told is told as it was before a reset or a purge; where no counter is set and the
+        // condition stays, as from kind 4 on, only its marks
+        let turned = plan.condition;
+        let marked = plan.marks;
         if either(plan.resets, plan.purges) {
             let kept = station_table::kept_table(net, me, plan.resets, plan.purges, told);
-            let turned = plan.condition;
-            let marked = plan.marks;
             s.stations[who] = Station {
                 condition: turned,
                 counters: kept,
                 marks: marked,
             };
+        } else if either(plan.sets, e.kind < 4) {
+            s.stations[who] = Station {
+                condition: turned,
+                counters: told,
+                marks: marked,
+            };
+        } else {
+            s.stations[who].marks.token = marked.token;
+            s.stations[who].marks.turn = marked.turn;
+            s.stations[who].marks.testing = marked.testing;
+            s.stations[who].marks.asked = marked.asked;
+            s.stations[who].marks.quiet = marked.quiet;
         }
         tally = tally::added(tally, plan.counts);
         put_turn(trace, taken, 0, s.flying, tally.settled);

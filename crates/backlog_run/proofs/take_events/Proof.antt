@@ -1,30 +1,25 @@
 use Prim.Native.Nat.{_+_, _<_, _^_}
-use mathlib.Core.Logic.{⊎-elim}
-use mathlib.Core.Path.{_≡_, refl, sym, ap, _∙_}
+use mathlib.Core.Path.{_≡_, refl, ap, _∙_}
 use native.Mathlib.Omega.{arith}
 use lib.ListN.{length}
 use denote.Ref.{now}
 use borrow.Author.Needs.{needs}
 use Rattle.text.proofs.Puts.{length-put}
-use Rattle.net.specs.declared.Net.{Net}
-use Rattle.station_plan.specs.Carrying.{keptBy}
-use Rattle.state.specs.declared.State.{State}
 use Rattle.post.proofs.PostLaws as P
-use Rattle.step_rules.specs.declared.Stepped.{Stepped}
 use Rattle.step_rules.specs.Step.{refusing, steppedOf}
 use Rattle.step_parts.proofs.Made.{refused-event, answer-refusal, few-after, free-within}
 use Rattle.step_parts.proofs.Loops.{next-within, closes-more, puts-more}
-use Rattle.step_parts.proofs.Turned.{closing-begins, putting-begins, stays, stores-again}
+use Rattle.step_parts.proofs.Turned.{closing-begins, putting-begins}
 use Rattle.backlog_run.specs.Events.{eventCount}
 use Rattle.backlog_run.proofs.Course.{count-tight, course-begins, course-taken, course-refused, course-stops, course-ends}
-use Rattle.backlog_run.proofs.Turns.{kept-same}
 use Rattle.backlog_run.proofs.take_events.Statement.{statement}
 use Rattle.backlog_run.proofs.take_events.Tie as tie
-use Rattle.backlog_run.proofs.take_events.Proof.Seen.{Inv-loop2, μ-loop2, Inv-loop3, μ-loop3, Inv-loop, μ-loop, Answered, namesAt}
-use Rattle.backlog_run.proofs.take_events.Proof.Seen.{eventAt, turnAt, stateOf, eventOf, meOf, planOf, toldOf, roomOf}
-use Rattle.backlog_run.proofs.take_events.Proof.Seen.{place-within, names-within, same-net, facts, told-size, closes, puts, none}
-use Rattle.backlog_run.proofs.take_events.Proof.Seen.{laidDown, stores}
+use Rattle.backlog_run.proofs.take_events.Proof.Seen.{Inv-loop2, μ-loop2, Inv-loop3, μ-loop3, Inv-loop, μ-loop, Answered}
+use Rattle.backlog_run.proofs.take_events.Proof.Seen.{eventAt, turnAt, stateOf, eventOf, roomOf, place-within, names-within, facts}
+use Rattle.backlog_run.proofs.take_events.Proof.Seen.{told-size, closes, puts, none, standing, stands}
+use Rattle.backlog_run.proofs.take_events.Proof.Taken.{begunAt, answered, station-within, ended, steppedBy, after-turn}
 mod Seen
+mod Taken
 
 own-words-requires : tie.Need-own-words-requires Inv-loop2 μ-loop2 Inv-loop3 μ-loop3 Inv-loop μ-loop
 own-words-requires c κs = search needs
@@ -90,7 +85,8 @@ refused c = c .before .before .before .before
 abbrev testAt : Answered → tie.In-loop Inv-loop2 μ-loop2 Inv-loop3 μ-loop3 Inv-loop μ-loop
 testAt c = eventAt c .before
 
-within : (c : Answered) → turnAt c .loop .taken < eventCount (length (now (turnAt c .before .before .before .before .before .before .args .events)))
+within : (c : Answered)
+    → turnAt c .loop .taken < eventCount (length (now (turnAt c .before .before .before .before .before .before .args .events)))
 within c = omega (arith, testAt c .loop-test .taken, turnAt c .loop .inv .1)
 
 -- how many numbers there are is a 64-bit number
@@ -140,20 +136,11 @@ loop-again c =
           (roomOf n .answer) (no-step q) (q .before .before .if3 .taken) _ (q .put-turn .ensures) (c .if4 .left),
     )
 
-abbrev marked : tie.After-marked Inv-loop2 μ-loop2 Inv-loop3 μ-loop3 Inv-loop μ-loop → Answered
-marked c = c .before .before .before
-
-mul-t47 : tie.Need-mul-t47 Inv-loop2 μ-loop2 Inv-loop3 μ-loop3 Inv-loop μ-loop
-mul-t47 c = omega (arith, names-within (namesAt (marked c)) .station)
-
-element-set-from-s : tie.Need-element-set-from-s Inv-loop2 μ-loop2 Inv-loop3 μ-loop3 Inv-loop μ-loop
-element-set-from-s c = names-within (namesAt (marked c)) .station
-
 cast-last : tie.Need-cast-last Inv-loop2 μ-loop2 Inv-loop3 μ-loop3 Inv-loop μ-loop
 cast-last c = omega arith
 
 loop2-holds : tie.Need-loop2-holds Inv-loop2 μ-loop2 Inv-loop3 μ-loop3 Inv-loop μ-loop
-loop2-holds c = closing-begins (facts (closes c)) (none c) (stores c) (laidDown c) refl
+loop2-holds c = closing-begins (facts (closes c)) (none c) (stateOf (closes c)) (standing c) (stands c)
 
 add-j : tie.Need-add-j Inv-loop2 μ-loop2 Inv-loop3 μ-loop3 Inv-loop μ-loop
 add-j c = omega arith
@@ -235,15 +222,6 @@ loop3-again c =
     (c .before .first .ensures) (c .rest .ensures)
 
 -- ---- the event is taken
-abbrev Taking : Type 0
-Taking = tie.After-struct-known3 Inv-loop2 μ-loop2 Inv-loop3 μ-loop3 Inv-loop μ-loop
-
-abbrev begunAt : Taking → tie.After-begun Inv-loop2 μ-loop2 Inv-loop3 μ-loop3 Inv-loop μ-loop
-begunAt c = c .before .before .before
-
-abbrev answered : Taking → Answered
-answered c = closes (puts (begunAt c))
-
 add-s : tie.Need-add-s Inv-loop2 μ-loop2 Inv-loop3 μ-loop3 Inv-loop μ-loop
 add-s c = omega (arith, few-after (facts (answered c)) (none (puts (begunAt c))))
 
@@ -253,51 +231,53 @@ either-requires c κs = search needs
 kept-table-requires : tie.Need-kept-table-requires Inv-loop2 μ-loop2 Inv-loop3 μ-loop3 Inv-loop μ-loop
 kept-table-requires c κs = search needs
 
--- the table is reset or purged
-abbrev keeping : tie.After-marked2 Inv-loop2 μ-loop2 Inv-loop3 μ-loop3 Inv-loop μ-loop → Answered
-keeping c = answered (c .before .before .before .before)
+mul-t83 : tie.Need-mul-t83 Inv-loop2 μ-loop2 Inv-loop3 μ-loop3 Inv-loop μ-loop
+mul-t83 c = omega (arith, station-within (c .before .before))
 
-mul-t88 : tie.Need-mul-t88 Inv-loop2 μ-loop2 Inv-loop3 μ-loop3 Inv-loop μ-loop
-mul-t88 c = omega (arith, names-within (namesAt (keeping c)) .station)
+element-set-from-s : tie.Need-element-set-from-s Inv-loop2 μ-loop2 Inv-loop3 μ-loop3 Inv-loop μ-loop
+element-set-from-s c = station-within (c .before .before)
+
+either-requires-2 : tie.Need-either-requires-2 Inv-loop2 μ-loop2 Inv-loop3 μ-loop3 Inv-loop μ-loop
+either-requires-2 c κs = search needs
+
+mul-t90 : tie.Need-mul-t90 Inv-loop2 μ-loop2 Inv-loop3 μ-loop3 Inv-loop μ-loop
+mul-t90 c = omega (arith, station-within (c .before .before .before .before))
 
 element-set-from-s-2 : tie.Need-element-set-from-s-2 Inv-loop2 μ-loop2 Inv-loop3 μ-loop3 Inv-loop μ-loop
-element-set-from-s-2 c = names-within (namesAt (keeping c)) .station
+element-set-from-s-2 c = station-within (c .before .before .before .before)
+
+mul-s : tie.Need-mul-s Inv-loop2 μ-loop2 Inv-loop3 μ-loop3 Inv-loop μ-loop
+mul-s c = omega (arith, station-within (c .before .before .before .before))
+
+way-write-given-s : tie.Need-way-write-given-s Inv-loop2 μ-loop2 Inv-loop3 μ-loop3 Inv-loop μ-loop
+way-write-given-s c = (station-within (c .before .before .before .before), tt, tt)
+
+mul-s-2 : tie.Need-mul-s-2 Inv-loop2 μ-loop2 Inv-loop3 μ-loop3 Inv-loop μ-loop
+mul-s-2 c = omega (arith, station-within (c .before .before .before .before .before))
+
+way-write-given-s-2 : tie.Need-way-write-given-s-2 Inv-loop2 μ-loop2 Inv-loop3 μ-loop3 Inv-loop μ-loop
+way-write-given-s-2 c = (station-within (c .before .before .before .before .before), tt, tt)
+
+mul-s-3 : tie.Need-mul-s-3 Inv-loop2 μ-loop2 Inv-loop3 μ-loop3 Inv-loop μ-loop
+mul-s-3 c = omega (arith, station-within (c .before .before .before .before .before .before))
+
+way-write-given-s-3 : tie.Need-way-write-given-s-3 Inv-loop2 μ-loop2 Inv-loop3 μ-loop3 Inv-loop μ-loop
+way-write-given-s-3 c = (station-within (c .before .before .before .before .before .before), tt, tt)
+
+mul-s-4 : tie.Need-mul-s-4 Inv-loop2 μ-loop2 Inv-loop3 μ-loop3 Inv-loop μ-loop
+mul-s-4 c = omega (arith, station-within (c .before .before .before .before .before .before .before))
+
+way-write-given-s-4 : tie.Need-way-write-given-s-4 Inv-loop2 μ-loop2 Inv-loop3 μ-loop3 Inv-loop μ-loop
+way-write-given-s-4 c = (station-within (c .before .before .before .before .before .before .before), tt, tt)
+
+mul-s-5 : tie.Need-mul-s-5 Inv-loop2 μ-loop2 Inv-loop3 μ-loop3 Inv-loop μ-loop
+mul-s-5 c = omega (arith, station-within (c .before .before .before .before .before .before .before .before))
+
+way-write-given-s-5 : tie.Need-way-write-given-s-5 Inv-loop2 μ-loop2 Inv-loop3 μ-loop3 Inv-loop μ-loop
+way-write-given-s-5 c = (station-within (c .before .before .before .before .before .before .before .before), tt, tt)
 
 added-requires : tie.Need-added-requires Inv-loop2 μ-loop2 Inv-loop3 μ-loop3 Inv-loop μ-loop
 added-requires c κs = search needs
-
--- ---- the turn ends: the network is the same, and it is the step
-abbrev Ending : Type 0
-Ending = tie.Joined5 Inv-loop2 μ-loop2 Inv-loop3 μ-loop3 Inv-loop μ-loop
-
-abbrev ended : Ending → Answered
-ended c = answered (c .before .before)
-
-abbrev steppedBy : Ending → State → Stepped
-steppedBy c s = record { answer = 0; counts = planOf (ended c) .counts; state = s }
-
-after-turn : (c : Ending) → (c .if5 .s .net ≡ stateOf (ended c) .net)
-    × (steppedBy c (c .if5 .s) ≡ steppedOf (stateOf (ended c)) (eventOf (ended c) .kind) (eventOf (ended c) .a) (eventOf (ended c) .b))
-after-turn c =
-    let b = begunAt (c .before .before) in
-    let o = puts b in
-    let n = closes o in
-    let s = stateOf n in
-    let p = planOf n in
-    let m = b .before .before .before .loop2 in
-    let l = c .before .before .before .before .loop3 in
-    let f = facts n in
-    let net = ap (λ (x : Net). keptBy x (meOf n) (p .resets) (p .purges) (toldOf n)) (sym (same-net (turnAt n))) in
-    let end : m .i ≡ roomOf n .left = omega arith in
-    let all : l .i ≡ n .before .count .result = omega arith in
-    ⊎-elim
-    (λ w. stores-again f (none o) (stores o) (laidDown o) refl (m .s) (l .s) (b .begun .result) (l .post) (m .i) (l .i) (m .inv)
-    (b .begun .ensures) (l .inv) end all (w .1 .result) (w .1 .ensures ∙ net) (c .if5 .s) (w .3))
-    (λ w. stays f (none o) (stores o) (laidDown o) refl (m .s) (l .s) (b .begun .result) (l .post) (m .i) (l .i) (m .inv)
-    (b .begun .ensures) (l .inv) end all (toldOf n)
-    (kept-same (s .net) (meOf n) (p .resets) (p .purges) (toldOf n) (sym (c .before .either .ensures) ∙ w .0 .left)) refl (c .if5 .s)
-    (w .1))
-    (c .if5 .came)
 
 put-turn-requires-2 : tie.Need-put-turn-requires-2 Inv-loop2 μ-loop2 Inv-loop3 μ-loop3 Inv-loop μ-loop
 put-turn-requires-2 c κs = search needs
@@ -366,8 +346,6 @@ take-events-spec =
     add-taken
     loop-less
     loop-again
-    mul-t47
-    element-set-from-s
     cast-last
     loop2-holds
     add-j
@@ -398,8 +376,21 @@ take-events-spec =
     add-s
     either-requires
     kept-table-requires
-    mul-t88
+    mul-t83
+    element-set-from-s
+    either-requires-2
+    mul-t90
     element-set-from-s-2
+    mul-s
+    way-write-given-s
+    mul-s-2
+    way-write-given-s-2
+    mul-s-3
+    way-write-given-s-3
+    mul-s-4
+    way-write-given-s-4
+    mul-s-5
+    way-write-given-s-5
     added-requires
     put-turn-requires-2
     add-taken-2

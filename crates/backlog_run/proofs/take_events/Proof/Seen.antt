@@ -1,5 +1,5 @@
 -- What `take_events` knows at the places of its code that have names: the three loops' invariants, what it has seen of an event when it has
--- its answer (`facts`), and the station as it is stored first.
+-- its answer (`facts`), and the state that the loops begin with. What it then makes of it: Taken.antt.
 use Prim.Native.Nat.{ℕ, _-_, _≤_, _<_, min}
 use mathlib.Core.Logic.{⊎-elim}
 use mathlib.Core.Path.{_≡_, sym, ap, _∙_}
@@ -23,28 +23,30 @@ use Rattle.step_parts.specs.declared.Names.{Names}
 use Rattle.step_parts.specs.declared.Room.{Room}
 use Rattle.step_parts.specs.Parts.{namesBy, placeBy}
 use Rattle.step_parts.proofs.Helpers.{place-few, Placed, placed}
-use Rattle.step_parts.proofs.Made.{Facts, stored}
+use Rattle.step_parts.proofs.Made.{Facts}
 use Rattle.step_parts.proofs.Loops.{withStation, Closing, Putting}
 use Rattle.backlog_run.specs.declared.Asked.{Asked}
 use Rattle.backlog_run.specs.Events.{eventCount}
 use Rattle.backlog_run.proofs.Course.{Course, asked-kind, asked-place}
 use Rattle.backlog_run.proofs.Turns.{told-same, told-long, sent-same}
+use Rattle.backlog_run.proofs.Lasting.{stands-stored}
 use Rattle.backlog_run.proofs.take_events.Tie as tie
 
 -- while the later letters close up
 abbrev pub Inv-loop2 : tie.InvT-loop2
-Inv-loop2 events stops trace s₀ net owns tally n taken place flying me who plan told send count room last from i₀ s i = Closing s₀ from last s i
+Inv-loop2 events stops trace s₀ net owns tally n taken e place flying me who plan told send count room last from i₀ s i =
+    Closing s₀ from last s i
 
 abbrev pub μ-loop2 : tie.MeasureT-loop2
-μ-loop2 events stops trace s₀ net owns tally n taken place flying me who plan told send count room last from i₀ s i = last - i
+μ-loop2 events stops trace s₀ net owns tally n taken e place flying me who plan told send count room last from i₀ s i = last - i
 
 -- while new letters are put at the end
 abbrev pub Inv-loop3 : tie.InvT-loop3
-Inv-loop3 events stops trace s₀ net owns tally n taken place flying me who plan told count room last from free post₀ i₀ s post i =
+Inv-loop3 events stops trace s₀ net owns tally n taken e place flying me who plan told count room last from free post₀ i₀ s post i =
     Putting s₀ me told last count post₀ s post i
 
 abbrev pub μ-loop3 : tie.MeasureT-loop3
-μ-loop3 events stops trace s₀ net owns tally n taken place flying me who plan told count room last from free post₀ i₀ s post i = count - i
+μ-loop3 events stops trace s₀ net owns tally n taken e place flying me who plan told count room last from free post₀ i₀ s post i = count - i
 
 -- between two events
 abbrev pub Inv-loop : tie.InvT-loop
@@ -175,18 +177,18 @@ abbrev pub Stored : Type 0
 Stored = tie.After-struct-known2 Inv-loop2 μ-loop2 Inv-loop3 μ-loop3 Inv-loop μ-loop
 
 abbrev pub closes : Stored → Answered
-closes c = c .before .before .before .before
+closes c = c .before .before .before
 
 abbrev pub puts : tie.After-begun Inv-loop2 μ-loop2 Inv-loop3 μ-loop3 Inv-loop μ-loop → Stored
 puts c = c .before .before .before .before
 
 -- that nothing refuses
 pub none : (c : Stored) → roomOf (closes c) .answer ≡ 0
-none c = c .before .before .if3 .left
+none c = c .before .if3 .left
 
--- the station is stored, with the table that is told
-abbrev pub laidDown : Stored → Station
-laidDown c = stored (planOf (closes c)) (toldOf (closes c))
+-- the loops begin with the state as the event found it, and its station stands there
+abbrev pub standing : Stored → Station
+standing c = stationIn (stateOf (closes c)) (meOf (closes c))
 
-abbrev pub stores : Stored → State
-stores c = withStation (stateOf (closes c)) (meOf (closes c)) (laidDown c)
+pub stands : (c : Stored) → stateOf (closes c) ≡ withStation (stateOf (closes c)) (meOf (closes c)) (standing c)
+stands c = stands-stored (stateOf (closes c)) (meOf (closes c))
