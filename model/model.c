@@ -8,15 +8,23 @@
  * Each reads `network.sheet` from the current folder and standard input, `backlog` up to the first refused event and the
  * others to its end. Quoted sentences are document 01's; for the backlog, document 02's (L1).
  *
- * In this order: sizes and shapes; the sheet as bytes; letters as bytes; well formed; reach, purge and report; what one
+ * The proved programs' times are measured beside this one's (bench/run), so it is written to be fast as well: marks are
+ * words with a bit for each link, an event changes the station in its place, input and output go in large blocks. Beside
+ * C11 it has POSIX's read and write and two builtins of gcc and clang.
+ *
+ * In this order: sizes and shapes; output; the sheet as bytes; letters as bytes; well formed; reach and purge; what one
  * station does; one event; lines of input; the four programs.
  */
 
+#define _POSIX_C_SOURCE 200809L
+
+#include <errno.h>
 #include <stdbool.h>
 #include <stdint.h>
 #include <stdio.h>
 #include <stdlib.h>
 #include <string.h>
+#include <unistd.h>
 
 /* ---- sizes and shapes ------------------------------------------------------------------------------------------- */
 
@@ -25,7 +33,6 @@ enum {
     MOST_LINKS = 64,
     MOST_LETTERS = 4096,
     MOST_SHEET_BYTES = 4096,
-    MOST_SENT = MOST_LINKS * MOST_STATIONS, /* one event: at most a notice of every link on every own link */
     HIGHEST_COUNTER = 65535
 };
 
@@ -64,29 +71,107 @@ struct letter {
 
 enum condition { DOWN = 0, WAITING = 1, LIVE = 2 };
 
-/* "five marks: token, turn, testing, asked, quiet" */
-struct marks {
-    bool token, turn, testing, asked, quiet;
+/* "five marks: token, turn, testing, asked, quiet", each one word for all links: bit k stands for link k. */
+struct station {
+    uint64_t condition, token, turn, testing, asked, quiet;
+    uint16_t counter[MOST_LINKS];
 };
 
-struct station {
-    uint8_t condition;
-    uint16_t counter[MOST_LINKS];
-    struct marks on[MOST_LINKS];
+/* What follows from the network alone, found once, when a state is made of it. */
+struct found {
+    uint64_t own[MOST_STATIONS];  /* bit k: link k is the station's own */
+    uint32_t ends[MOST_LINKS];    /* bit s: station s is an end of the link */
+    uint16_t initial[MOST_LINKS]; /* 1 for each link, 0 in unused room: the counters of a station that is not live */
 };
 
 struct state {
     struct network network;
+    struct found found;
     struct station station[MOST_STATIONS];
     uint32_t letters;
     struct letter letter[MOST_LETTERS];
 };
 
+/* Stations and letters have no gaps, so that unused ones are compared as whole blocks. */
+_Static_assert(sizeof(struct station) == 6 * 8 + MOST_LINKS * 2, "a gap in a station");
+_Static_assert(sizeof(struct letter) == 6, "a gap in a letter");
+
 static bool is_even(uint16_t counter) { return counter % 2 == 0; }
 
-static bool is_end(struct link link, uint8_t station) { return link.lower == station || link.higher == station; }
+static bool is_end(struct link link, uint32_t station) { return link.lower == station || link.higher == station; }
 
 static uint8_t other_end(struct link link, uint8_t station) { return link.lower == station ? link.higher : link.lower; }
+
+/* Words of bits. */
+static uint64_t bit(uint32_t link) { return (uint64_t)1 << link; }
+
+static uint32_t count(uint64_t word) { return (uint32_t)__builtin_popcountll(word); }
+
+static uint32_t lowest(uint64_t word) { return (uint32_t)__builtin_ctzll(word); } /* of a word that is not 0 */
+
+static uint64_t without_lowest(uint64_t word) { return word & (word - 1); }
+
+/* ---- output ------------------------------------------------------------------------------------------------------ */
+
+/* Input and output go in blocks; nothing that is printed at once is longer than MOST_PUT. */
+enum { BLOCK = 65536, MOST_PUT = 128 };
+
+static char printed[BLOCK];
+static size_t printed_size;
+
+/* Writes what is printed so far. */
+static void write_out(void)
+{
+    for (size_t at = 0; at < printed_size;) {
+        ssize_t wrote = write(STDOUT_FILENO, printed + at, printed_size - at);
+        if (wrote < 0 && errno != EINTR) {
+            perror("model");
+            exit(1);
+        }
+        if (wrote > 0)
+            at += (size_t)wrote;
+    }
+    printed_size = 0;
+}
+
+/* Where to print next, at most MOST_PUT bytes. */
+static char *place(void)
+{
+    if (printed_size > BLOCK - MOST_PUT)
+        write_out();
+    return printed + printed_size;
+}
+
+static void printed_to(const char *end) { printed_size = (size_t)(end - printed); }
+
+/* The digits of a number, the last one known first; the place behind them. */
+static char *spell(char *to, uint64_t number)
+{
+    char digit[20];
+    size_t many = 0;
+    do {
+        digit[many++] = (char)('0' + number % 10);
+        number /= 10;
+    } while (number != 0);
+    while (many > 0)
+        *to++ = digit[--many];
+    return to;
+}
+
+static void put_number(uint64_t number) { printed_to(spell(place(), number)); }
+
+static void put_text(const char *text)
+{
+    size_t size = strlen(text);
+    printed_to((char *)memcpy(place(), text, size) + size);
+}
+
+/* "A refused sheet prints its number alone." */
+static void print_refusal(int number)
+{
+    put_number((uint64_t)number);
+    put_text("\n");
+}
 
 /* ---- the sheet as bytes ------------------------------------------------------------------------------------------ */
 
@@ -275,6 +360,16 @@ static size_t write_letter(const struct network *network, const struct letter *l
 
 /* ---- well formed ------------------------------------------------------------------------------------------------- */
 
+/* "unused room is zero": compared as one block, each byte with the one 16 places before it. */
+static bool is_zero(const void *room, size_t size)
+{
+    static const uint8_t zero[16];
+    const uint8_t *byte = room;
+    if (size < sizeof zero)
+        return memcmp(byte, zero, size) == 0;
+    return memcmp(byte, zero, sizeof zero) == 0 && memcmp(byte + sizeof zero, byte, size - sizeof zero) == 0;
+}
+
 /* "the sheet rules hold", and no unused room of the network is other than zero. */
 static bool network_well_formed(const struct network *network)
 {
@@ -283,69 +378,60 @@ static bool network_well_formed(const struct network *network)
     for (uint32_t k = 0; k < network->links; k++)
         if (judge_link(network, k, network->link[k]) != ACCEPTED)
             return false;
-    for (uint32_t k = network->links; k < MOST_LINKS; k++)
-        if (network->link[k].lower != 0 || network->link[k].higher != 0)
-            return false;
-    return true;
+    return is_zero(&network->link[network->links], (MOST_LINKS - network->links) * sizeof network->link[0]);
 }
-
-static bool no_mark(struct marks m) { return !m.token && !m.turn && !m.testing && !m.asked && !m.quiet; }
 
 /* "a down station has no mark, a waiting one has token alone on each own link; marks stand only on own links; testing
- * never stands with token, turn or quiet; token never with turn; asked only with testing" */
-static bool marks_well_formed(uint8_t condition, bool own, struct marks m)
+ * never stands with token, turn or quiet; token never with turn; asked only with testing": on all links at once. */
+static bool marks_well_formed(const struct station *s, uint64_t own)
 {
-    if (!own || condition == DOWN)
-        return no_mark(m);
-    if (condition == WAITING)
-        return m.token && !m.turn && !m.testing && !m.asked && !m.quiet;
-    return !(m.testing && (m.token || m.turn || m.quiet)) && !(m.token && m.turn) && !(m.asked && !m.testing);
+    uint64_t others = s->turn | s->testing | s->asked | s->quiet;
+    if (s->condition == DOWN)
+        return (s->token | others) == 0;
+    if (s->condition == WAITING)
+        return s->token == own && others == 0;
+    return (((s->token | others) & ~own) | (s->testing & (s->token | s->turn | s->quiet)) | (s->token & s->turn) |
+            (s->asked & ~s->testing)) == 0;
 }
 
-static bool station_well_formed(const struct network *network, uint8_t number, const struct station *station)
+/* "counters ... are 1 to 65,535"; "a down or waiting station has all counters 1"; behind the last link is unused room.
+ * A live station's counter is 0 there and only there: gathered over all places, with one question at the end. */
+static bool counters_well_formed(const struct station *station, const uint16_t *initial)
 {
-    if (station->condition > LIVE)
-        return false;
-    for (uint32_t k = 0; k < network->links; k++) {
-        if (station->counter[k] == 0)
-            return false;
-        /* "a down or waiting station has all counters 1" */
-        if (station->condition != LIVE && station->counter[k] != 1)
-            return false;
-        if (!marks_well_formed(station->condition, is_end(network->link[k], number), station->on[k]))
-            return false;
-    }
-    for (uint32_t k = network->links; k < MOST_LINKS; k++)
-        if (station->counter[k] != 0 || !no_mark(station->on[k]))
-            return false;
-    return true;
-}
-
-static bool station_is_zero(const struct station *station)
-{
-    if (station->condition != 0)
-        return false;
+    if (station->condition != LIVE)
+        return memcmp(station->counter, initial, sizeof station->counter) == 0;
+    uint16_t faults = 0;
     for (uint32_t k = 0; k < MOST_LINKS; k++)
-        if (station->counter[k] != 0 || !no_mark(station->on[k]))
-            return false;
-    return true;
+        faults |= (uint16_t)((station->counter[k] == 0) ^ (initial[k] == 0));
+    return faults == 0;
 }
 
-/* "counters, in letters too, are 1 to 65,535"; "each letter's sender is an end of its link and its links exist" */
-static bool letter_well_formed(const struct network *network, const struct letter *letter)
+static bool station_well_formed(const struct found *found, uint32_t number, const struct station *station)
 {
-    if (letter->kind > NOTICE || letter->link >= network->links)
-        return false;
-    if (!is_end(network->link[letter->link], letter->sender))
-        return false;
-    if (letter->kind == NOTICE ? letter->subject >= network->links : letter->subject != 0)
-        return false;
-    return letter->kind == REQUEST ? letter->counter == 0 : letter->counter != 0;
+    return station->condition <= LIVE && marks_well_formed(station, found->own[number]) &&
+           counters_well_formed(station, found->initial);
 }
 
-static bool letter_is_zero(const struct letter *letter)
+/* "counters, in letters too, are 1 to 65,535"; "each letter's sender is an end of its link and its links exist". What a
+ * letter holds cannot be foreseen, so nothing is decided letter by letter: all is gathered, and asked at the end. */
+static bool letters_well_formed(const struct state *state)
 {
-    return letter->kind == 0 && letter->link == 0 && letter->sender == 0 && letter->subject == 0 && letter->counter == 0;
+    /* a notice's subject is one of the links, any other's is 0; kind 3 can have none */
+    const uint32_t subjects[4] = {[REQUEST] = 1, [REPLY] = 1, [NOTICE] = state->network.links, [3] = 0};
+    uint32_t kinds = 0, links = 0, senders = 0, faults = 0, ended = 1;
+    for (uint32_t i = 0; i < state->letters; i++) {
+        struct letter x = state->letter[i];
+        kinds |= x.kind;
+        links |= x.link;
+        senders |= x.sender;
+        /* a link that does not exist has no ends */
+        ended &= state->found.ends[x.link % MOST_LINKS] >> x.sender % MOST_STATIONS;
+        faults |= (uint32_t)(x.subject >= subjects[x.kind % 4]);
+        /* a request's counter is 0, and no other's */
+        faults |= (uint32_t)((x.counter == 0) ^ (x.kind == REQUEST));
+    }
+    /* the remainders above were the numbers themselves */
+    return kinds < 4 && links < MOST_LINKS && senders < MOST_STATIONS && faults == 0 && ended == 1;
 }
 
 static bool well_formed(const struct state *state)
@@ -353,19 +439,24 @@ static bool well_formed(const struct state *state)
     const struct network *network = &state->network;
     if (!network_well_formed(network) || state->letters > MOST_LETTERS)
         return false;
-    for (uint8_t s = 0; s < network->stations; s++)
-        if (!station_well_formed(network, s, &state->station[s]))
+    for (uint32_t s = 0; s < network->stations; s++)
+        if (!station_well_formed(&state->found, s, &state->station[s]))
             return false;
-    for (uint8_t s = network->stations; s < MOST_STATIONS; s++)
-        if (!station_is_zero(&state->station[s]))
-            return false;
-    for (uint32_t i = 0; i < state->letters; i++)
-        if (!letter_well_formed(network, &state->letter[i]))
-            return false;
-    for (uint32_t i = state->letters; i < MOST_LETTERS; i++)
-        if (!letter_is_zero(&state->letter[i]))
-            return false;
-    return true;
+    return is_zero(&state->station[network->stations], (MOST_STATIONS - network->stations) * sizeof state->station[0]) &&
+           letters_well_formed(state) &&
+           is_zero(&state->letter[state->letters], (MOST_LETTERS - state->letters) * sizeof state->letter[0]);
+}
+
+static void find(const struct network *network, struct found *found)
+{
+    memset(found, 0, sizeof *found);
+    for (uint32_t k = 0; k < network->links; k++) {
+        struct link link = network->link[k];
+        found->own[link.lower] |= bit(k);
+        found->own[link.higher] |= bit(k);
+        found->ends[k] = (uint32_t)1 << link.lower | (uint32_t)1 << link.higher;
+        found->initial[k] = 1;
+    }
 }
 
 /* "Right after reading a sheet every station is down and no letter is in flight." */
@@ -373,212 +464,249 @@ static void fresh(struct state *state, const struct network *network)
 {
     memset(state, 0, sizeof *state);
     state->network = *network;
+    find(network, &state->found);
     for (uint32_t s = 0; s < network->stations; s++)
-        for (uint32_t k = 0; k < network->links; k++)
-            state->station[s].counter[k] = 1;
+        memcpy(state->station[s].counter, state->found.initial, sizeof state->station[s].counter);
 }
 
-/* ---- reach, purge and report ------------------------------------------------------------------------------------- */
+/* ---- reach and purge --------------------------------------------------------------------------------------------- */
 
-static bool reached(uint32_t reach, uint8_t station) { return (reach >> station & 1) != 0; }
-
-/* "The search takes, each time, the first link, by number, that joins a reached station to an unreached one and is
- * even, and stops when none is left." Bit t of the answer stands for station t. */
-static uint32_t reach_of(const struct network *network, uint8_t from, const uint16_t *counter)
+/* "Station s reaches t if a list of stations leads from s to t, each next one joined by a link that is even in s's
+ * table". Bit t of the answer stands for station t. The links are gone through again and again until none leads on;
+ * "no promise says which link was taken". */
+static uint32_t reach_of(const struct state *state, uint32_t self)
 {
-    uint32_t reach = (uint32_t)1 << from; /* "s reaches itself" */
-    bool found = true;
-    while (found) {
-        found = false;
-        for (uint32_t k = 0; k < network->links && !found; k++) {
-            struct link link = network->link[k];
-            if (is_even(counter[k]) && reached(reach, link.lower) != reached(reach, link.higher)) {
-                reach |= (uint32_t)1 << link.lower | (uint32_t)1 << link.higher;
-                found = true;
-            }
-        }
-    }
+    const uint16_t *counter = state->station[self].counter;
+    uint32_t reach = (uint32_t)1 << self, before; /* "s reaches itself" */
+    do {
+        before = reach;
+        for (uint32_t k = 0; k < state->network.links; k++)
+            if (is_even(counter[k]) && (reach & state->found.ends[k]) != 0)
+                reach |= state->found.ends[k];
+    } while (reach != before);
     return reach;
 }
 
-static bool an_end_reached(uint32_t reach, struct link link) { return reached(reach, link.lower) || reached(reach, link.higher); }
-
 /* "every link neither of whose ends s reaches gets counter 1" */
-static void purge(const struct network *network, uint8_t self, struct station *station)
+static void purge(struct state *state, uint32_t self)
 {
-    uint32_t reach = reach_of(network, self, station->counter);
-    for (uint32_t k = 0; k < network->links; k++)
-        if (!an_end_reached(reach, network->link[k]))
-            station->counter[k] = 1;
+    uint32_t reach = reach_of(state, self);
+    for (uint32_t k = 0; k < state->network.links; k++)
+        if ((reach & state->found.ends[k]) == 0)
+            state->station[self].counter[k] = 1;
 }
 
 /* ---- what one station does --------------------------------------------------------------------------------------- */
 
-/* An event changes at most one station. It works on a copy of that station and sends into a tray; both are put in
- * place only when nothing refuses. */
-struct work {
-    const struct network *network;
-    uint8_t self;
-    struct station station;
-    uint32_t sent;
-    struct letter tray[MOST_SENT];
+struct event {
+    uint32_t kind, a, b;
 };
 
-static bool is_own(const struct work *work, uint32_t link) { return is_end(work->network->link[link], work->self); }
+/* An event changes at most one station, in its place, and sends to the end of the list. "Each refusal hands back the
+ * state it was given", so each kind of work first counts what it will send and asks for room; nothing is changed before. */
+struct work {
+    struct state *state;
+    uint64_t *settled;
+    uint32_t self;
+    struct station *station;
+    uint64_t own;
+    bool takes_letter; /* events 7 and 8 */
+    uint32_t number;   /* the letter's */
+};
 
-static void send(struct work *work, enum letter_kind kind, uint32_t link, uint32_t subject, uint16_t counter)
+/* Refusal 9: "more than 4,096 letters would be in flight after the event"; there is always room for none. Where there is
+ * room the event is taken, and its letter with it: "It leaves the list, the later ones close up"; the place left free is
+ * zero again. */
+static int take(struct work *work, uint32_t sends)
 {
-    struct letter *letter = &work->tray[work->sent];
-    letter->kind = (uint8_t)kind;
-    letter->link = (uint8_t)link;
-    letter->sender = work->self;
-    letter->subject = (uint8_t)subject;
-    letter->counter = counter;
-    work->sent++;
+    struct state *state = work->state;
+    uint32_t number = work->number, left = state->letters - (work->takes_letter ? 1 : 0);
+    if (left + sends > MOST_LETTERS)
+        return LETTERS_FULL;
+    if (work->takes_letter) {
+        /* "notices taken off by events 7 and 8" */
+        if (state->letter[number].kind == NOTICE && *work->settled < UINT64_MAX)
+            ++*work->settled;
+        memmove(&state->letter[number], &state->letter[number + 1], (left - number) * sizeof state->letter[0]);
+        memset(&state->letter[left], 0, sizeof state->letter[0]);
+        state->letters = left;
+    }
+    return ACCEPTED;
 }
 
-enum { NO_LINK = MOST_LINKS };
-
-/* A notice of one link, with the counter given, "on every own link that isn't quiet, by link number", except one. */
-static void send_notice_around(struct work *work, uint32_t subject, uint16_t counter, uint32_t except)
+/* "new letters go to the end" */
+static void send(struct work *work, enum letter_kind kind, uint32_t link, uint32_t subject, uint16_t counter)
 {
-    for (uint32_t k = 0; k < work->network->links; k++)
-        if (is_own(work, k) && k != except && !work->station.on[k].quiet)
-            send(work, NOTICE, k, subject, counter);
+    struct state *state = work->state;
+    state->letter[state->letters++] =
+        (struct letter){(uint8_t)kind, (uint8_t)link, (uint8_t)work->self, (uint8_t)subject, counter};
+}
+
+/* A notice of one link, with its counter, on each of the ways, by link number. */
+static void send_notice(struct work *work, uint64_t ways, uint32_t subject)
+{
+    for (; ways != 0; ways = without_lowest(ways))
+        send(work, NOTICE, lowest(ways), subject, work->station->counter[subject]);
+}
+
+/* "every own link that isn't quiet" */
+static uint64_t ways_of(const struct work *work) { return work->own & ~work->station->quiet; }
+
+/* "every link whose counter is above 1" */
+static uint64_t above_one(const struct work *work)
+{
+    uint64_t links = 0;
+    for (uint32_t k = 0; k < work->state->network.links; k++)
+        links |= (uint64_t)(work->station->counter[k] > 1) << k;
+    return links;
 }
 
 /* Event 1: "It becomes waiting, token on for each own link." */
-static void start(struct work *work)
+static int start(struct work *work)
 {
-    work->station.condition = WAITING;
-    for (uint32_t k = 0; k < work->network->links; k++)
-        if (is_own(work, k))
-            work->station.on[k].token = true;
+    work->station->condition = WAITING;
+    work->station->token = work->own;
+    return ACCEPTED;
 }
 
 /* Event 2: "Down, marks off, counters 1." */
-static void stop(struct work *work)
+static int stop(struct work *work)
 {
-    work->station.condition = DOWN;
-    memset(work->station.on, 0, sizeof work->station.on);
-    for (uint32_t k = 0; k < work->network->links; k++)
-        work->station.counter[k] = 1;
+    memset(work->station, 0, sizeof *work->station);
+    memcpy(work->station->counter, work->state->found.initial, sizeof work->station->counter);
+    return ACCEPTED;
 }
 
-/* Event 4: "With token: token off, testing on, request sent. With turn: turn off, testing on, request sent. With
- * neither: turn on." */
-static void interval_ends(struct work *work, uint32_t link)
+/* Event 4's work on some links, by link number: "With token: token off, testing on, request sent. With turn: turn off,
+ * testing on, request sent. With neither: turn on." */
+static int interval_ends(struct work *work, uint64_t links)
 {
-    struct marks *on = &work->station.on[link];
-    if (on->token || on->turn) {
-        on->token = false;
-        on->turn = false;
-        on->testing = true;
-        send(work, REQUEST, link, 0, 0);
-    } else {
-        on->turn = true;
-    }
+    struct station *station = work->station;
+    uint64_t tested = links & (station->token | station->turn);
+    int no = take(work, count(tested));
+    if (no != ACCEPTED)
+        return no;
+    station->token &= ~tested;
+    station->turn = (station->turn | links) & ~tested;
+    station->testing |= tested;
+    for (; tested != 0; tested = without_lowest(tested))
+        send(work, REQUEST, lowest(tested), 0, 0);
+    return ACCEPTED;
 }
 
 /* Event 3: "It becomes live and event 4's work is done on each own link, by link number." */
-static void recovery_wait_ends(struct work *work)
+static int recovery_wait_ends(struct work *work)
 {
-    work->station.condition = LIVE;
-    for (uint32_t k = 0; k < work->network->links; k++)
-        if (is_own(work, k))
-            interval_ends(work, k);
+    int no = interval_ends(work, work->own);
+    if (no == ACCEPTED)
+        work->station->condition = LIVE;
+    return no;
 }
 
 /* Event 5. An even counter is at most 65,534, so the sum has room. */
-static void timeout_ends(struct work *work, uint32_t link)
+static int timeout_ends(struct work *work, uint32_t link)
 {
-    struct marks *on = &work->station.on[link];
-    on->testing = false;
-    if (on->asked) {
-        on->asked = false;
-        on->token = true;
+    struct station *station = work->station;
+    bool even = is_even(station->counter[link]);
+    /* "send a notice of b on every other own link that isn't quiet": with the new counter */
+    uint64_t ways = even ? ways_of(work) & ~bit(link) : 0;
+    int no = take(work, count(ways));
+    if (no != ACCEPTED)
+        return no;
+    station->testing &= ~bit(link);
+    station->token |= station->asked & bit(link);
+    station->asked &= ~bit(link);
+    if (even) {
+        station->counter[link]++;
+        send_notice(work, ways, link);
+        station->quiet |= bit(link);
+        purge(work->state, work->self);
     }
-    if (is_even(work->station.counter[link])) {
-        work->station.counter[link]++;
-        /* "send a notice of b on every other own link that isn't quiet": with the new counter */
-        send_notice_around(work, link, work->station.counter[link], link);
-        on->quiet = true;
-        purge(work->network, work->self, &work->station);
-    }
+    return ACCEPTED;
 }
 
-static void hear_request(struct work *work, const struct letter *letter)
+static int hear_request(struct work *work, struct letter letter)
 {
-    uint32_t link = letter->link;
-    struct marks *on = &work->station.on[link];
-    if (on->testing && work->self > letter->sender) {
-        on->asked = true;
-        return;
+    struct station *station = work->station;
+    uint64_t here = bit(letter.link);
+    if ((station->testing & here) != 0 && work->self > letter.sender) {
+        station->asked |= here;
+        return take(work, 0);
     }
-    on->testing = false;
-    on->asked = false;
-    on->token = true;
-    on->turn = false;
-    /* "a notice of every other link whose counter is above 1": other links of the network, sent on this link */
-    if (!is_even(work->station.counter[link]))
-        for (uint32_t k = 0; k < work->network->links; k++)
-            if (k != link && work->station.counter[k] > 1)
-                send(work, NOTICE, link, k, work->station.counter[k]);
-    send(work, REPLY, link, 0, work->station.counter[link]);
+    /* "if its counter for the link is odd ... a notice of every other link whose counter is above 1": other links of the
+     * network, sent on this link */
+    uint64_t told = is_even(station->counter[letter.link]) ? 0 : above_one(work) & ~here;
+    int no = take(work, count(told) + 1);
+    if (no != ACCEPTED)
+        return no;
+    station->testing &= ~here;
+    station->asked &= ~here;
+    station->token |= here;
+    station->turn &= ~here;
+    for (; told != 0; told = without_lowest(told))
+        send_notice(work, here, lowest(told));
+    send(work, REPLY, letter.link, 0, station->counter[letter.link]);
+    return ACCEPTED;
 }
 
-/* The only work that can be refused: 8, "a reply would make a counter 65,536". */
-static int hear_reply(struct work *work, const struct letter *letter)
+/* The only work that can be refused as 8, "a reply would make a counter 65,536". */
+static int hear_reply(struct work *work, struct letter letter)
 {
-    uint32_t link = letter->link;
-    struct marks *on = &work->station.on[link];
-    if (!on->testing)
-        return ACCEPTED;
-    on->testing = false;
-    on->asked = false;
+    struct station *station = work->station;
+    uint64_t here = bit(letter.link);
+    if ((station->testing & here) == 0)
+        return take(work, 0);
 
-    uint16_t own = work->station.counter[link], carried = letter->counter;
+    uint16_t own = station->counter[letter.link], carried = letter.counter;
     uint16_t m = own > carried ? own : carried;
     if (m == HIGHEST_COUNTER)
         return COUNTER_FULL;
-    work->station.counter[link] = is_even(m) ? m : (uint16_t)(m + 1);
+    uint16_t risen = is_even(m) ? m : (uint16_t)(m + 1);
 
-    if (!is_even(own) || !is_even(carried)) {
-        /* "a notice of every link whose counter is now above 1, ... each on every own link ...; then purge" */
-        for (uint32_t k = 0; k < work->network->links; k++)
-            if (work->station.counter[k] > 1)
-                send_notice_around(work, k, work->station.counter[k], NO_LINK);
-        purge(work->network, work->self, &work->station);
-    } else if (own != carried) {
-        send_notice_around(work, link, work->station.counter[link], NO_LINK);
-    }
+    /* an odd one: "a notice of every link whose counter is now above 1, ... each on every own link ...; then purge". This
+     * link's is above 1 now, and the others' are what they were. Both even: "a notice of this link alone", if they differ */
+    bool odd = !is_even(own) || !is_even(carried);
+    uint64_t ways = ways_of(work), told = odd ? above_one(work) | here : own != carried ? here : 0;
+    int no = take(work, count(told) * count(ways));
+    if (no != ACCEPTED)
+        return no;
+    station->testing &= ~here;
+    station->asked &= ~here;
+    station->counter[letter.link] = risen;
+    for (; told != 0; told = without_lowest(told))
+        send_notice(work, ways, lowest(told));
+    if (odd)
+        purge(work->state, work->self);
     return ACCEPTED;
 }
 
 /* "If its counter is above the own one: take it, and send the same on every own link that isn't quiet, other than the
  * one it came on". "No purge here". */
-static void hear_notice(struct work *work, const struct letter *letter)
+static int hear_notice(struct work *work, struct letter letter)
 {
-    if (letter->counter > work->station.counter[letter->subject]) {
-        work->station.counter[letter->subject] = letter->counter;
-        send_notice_around(work, letter->subject, letter->counter, letter->link);
-    }
+    if (letter.counter <= work->station->counter[letter.subject])
+        return take(work, 0);
+    uint64_t ways = ways_of(work) & ~bit(letter.link);
+    int no = take(work, count(ways));
+    if (no != ACCEPTED)
+        return no;
+    work->station->counter[letter.subject] = letter.counter;
+    send_notice(work, ways, letter.subject);
+    return ACCEPTED;
 }
 
-static int hear(struct work *work, const struct letter *letter)
+static int hear(struct work *work, struct letter letter)
 {
     /* "If the receiver isn't live, or quiet on that link, the letter is gone and nothing else happens." */
-    if (work->station.condition != LIVE || work->station.on[letter->link].quiet)
-        return ACCEPTED;
-    switch (letter->kind) {
+    if (work->station->condition != LIVE || (work->station->quiet & bit(letter.link)) != 0)
+        return take(work, 0);
+    switch (letter.kind) {
     case REQUEST:
-        hear_request(work, letter);
-        return ACCEPTED;
+        return hear_request(work, letter);
     case REPLY:
         return hear_reply(work, letter);
     default:
-        hear_notice(work, letter);
-        return ACCEPTED;
+        return hear_notice(work, letter);
     }
 }
 
@@ -595,10 +723,6 @@ enum {
     LOSE = 8
 };
 
-struct event {
-    uint32_t kind, a, b;
-};
-
 /* Refusal 6: "no such event kind, station, link at that station or letter; an unused number that isn't 0" */
 static bool names_something(const struct state *state, struct event event)
 {
@@ -611,7 +735,7 @@ static bool names_something(const struct state *state, struct event event)
     case INTERVAL_ENDS:
     case TIMEOUT_ENDS:
     case QUIET_ENDS:
-        return event.a < network->stations && event.b < network->links && is_end(network->link[event.b], (uint8_t)event.a);
+        return event.a < network->stations && event.b < network->links && is_end(network->link[event.b], event.a);
     case DELIVER:
     case LOSE:
         return event.a < state->letters && event.b == 0;
@@ -620,13 +744,9 @@ static bool names_something(const struct state *state, struct event event)
     }
 }
 
-/* Refusal 7: "the station's condition or marks don't allow it". Of an event that names something. */
-static bool is_allowed(const struct state *state, struct event event)
+/* Refusal 7: "the station's condition or marks don't allow it". Of an event 1 to 6 that names something. */
+static bool is_allowed(const struct station *station, struct event event)
 {
-    if (event.kind == DELIVER || event.kind == LOSE)
-        return true;
-    const struct station *station = &state->station[event.a];
-    const struct marks *on = &station->on[event.b];
     switch (event.kind) {
     case START:
         return station->condition == DOWN;
@@ -635,146 +755,151 @@ static bool is_allowed(const struct state *state, struct event event)
     case RECOVERY_WAIT_ENDS:
         return station->condition == WAITING;
     case INTERVAL_ENDS:
-        return station->condition == LIVE && !on->testing && !on->quiet;
+        return station->condition == LIVE && ((station->testing | station->quiet) & bit(event.b)) == 0;
     case TIMEOUT_ENDS:
-        return on->testing;
+        return (station->testing & bit(event.b)) != 0;
     default: /* QUIET_ENDS */
-        return on->quiet;
+        return (station->quiet & bit(event.b)) != 0;
     }
-}
-
-/* "It leaves the list, the later ones close up"; the place left free is zero again. */
-static void take_letter(struct state *state, uint32_t number)
-{
-    state->letters--;
-    memmove(&state->letter[number], &state->letter[number + 1], (state->letters - number) * sizeof state->letter[0]);
-    memset(&state->letter[state->letters], 0, sizeof state->letter[0]);
 }
 
 /* One event. "Calls over a state go 11, 6, 7, 8, 9, 10. Each refusal hands back the state it was given and touches ...
  * no tally". *settled counts "notices taken off by events 7 and 8". */
 static int step(struct state *state, struct event event, bool trust, uint64_t *settled)
 {
-    static struct work work;
-
     /* Refusal 11 can never arise from the program's own states. */
     if (!trust && !well_formed(state)) {
-        fflush(stdout);
+        write_out();
         fprintf(stderr, "model: the state is not well formed\n");
         abort();
     }
     if (!names_something(state, event))
         return NO_SUCH;
-    if (!is_allowed(state, event))
+
+    struct work work = {.state = state, .settled = settled};
+    struct letter letter = {0, 0, 0, 0, 0};
+    if (event.kind == DELIVER || event.kind == LOSE) {
+        /* a letter's receiver is the other end of its link */
+        letter = state->letter[event.a];
+        work.self = other_end(state->network.link[letter.link], letter.sender);
+        work.takes_letter = true;
+        work.number = event.a;
+    } else {
+        work.self = event.a;
+    }
+    work.station = &state->station[work.self];
+    work.own = state->found.own[work.self];
+    if (!work.takes_letter && !is_allowed(work.station, event))
         return NOT_ALLOWED;
 
-    bool takes_letter = event.kind == DELIVER || event.kind == LOSE;
-    struct letter letter = {0, 0, 0, 0, 0};
-    if (takes_letter)
-        letter = state->letter[event.a];
-
-    int no = ACCEPTED;
-    work.sent = 0;
-    if (event.kind != LOSE) {
-        work.network = &state->network;
-        /* a letter's receiver is the other end of its link */
-        work.self = event.kind == DELIVER ? other_end(state->network.link[letter.link], letter.sender) : (uint8_t)event.a;
-        work.station = state->station[work.self];
-        switch (event.kind) {
-        case START:
-            start(&work);
-            break;
-        case STOP:
-            stop(&work);
-            break;
-        case RECOVERY_WAIT_ENDS:
-            recovery_wait_ends(&work);
-            break;
-        case INTERVAL_ENDS:
-            interval_ends(&work, event.b);
-            break;
-        case TIMEOUT_ENDS:
-            timeout_ends(&work, event.b);
-            break;
-        case QUIET_ENDS:
-            work.station.on[event.b].quiet = false;
-            break;
-        case DELIVER:
-            no = hear(&work, &letter);
-            break;
-        }
+    switch (event.kind) {
+    case START:
+        return start(&work);
+    case STOP:
+        return stop(&work);
+    case RECOVERY_WAIT_ENDS:
+        return recovery_wait_ends(&work);
+    case INTERVAL_ENDS:
+        return interval_ends(&work, bit(event.b));
+    case TIMEOUT_ENDS:
+        return timeout_ends(&work, event.b);
+    case QUIET_ENDS:
+        work.station->quiet &= ~bit(event.b);
+        return ACCEPTED;
+    case DELIVER:
+        return hear(&work, letter);
+    default: /* LOSE */
+        return take(&work, 0);
     }
-    if (no != ACCEPTED)
-        return no;
-    /* "more than 4,096 letters would be in flight after the event" */
-    if (state->letters - (takes_letter ? 1 : 0) + work.sent > MOST_LETTERS)
-        return LETTERS_FULL;
-
-    if (takes_letter)
-        take_letter(state, event.a);
-    if (event.kind != LOSE)
-        state->station[work.self] = work.station;
-    /* "new letters go to the end" */
-    memcpy(&state->letter[state->letters], work.tray, work.sent * sizeof work.tray[0]);
-    state->letters += work.sent;
-    if (takes_letter && letter.kind == NOTICE && *settled < UINT64_MAX)
-        (*settled)++;
-    return ACCEPTED;
 }
 
 /* ---- lines of input ---------------------------------------------------------------------------------------------- */
 
 enum line { NO_LINE, GOOD_LINE, MALFORMED_LINE };
 
-/* Standard input in large blocks, so that a time measured beside this program's has no call of the library for each byte in it. */
-static int next_byte(void)
+/* No good line of either kind is as long as this. */
+enum { LONG_LINE = 100 };
+
+/* Standard input in large blocks: the bytes not yet used are input[used] to input[got - 1], and a newline stands behind
+ * them, so that whoever reads a line meets one before the block ends. */
+static uint8_t input[BLOCK + 1] = {'\n'};
+static size_t used, got;
+static bool over; /* the input has no more */
+
+/* Reads on, behind the line under way. Whatever is printed is written first: who waits for an answer before giving the
+ * next line has it. */
+static void read_on(void)
 {
-    static uint8_t block[65536];
-    static size_t size, at;
-    if (at == size) {
-        size = fread(block, 1, sizeof block, stdin);
-        at = 0;
-        if (size == 0)
-            return EOF;
-    }
-    return block[at++];
+    write_out();
+    /* a line may have any length; the front of a long one says already that it is malformed */
+    size_t kept = got - used > LONG_LINE ? LONG_LINE : got - used;
+    memmove(input, input + used, kept);
+    ssize_t more;
+    do
+        more = read(STDIN_FILENO, input + kept, BLOCK - kept);
+    while (more < 0 && errno == EINTR);
+    over = more <= 0;
+    used = 0;
+    got = kept + (over ? 0 : (size_t)more);
+    input[got] = '\n';
 }
 
-/* "lines of three decimal numbers with one space between, each of 1 to 9 digits; the last newline may be missing".
- * Leading zeros are digits like others. No byte at all is no line. */
+enum sight { WHOLE, PART, NOTHING };
+
+/* After a look at the line that begins at input[used], up to the newline met: whether it is the line's own. If it is the one
+ * behind the block, more is read, and the line is to be looked at again. "the last newline may be missing"; no byte at all
+ * is no line. */
+static enum sight seen(const uint8_t *newline)
+{
+    if (newline < input + got) {
+        used = (size_t)(newline - input) + 1;
+        return WHOLE;
+    }
+    if (!over) {
+        read_on();
+        return PART;
+    }
+    if (used == got)
+        return NOTHING;
+    used = got;
+    return WHOLE;
+}
+
+/* A number of 1 to 9 digits. Leading zeros are digits like others. */
+static const uint8_t *read_number(const uint8_t *at, uint32_t *number, bool *good)
+{
+    const uint8_t *first = at;
+    uint32_t value = 0;
+    for (uint32_t digit; (digit = (uint32_t)*at - '0') <= 9; at++)
+        value = value * 10 + digit;
+    *number = value;
+    *good &= at - first >= 1 && at - first <= 9;
+    return at;
+}
+
+/* "lines of three decimal numbers with one space between, each of 1 to 9 digits; the last newline may be missing" */
 static enum line read_event_line(struct event *event)
 {
-    uint32_t number[3] = {0, 0, 0};
-    bool good = true;
-    int c = next_byte();
-    if (c == EOF)
+    bool good;
+    enum sight sight;
+    do {
+        good = true;
+        const uint8_t *at = read_number(input + used, &event->kind, &good);
+        good &= *at == ' ';
+        at = read_number(at + good, &event->a, &good);
+        good &= *at == ' ';
+        at = read_number(at + good, &event->b, &good);
+        good &= *at == '\n';
+        while (*at != '\n')
+            at++;
+        sight = seen(at);
+    } while (sight == PART);
+    if (sight == NOTHING)
         return NO_LINE;
-    for (int i = 0; i < 3 && good; i++) {
-        int digits = 0;
-        while (c >= '0' && c <= '9' && digits < 10) {
-            digits++;
-            if (digits <= 9)
-                number[i] = number[i] * 10 + (uint32_t)(c - '0');
-            c = next_byte();
-        }
-        good = digits >= 1 && digits <= 9;
-        if (good && i < 2) {
-            good = c == ' ';
-            if (good)
-                c = next_byte();
-        }
-    }
-    if (c != '\n' && c != EOF)
-        good = false;
-    while (c != '\n' && c != EOF)
-        c = next_byte();
-    event->kind = number[0];
-    event->a = number[1];
-    event->b = number[2];
     return good ? GOOD_LINE : MALFORMED_LINE;
 }
 
-static int hexadecimal_digit(int c)
+static int hexadecimal_digit(uint8_t c)
 {
     if (c >= '0' && c <= '9')
         return c - '0';
@@ -790,24 +915,29 @@ enum { MOST_DIGITS = 64 };
 /* A line of hexadecimal digits of either case, an even number of them, at most 64. An empty line is no bytes. */
 static enum line read_hexadecimal_line(uint8_t *bytes, size_t *size)
 {
-    size_t digits = 0;
-    bool good = true;
-    int c = next_byte();
-    if (c == EOF)
-        return NO_LINE;
-    while (c != '\n' && c != EOF) {
-        int value = hexadecimal_digit(c);
-        if (value < 0 || digits == MOST_DIGITS) {
-            good = false;
-        } else if (good) {
-            if (digits % 2 == 0)
-                bytes[digits / 2] = (uint8_t)(value * 16);
-            else
-                bytes[digits / 2] = (uint8_t)(bytes[digits / 2] + value);
-            digits++;
+    size_t digits;
+    bool good;
+    enum sight sight;
+    do {
+        const uint8_t *at = input + used;
+        digits = 0;
+        good = true;
+        for (; *at != '\n'; at++) {
+            int value = hexadecimal_digit(*at);
+            if (value < 0 || digits == MOST_DIGITS) {
+                good = false;
+            } else if (good) {
+                if (digits % 2 == 0)
+                    bytes[digits / 2] = (uint8_t)(value * 16);
+                else
+                    bytes[digits / 2] = (uint8_t)(bytes[digits / 2] + value);
+                digits++;
+            }
         }
-        c = next_byte();
-    }
+        sight = seen(at);
+    } while (sight == PART);
+    if (sight == NOTHING)
+        return NO_LINE;
     *size = digits / 2;
     return good && digits % 2 == 0 ? GOOD_LINE : MALFORMED_LINE;
 }
@@ -819,21 +949,36 @@ static struct state the_state;
 /* "At the end: one line per station, its number and its counters by link." */
 static void print_counters(const struct state *state)
 {
-    for (unsigned s = 0; s < state->network.stations; s++) {
-        printf("%u", s);
-        for (uint32_t k = 0; k < state->network.links; k++)
-            printf(" %u", (unsigned)state->station[s].counter[k]);
-        printf("\n");
+    for (uint32_t s = 0; s < state->network.stations; s++) {
+        put_number(s);
+        for (uint32_t k = 0; k < state->network.links; k++) {
+            put_text(" ");
+            put_number(state->station[s].counter[k]);
+        }
+        put_text("\n");
     }
 }
 
-static int events(bool trust)
+/* "For each it prints: answer, letters in flight, notices settled so far" */
+static void print_answer(int answer, uint32_t letters, uint64_t settled)
+{
+    char *to = place();
+    *to++ = (char)('0' + answer);
+    *to++ = ' ';
+    to = spell(to, letters);
+    *to++ = ' ';
+    to = spell(to, settled);
+    *to++ = '\n';
+    printed_to(to);
+}
+
+static void events(bool trust)
 {
     struct network network;
     int no = read_sheet_file(&network);
     if (no != ACCEPTED) {
-        printf("%d\n", no); /* "A refused sheet prints its number alone." */
-        return 0;
+        print_refusal(no);
+        return;
     }
     fresh(&the_state, &network);
 
@@ -843,22 +988,21 @@ static int events(bool trust)
     while ((line = read_event_line(&event)) != NO_LINE) {
         /* "A malformed line, an empty one among them, changes nothing and prints answer 6" */
         int answer = line == GOOD_LINE ? step(&the_state, event, trust, &settled) : NO_SUCH;
-        printf("%d %lu %llu\n", answer, (unsigned long)the_state.letters, (unsigned long long)settled);
+        print_answer(answer, the_state.letters, settled);
     }
     print_counters(&the_state);
-    return 0;
 }
 
 /* "it equals the calls one by one, stops at the first refused event, and hands back the state after those taken, how
  * many, and the refusal's number". A malformed line ends the list, as "one or two left over" would: "an event refused
  * as 6". What stands behind is not looked at. */
-static int backlog(bool trust)
+static void backlog(bool trust)
 {
     struct network network;
     int no = read_sheet_file(&network);
     if (no != ACCEPTED) {
-        printf("%d\n", no);
-        return 0;
+        print_refusal(no);
+        return;
     }
     fresh(&the_state, &network);
 
@@ -872,49 +1016,56 @@ static int backlog(bool trust)
             taken++;
     }
 
-    printf("%llu %d %lu %llu\n", (unsigned long long)taken, answer, (unsigned long)the_state.letters, (unsigned long long)settled);
+    put_number(taken);
+    put_text(" ");
+    print_answer(answer, the_state.letters, settled);
     print_counters(&the_state);
-    return 0;
 }
 
 /* "For a live station: one byte per station (0 unreachable, 1 working), then one per link", here in words. */
-static void print_report(const struct network *network, uint8_t self, const struct station *station)
+static void print_report(const struct state *state, uint32_t self)
 {
-    uint32_t reach = reach_of(network, self, station->counter);
-    unsigned count = 0, lowest = 255; /* "the lowest station not reached, or 255 if all are" */
-    for (uint8_t t = 0; t < network->stations; t++) {
-        if (reached(reach, t))
-            count++;
-        else if (lowest == 255)
-            lowest = t;
+    const struct network *network = &state->network;
+    uint32_t reach = reach_of(state, self), stations = network->stations;
+    uint32_t others = ~reach & (uint32_t)(bit(stations) - 1); /* not reached */
+    put_text("station ");
+    put_number(self);
+    put_text(" live, reaches ");
+    put_number(count(reach));
+    put_text(" of ");
+    put_number(stations);
+    if (others != 0) { /* "the lowest station not reached" */
+        put_text(", lowest not reached ");
+        put_number(lowest(others));
     }
-    printf("station %u live, reaches %u of %u", (unsigned)self, count, (unsigned)network->stations);
-    if (lowest != 255)
-        printf(", lowest not reached %u", lowest);
-    printf("\n");
+    put_text("\n");
 
-    for (uint8_t t = 0; t < network->stations; t++)
-        printf("  station %u %s\n", (unsigned)t, reached(reach, t) ? "working" : "unreachable");
+    for (uint32_t t = 0; t < stations; t++) {
+        put_text("  station ");
+        put_number(t);
+        put_text((reach >> t & 1) != 0 ? " working\n" : " unreachable\n");
+    }
     for (uint32_t k = 0; k < network->links; k++) {
-        struct link link = network->link[k];
-        const char *word;
-        if (!an_end_reached(reach, link))
-            word = "perceived unreachable";
-        else if (is_even(station->counter[k]))
-            word = "working";
+        put_text("  link ");
+        put_number(k);
+        put_text(" (");
+        put_number(network->link[k].lower);
+        put_text("-");
+        put_number(network->link[k].higher);
+        if ((reach & state->found.ends[k]) == 0)
+            put_text(") perceived unreachable\n");
         else
-            word = "unresponsive";
-        printf("  link %lu (%u-%u) %s\n", (unsigned long)k, (unsigned)link.lower, (unsigned)link.higher, word);
+            put_text(is_even(state->station[self].counter[k]) ? ") working\n" : ") unresponsive\n");
     }
 }
 
-static int page(bool trust)
+static void page(bool trust)
 {
     struct network network;
     int no = read_sheet_file(&network);
     if (no != ACCEPTED) {
-        printf("%d\n", no);
-        return 0;
+        print_refusal(no);
+        return;
     }
     fresh(&the_state, &network);
 
@@ -928,76 +1079,94 @@ static int page(bool trust)
             refused++;
     }
 
-    printf("%llu events taken, %llu refused\n", (unsigned long long)taken, (unsigned long long)refused);
-    for (uint8_t s = 0; s < network.stations; s++) {
-        const struct station *station = &the_state.station[s];
-        if (station->condition == LIVE)
-            print_report(&network, s, station);
-        else
-            printf("station %u %s\n", (unsigned)s, station->condition == DOWN ? "down" : "waiting");
+    put_number(taken);
+    put_text(" events taken, ");
+    put_number(refused);
+    put_text(" refused\n");
+    for (uint32_t s = 0; s < network.stations; s++) {
+        if (the_state.station[s].condition == LIVE) {
+            print_report(&the_state, s);
+        } else {
+            put_text("station ");
+            put_number(s);
+            put_text(the_state.station[s].condition == DOWN ? " down\n" : " waiting\n");
+        }
     }
-    return 0;
 }
 
-static void print_bytes(const uint8_t *bytes, size_t size)
+static void put_bytes(const uint8_t *bytes, size_t size)
 {
-    for (size_t i = 0; i < size; i++)
-        printf("%02X", (unsigned)bytes[i]);
+    for (size_t i = 0; i < size; i++) {
+        char *to = place();
+        to[0] = "0123456789ABCDEF"[bytes[i] / 16];
+        to[1] = "0123456789ABCDEF"[bytes[i] % 16];
+        printed_to(to + 2);
+    }
 }
 
-static int wire(void)
+static void put_field(uint64_t number)
+{
+    put_number(number);
+    put_text(" ");
+}
+
+static void wire(void)
 {
     struct network network;
     uint8_t bytes[4 + MOST_LINKS * 5 + 3];
     size_t size;
     int no = read_sheet_file(&network);
+    put_text("sheet ");
     if (no != ACCEPTED) {
-        printf("sheet %d\n", no);
-        return 0;
+        print_refusal(no);
+        return;
     }
-    printf("sheet 0 %u %u ", (unsigned)network.stations, (unsigned)network.links);
-    print_bytes(bytes, write_sheet(&network, bytes));
-    printf("\n");
+    put_text("0 ");
+    put_field(network.stations);
+    put_field(network.links);
+    put_bytes(bytes, write_sheet(&network, bytes));
+    put_text("\n");
 
     enum line line;
     while ((line = read_hexadecimal_line(bytes, &size)) != NO_LINE) {
         struct letter letter;
         if (line == MALFORMED_LINE) {
-            printf("malformed\n");
+            put_text("malformed\n");
             continue;
         }
         no = read_letter(&network, bytes, size, &letter);
         if (no != ACCEPTED) {
-            printf("%d\n", no);
+            print_refusal(no);
             continue;
         }
-        unsigned link = letter.link, sender = letter.sender, subject = letter.subject, counter = letter.counter;
-        if (letter.kind == REQUEST)
-            printf("0 request %u %u ", link, sender);
-        else if (letter.kind == REPLY)
-            printf("0 reply %u %u %u ", link, sender, counter);
-        else
-            printf("0 notice %u %u %u %u ", link, sender, subject, counter);
-        print_bytes(bytes, write_letter(&network, &letter, bytes));
-        printf("\n");
+        put_text(letter.kind == REQUEST ? "0 request " : letter.kind == REPLY ? "0 reply " : "0 notice ");
+        put_field(letter.link);
+        put_field(letter.sender);
+        if (letter.kind == NOTICE)
+            put_field(letter.subject);
+        if (letter.kind != REQUEST)
+            put_field(letter.counter);
+        put_bytes(bytes, write_letter(&network, &letter, bytes));
+        put_text("\n");
     }
-    return 0;
 }
 
 int main(int argc, char **argv)
 {
     const char *program = argc >= 2 ? argv[1] : "";
-    bool trust = argc == 3 && strcmp(argv[2], "--trust") == 0;
-    if (argc == 2 || trust) {
-        if (strcmp(program, "events") == 0)
-            return events(trust);
-        if (strcmp(program, "page") == 0)
-            return page(trust);
-        if (strcmp(program, "backlog") == 0)
-            return backlog(trust);
-        if (strcmp(program, "wire") == 0)
-            return wire();
+    bool trust = argc == 3 && strcmp(argv[2], "--trust") == 0, known = argc == 2 || trust;
+    if (known && strcmp(program, "events") == 0) {
+        events(trust);
+    } else if (known && strcmp(program, "page") == 0) {
+        page(trust);
+    } else if (known && strcmp(program, "backlog") == 0) {
+        backlog(trust);
+    } else if (known && strcmp(program, "wire") == 0) {
+        wire();
+    } else {
+        fprintf(stderr, "usage: model events|page|backlog|wire [--trust]\n");
+        return 2;
     }
-    fprintf(stderr, "usage: model events|page|backlog|wire [--trust]\n");
-    return 2;
+    write_out();
+    return 0;
 }

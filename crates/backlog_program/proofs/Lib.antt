@@ -1,6 +1,5 @@
-pub mod Lines
 pub mod Takes
 pub mod Firsts
-pub mod Taking
+pub mod Malformed
 pub mod Standing
 pub mod Program

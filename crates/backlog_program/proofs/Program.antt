@@ -3,7 +3,7 @@
 use Prim.Native.Nat.{ℕ}
 use mathlib.Core.Bool.{Bool}
 use mathlib.Core.Path.{_≡_, refl, sym, ap, _∙_}
-use mathlib.Core.List.{List, map}
+use mathlib.Core.List.{List, [], _∷_, _++_, map}
 use lib.Dec.{T}
 use borrow.Author.Tests.{ne-eqb}
 use Rattle.lists.specs.Lists.{if_then_else_}
@@ -25,20 +25,33 @@ use Rattle.state.specs.State.{stateOf}
 use Rattle.state.proofs.LaidOut.{laid-sized, laid-holds}
 use Rattle.step_rules.proofs.Bridge.{Good}
 use Rattle.backlog_rules.specs.declared.Taken.{Taken}
-use Rattle.backlog_rules.specs.Backlog.{stopping, calls}
-use Rattle.backlog_rules.proofs.Laws.{before-none, good-state}
+use Rattle.backlog_rules.specs.Backlog.{calls}
+use Rattle.backlog_rules.proofs.Laws.{at-the-end, good-state}
 use Rattle.console.specs.Sheets.{fileSheet, openedBy, refusalText}
-use Rattle.console.proofs.Lines.{joined, whole-held}
+use Rattle.console.specs.Feeding.{printed, wholeText}
+use Rattle.console.proofs.Lines.{joined, whole-text}
 use Rattle.console.proofs.Faults.{refusal-counts}
 use Rattle.console.proofs.Goods.{file-holds}
+use Rattle.event_list.specs.Lines.{threeOf, passes, lists}
 use Rattle.event_program.specs.Events.{noTally}
 use Rattle.event_program.proofs.Program.{first-begun, first-carried}
-use Rattle.backlog_program.specs.Numbers.{numbersOf}
-use Rattle.backlog_program.specs.Backlog.{takenText, outputBy, backlogProgram}
+use Rattle.backlog_program.specs.Backlog.{takenText, numbersOf, outputBy, backlogProgram}
 use Rattle.backlog_program.specs.Runs.{firstRan}
 use Rattle.backlog_program.specs.Calls.{wholeRan, ranText, openedText, callsText}
-use Rattle.backlog_program.proofs.Taking.{lineTaken, silent, lines-taken}
 use Rattle.backlog_program.proofs.Standing.{ranOf, Stands, stands-whole}
+
+-- the lines' numbers, one line after the other
+lines-numbers : (said : List (List ℕ)) → printed start readOn lineEnd passes lists tt said ≡ numbersOf said
+unfolding printed passes lists
+lines-numbers [] = refl
+lines-numbers (x ∷ said) = ap (λ (l : List ℕ). threeOf x ++ l) (lines-numbers said)
+
+-- whatever the pieces, the list in all is that of the whole input
+whole-numbers : (pieces : List (List ℕ))
+    → wholeText start readOn lineEnd passes lists isBegun tt pieces ≡ numbersOf (map eventLine (linesOf (joined pieces)))
+whole-numbers pieces =
+    whole-text start readOn lineEnd passes lists isBegun not-first byte-begins eventLine event-lines tt pieces
+    ∙ lines-numbers (map eventLine (linesOf (joined pieces)))
 
 -- a good sheet: the first state, and the run from it
 module _ (net : Network) (t : T (sheetHolds net)) where
@@ -57,24 +70,20 @@ module _ (net : Network) (t : T (sheetHolds net)) where
       }
 
   -- no event taken yet
-  abbrev none : Taken
-  none = stopping 0 noTally s
-
-  first-is : firstRan v ≡ ranOf none start
+  first-is : firstRan v ≡ ranOf (calls s noTally []) start
   first-is =
       ap (λ (b : Begun). record { answer = b .answer; taken = 0; reading = start; tally = noTally; state = b .state }) (first-begun net t)
+      ∙ ap (λ (y : Taken). ranOf y start) (sym (at-the-end s noTally))
 
-  first-stands : Stands none start (firstRan v)
-  first-stands = record { line = start; same = first-is; reading = λ z. refl; good = first-good }
+  first-stands : Stands s noTally first-good [] start (firstRan v)
+  first-stands = record { line = start; same = first-is; reading = λ z. refl; whole = record { count = 0; size = refl } }
 
   run-prints : (pieces : List (List ℕ)) → ranText (wholeRan (firstRan v) pieces) ≡ outputBy (sheet net)
       (map eventLine (linesOf (joined pieces)))
   run-prints pieces =
       let said = map eventLine (linesOf (joined pieces)) in
-      ap ranText (stands-whole pieces none (firstRan v) first-stands .same)
-      ∙ ap takenText (whole-held start readOn lineEnd lineTaken silent isBegun not-first byte-begins eventLine event-lines none pieces
-      ∙ lines-taken said none refl ∙ before-none (calls s noTally (numbersOf said))
-      ∙ sym (good-state s noTally (numbersOf said) (first-good .holds)))
+      stands-whole s noTally first-good pieces (firstRan v) first-stands
+      ∙ ap takenText (ap (calls s noTally) (whole-numbers pieces) ∙ sym (good-state s noTally (numbersOf said) (first-good .holds)))
 
 pub backlog-program : (file : List ℕ) (pieces : List (List ℕ)) → callsText file pieces ≡ backlogProgram file (joined pieces)
 unfolding callsText backlogProgram

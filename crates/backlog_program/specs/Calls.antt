@@ -10,10 +10,11 @@ use Rattle.backlog_rules.specs.Backlog.{backlogOf}
 use Rattle.console.specs.declared.Opened.{Opened}
 use Rattle.console.specs.Sheets.{fileSheet, openedBy, refusalText}
 use Rattle.console.specs.Feeding.{closingBy}
+use Rattle.event_list.specs.Lines.{numbersIn, lineAfter}
 use Rattle.event_program.specs.Stations.{stationsText}
 use Rattle.backlog_program.specs.declared.Ran.{Ran}
 use Rattle.backlog_program.specs.Backlog.{firstText}
-use Rattle.backlog_program.specs.Runs.{numbersIn, lineAfter, ranOn, firstRan}
+use Rattle.backlog_program.specs.Runs.{ranOn, firstRan}
 
 -- a piece, with room enough in the list: after an answer that is not 0 none is taken
 unfoldable pub ranAfter : Ran → List ℕ → Ran

@@ -1,4 +1,3 @@
-pub mod Numbers
 pub mod Backlog
 pub mod Runs
 pub mod Calls

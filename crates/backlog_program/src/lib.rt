@@ -1,92 +1,17 @@
-// The backlog program, on bytes and values alone: the lines of a piece of the input as one list of numbers, the call over that list, and
-// the first line of what is printed. Nothing here reads or writes.
+// The backlog program, on bytes and values alone: the call over the list that crate `event_list` makes of a piece of the input, and the
+// first line of what is printed. Nothing here reads or writes.
 // Inner doors: the calls are in docs/CALLS.md.
 ghost use mathlib.Core.Path.{_≡_};
-ghost use Prim.Native.Nat.{_+_, _*_, _≤_};
-ghost use lib.ListN.{length};
-ghost use Rattle.event_lines.specs.Steps.{lineEnd};
 ghost use Rattle.tally.specs.Sums.{added};
-ghost use Rattle.console.specs.Outputs.{Counts, Put, wroteBy};
+ghost use Rattle.console.specs.Outputs.{Counts, wroteBy};
 ghost use Rattle.fields.specs.Output.{withRoom, writingOutput};
-ghost use Rattle.backlog_program.specs.Numbers.{numbersFor, overAfter};
-ghost use Rattle.backlog_program.specs.Runs.{Listing, listing, ranBy, firstRan};
+ghost use Rattle.backlog_program.specs.Runs.{listingOf, ranBy, firstRan};
 ghost use Rattle.backlog_program.specs.Backlog.{firstText, firstMost};
 use console::Wrote;
-use event_lines::Line;
 use event_lines::Reading;
 use net::Net;
 use state::State;
 use tally::Tally;
-
-// ---- the list
-
-// Behind a line in the list: the next place, and whether the list has ended.
-struct Behind {
-    at: usize,
-    over: bool,
-}
-
-// A line's three numbers. A malformed line is one number, left over, so that it is refused as 6; nothing follows it.
-fn put_line(r: Reading, over: bool, at: usize, list: &mut [u32]) -> Behind
-    requires { ⌜ at + 3 ≤ length (now list) ⌝ }
-    ensures over { λ n. ⌜ n .over ≡ overAfter over (lineEnd r) ⌝ }
-    ensures list { λ n. ⌜ Put (numbersFor over (lineEnd r)) 3 at (now (list .entry)) (n .at) (now (list .exit)) ⌝ }
-{
-    if over {
-        return Behind { at, over: true };
-    }
-    match event_lines::line_end(r) {
-        Line::Malformed => {
-            list[at] = 0;
-            Behind {
-                at: at + 1,
-                over: true,
-            }
-        }
-        Line::Event(kind, a, b) => {
-            list[at] = kind;
-            list[at + 1] = a;
-            list[at + 2] = b;
-            Behind {
-                at: at + 3,
-                over: false,
-            }
-        }
-    }
-}
-
-// How many numbers stand at the list's front, and how far the line behind them is read.
-struct Listed {
-    size: usize,
-    reading: Reading,
-}
-
-// The lines that end in these bytes, one after the other.
-fn list_lines(r: Reading, bytes: &[u8], list: &mut [u32]) -> Listed
-    requires { ⌜ 3 * length (now bytes) ≤ length (now list) ⌝ }
-    ensures { λ n. ⌜ Listing r (now (bytes .entry)) (now (list .entry)) n (now (list .exit)) ⌝ }
-{
-    let mut reading = r;
-    let mut over = false;
-    let mut at: usize = 0;
-    let mut from: usize = 0;
-    loop {
-        let end = event_lines::find_end(bytes, from);
-        let stop = end.stop;
-        let line = event_lines::read_bytes(reading, &bytes[from..stop]);
-        if !end.ended {
-            return Listed {
-                size: at,
-                reading: line,
-            };
-        }
-        let behind = put_line(line, over, at, list);
-        at = behind.at;
-        over = behind.over;
-        reading = event_lines::begin();
-        from = stop + 1;
-    }
-}
 
 // ---- the call
 
@@ -135,12 +60,12 @@ fn count_on(count: u64, n: u64) -> u64
 
 // Takes the event lines that end in these bytes by one call; the lent list is the room for their numbers. After an answer that is not 0
 // nothing is taken.
-// Promise: the call over the numbers of the lines that end in these bytes, a malformed line being one number left over: its answer, the
-// events taken in all, and the state, tally and reading after them; 10 where the list has fewer than three places for each byte; after an
-// answer that is not 0 all stays as it was.
+// Promise: the call over the numbers of the lines that end in these bytes, 0 0 0 for a malformed line: its answer, the events taken in
+// all, and the state, tally and reading after them; 10 where the list has fewer than three places for each byte; after an answer that is
+// not 0 all stays as it was.
 pub fn take_lines(ran: Ran, bytes: &[u8], list: &mut [u32]) -> Ran
-    ensures answer { λ n. ⌜ n ≡ ranBy (listing ran (now (bytes .entry)) (now (list .entry))) ran (now (bytes .entry)) ⌝ }
-    ensures list { λ n. ⌜ now (list .exit) ≡ writingOutput (listing ran (now (bytes .entry)) (now (list .entry))) (now (list .entry)) ⌝ }
+    ensures answer { λ n. ⌜ n ≡ ranBy (listingOf ran (now (bytes .entry)) (now (list .entry))) ran (now (bytes .entry)) ⌝ }
+    ensures list { λ n. ⌜ now (list .exit) ≡ writingOutput (listingOf ran (now (bytes .entry)) (now (list .entry))) (now (list .entry)) ⌝ }
 {
     if ran.answer != 0 {
         return ran;
@@ -148,17 +73,16 @@ pub fn take_lines(ran: Ran, bytes: &[u8], list: &mut [u32]) -> Ran
     let reading = ran.reading;
     let tally = ran.tally;
     let state = ran.state;
-    // no line has more than three numbers, and none is without a byte of input
-    if list.len() / 3 < bytes.len() {
+    let listed = event_list::list_lines(reading, bytes, list);
+    if listed.answer != 0 {
         return Ran {
-            answer: 10,
+            answer: listed.answer,
             taken: ran.taken,
             reading,
             tally,
             state,
         };
     }
-    let listed = list_lines(reading, bytes, list);
     let size = listed.size;
     let behind = listed.reading;
     let done = backlog_run::run_backlog(state, tally, &list[..size]);

@@ -1,14 +1,12 @@
 -- The calls one by one, from the place of a list that they have come to: after n events, three numbers each, the rest of the list is still
 -- to come. For a loop that counts the events taken.
-use Prim.Native.Nat.{ℕ, _+_, _*_, _/_, _%_, _≤_, _<_}
+use Prim.Native.Nat.{ℕ, _+_, _*_, _≤_, _<_}
 use mathlib.Core.Path.{_≡_, refl, sym, ap, _∙_}
 use mathlib.Core.List.{List, [], _∷_}
 use native.Mathlib.Numerals.{add-one}
 use native.Mathlib.Omega.{arith}
-use lib.Dec.{eqb}
 use lib.ListN.{length, getD, drop, length-drop}
 use lib.Seq.{drop-cons}
-use Rattle.lists.specs.Lists.{if_then_else_}
 use Rattle.tally.specs.declared.Tally.{Tally}
 use Rattle.state.specs.declared.State.{State}
 use Rattle.step_rules.specs.declared.Stepped.{Stepped}
@@ -16,14 +14,14 @@ use Rattle.step_rules.specs.Step.{steppedOf}
 use Rattle.step_rules.specs.Counting.{talliedBy}
 use Rattle.backlog_rules.specs.declared.Taken.{Taken}
 use Rattle.backlog_rules.specs.Backlog.{stopping, andBefore, calls}
-use Rattle.backlog_rules.proofs.Laws.{before-more, one-taken, one-refused}
+use Rattle.backlog_rules.proofs.Laws.{before-more, one-taken, one-refused, at-the-end, one-left-over, two-left-over}
 
 -- what is left from a place on, by its first number
 first-left : (es : List ℕ) (i j : ℕ) → i < length es → j ≡ i + 1 → drop i es ≡ getD es i 0 ∷ drop j es
 first-left es i j h e = drop-cons es i 0 h ∙ ap (λ (m : ℕ). getD es i 0 ∷ drop m es) (sym (e ∙ add-one i))
 
 -- the three numbers of event n stand first in what is left after n events
-three : (es : List ℕ) (n : ℕ) → 3 * n + 3 ≤ length es
+pub three : (es : List ℕ) (n : ℕ) → 3 * n + 3 ≤ length es
     → drop (3 * n) es ≡ getD es (3 * n) 0 ∷ getD es (3 * n + 1) 0 ∷ getD es (3 * n + 2) 0 ∷ drop (3 * (n + 1)) es
 three es n h =
     first-left es (3 * n) (3 * n + 1) (omega arith) refl
@@ -62,23 +60,45 @@ module _ (R : Taken) (es : List ℕ) (s : State) (t : Tally) (n : ℕ) where
     stops z = sym (came ∙ ap (andBefore n) (one-refused s t kind a b (drop (3 * (n + 1)) es) r e z) ∙ stopped-here (r .answer) n t s)
 
 -- ---- the end of the list
--- what is said there: 6 where one or two numbers are left over
-abbrev pub overBy : ℕ → ℕ
-overBy size = if eqb (size % 3) 0 then 0 else 6
+ends-none : (es : List ℕ) → length es ≡ 0 → es ≡ []
+ends-none [] h = refl
+ends-none (x ∷ es) h = absurd (never h)
+  where
+    never : length (x ∷ es) ≡ 0 → ⊥
+    never h = omega arith
 
-left-over : (s : State) (t : Tally) (es : List ℕ) → length es < 3 → calls s t es ≡ stopping (if eqb (length es) 0 then 0 else 6) t s
-unfolding calls
-left-over s t [] h = refl
-left-over s t (x ∷ []) h = refl
-left-over s t (x ∷ y ∷ []) h = refl
-left-over s t (x ∷ y ∷ z ∷ es) h = absurd (never h)
+-- nothing is left behind it
+pub none-left : (es : List ℕ) (n : ℕ) → length es ≤ 3 * n → drop (3 * n) es ≡ []
+none-left es n h = ends-none (drop (3 * n) es) (length-drop (3 * n) es ∙ omega arith)
+
+pub ends : (R : Taken) (es : List ℕ) (s : State) (t : Tally) (n k : ℕ) → CameTo R es s t n → n ≡ k → length es ≤ 3 * n
+    → stoppedAt 0 k t s ≡ R
+ends R es s t n k c i h =
+    ap (λ (j : ℕ). stoppedAt 0 j t s) (sym i)
+    ∙ sym (c ∙ ap (λ (l : List ℕ). andBefore n (calls s t l)) (none-left es n h) ∙ ap (andBefore n) (at-the-end s t) ∙ stopped-here 0 n t s)
+
+-- one or two numbers are left over
+pub data Over : List ℕ → Type 0 where
+  one : (x : ℕ) → Over (x ∷ [])
+  two : (x y : ℕ) → Over (x ∷ y ∷ [])
+
+are-over : (es : List ℕ) → 0 < length es → length es < 3 → Over es
+are-over [] h l = absurd (omega arith)
+are-over (x ∷ []) h l = one x
+are-over (x ∷ y ∷ []) h l = two x y
+are-over (x ∷ y ∷ z ∷ es) h l = absurd (never l)
   where
     never : length (x ∷ y ∷ z ∷ es) < 3 → ⊥
     never h = omega arith
 
-pub ends : (R : Taken) (es : List ℕ) (s : State) (t : Tally) (n k m : ℕ) → CameTo R es s t n → n ≡ k → k ≡ length es / 3
-    → m ≡ overBy (length es) → stoppedAt m k t s ≡ R
-ends R es s t n k m c i e q =
-    let l : length (drop (3 * n) es) ≡ length es % 3 = length-drop (3 * n) es ∙ omega arith in
-    (λ j. stoppedAt ((q ∙ sym (ap (λ (k : ℕ). if eqb k 0 then 0 else 6) l)) j) (sym i j) t s)
-    ∙ sym (c ∙ ap (andBefore n) (left-over s t (drop (3 * n) es) (omega arith)) ∙ stopped-here _ n t s)
+pub left-over : (es : List ℕ) (n : ℕ) → 3 * n < length es → length es < 3 * n + 3 → Over (drop (3 * n) es)
+left-over es n h l = are-over (drop (3 * n) es) (omega (arith, length-drop (3 * n) es)) (omega (arith, length-drop (3 * n) es))
+
+calls-over : {es : List ℕ} (s : State) (t : Tally) → Over es → calls s t es ≡ stopping 6 t s
+calls-over s t (one x) = one-left-over s t x
+calls-over s t (two x y) = two-left-over s t x y
+
+pub stops-over : (R : Taken) (es : List ℕ) (s : State) (t : Tally) (n : ℕ) → CameTo R es s t n → 3 * n < length es → length es < 3 * n + 3
+    → stoppedAt 6 n t s ≡ R
+stops-over R es s t n c h l =
+    sym (c ∙ ap (andBefore n) (calls-over s t (left-over es n h l)) ∙ stopped-here 6 n t s)

@@ -1,1 +1,2 @@
 pub mod Backlog
+pub mod Answers

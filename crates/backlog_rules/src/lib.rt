@@ -11,3 +11,10 @@ pub struct Taken {
     pub tally: Tally,
     pub state: State,
 }
+
+// What the run that goes on after a refusal answers: 0, or 10 or 11 and nothing done; the tally and the state after all events.
+pub struct Answered {
+    pub answer: u8,
+    pub tally: Tally,
+    pub state: State,
+}

@@ -4,11 +4,15 @@
 // (crate `step_parts`); a turn differs from the step where a copy of a table can be spared.
 ghost use mathlib.Core.Path.{_≡_};
 ghost use mathlib.Core.Bool.{_||_};
-ghost use Prim.Native.Nat.{_+_, _*_, _≤_};
-ghost use lib.ListN.{length};
+ghost use mathlib.Core.List.{[], _∷_};
+ghost use Prim.Native.Nat.{_*_};
+ghost use Rattle.fields.specs.Output.{writingOutput};
+ghost use Rattle.text.specs.Text.{putAt};
 ghost use Rattle.step_rules.proofs.Bridge.{Good};
-ghost use Rattle.backlog_rules.specs.Backlog.{calls, backlogOf};
-ghost use Rattle.backlog_run.specs.Events.{askedAt, leftOver};
+ghost use Rattle.backlog_rules.specs.Backlog.{backlogOf};
+ghost use Rattle.backlog_rules.specs.Answers.{tracing, answeredBy};
+ghost use Rattle.backlog_run.specs.Events.{askedAt, eventCount, Went};
+use backlog_rules::Answered;
 use backlog_rules::Taken;
 use state::State;
 use station::Kind;
@@ -26,10 +30,19 @@ struct Asked {
     place: usize,
 }
 
+// One or two numbers left over at the end of the list are an event that names nothing: there is no kind 0.
 fn event_at(events: &[u32], i: usize) -> Asked
-    requires { ⌜ 3 * i + 3 ≤ length (now events) ⌝ }
     ensures { λ r. ⌜ r ≡ askedAt (now (events .entry)) i ⌝ }
 {
+    if events.len() / 3 <= i {
+        return Asked {
+            kind: 0,
+            a: 0,
+            b: 0,
+            what: station_kinds::kind_of(0),
+            place: step_parts::place_of(0),
+        };
+    }
     let first = 3 * i;
     let kind = events[first];
     let a = events[first + 1];
@@ -43,11 +56,29 @@ fn event_at(events: &[u32], i: usize) -> Asked
     }
 }
 
-// What is said at the end of the list: one or two numbers left over are an event that names nothing.
-fn left_over(size: usize) -> u8
-    ensures { λ r. ⌜ r ≡ leftOver size ⌝ }
+// How many events so many numbers are.
+fn event_count(size: usize) -> usize
+    ensures { λ r. ⌜ r ≡ eventCount size ⌝ }
 {
-    if size % 3 == 0 { 0 } else { 6 }
+    if size % 3 == 0 {
+        size / 3
+    } else {
+        size / 3 + 1
+    }
+}
+
+// What stands in the trace for event i: its answer, the letters in flight after it, the notices settled so far. A trace that has no room
+// for it stays as it is, so that a caller who wants none lends an empty one.
+fn put_turn(trace: &mut [u64], i: usize, answer: u8, flying: u16, settled: u64)
+    ensures { λ _. ⌜ now (trace .exit) ≡ putAt (answer ∷ flying ∷ settled ∷ []) (3 * i) (now (trace .entry)) ⌝ }
+{
+    if trace.len() / 3 <= i {
+        return;
+    }
+    let first = 3 * i;
+    trace[first] = answer as u64;
+    trace[first + 1] = flying as u64;
+    trace[first + 2] = settled;
 }
 
 fn either(a: bool, b: bool) -> bool
@@ -58,15 +89,15 @@ fn either(a: bool, b: bool) -> bool
 
 // ---- the call
 
-// The events of a state that is well formed. It owns the state and alone changes it.
-fn take_events(mut s: State, t: Tally, events: &[u32]) -> Taken
+// The events of a state that is well formed. It owns the state and alone changes it. It stops at the first refused event, or goes on.
+fn take_events(mut s: State, t: Tally, events: &[u32], stops: bool, trace: &mut [u64]) -> Taken
     requires { ⌜ Good s ⌝ }
-    ensures { λ r. ⌜ r ≡ calls s t (now (events .entry)) ⌝ }
+    ensures { λ r. ⌜ Went stops s t (now (events .entry)) (now (trace .entry)) r (now (trace .exit)) ⌝ }
 {
     let net = s.net;
     let owns = marks::own_words(net); // the same for every event, so they are found once
     let mut tally = t;
-    let n = events.len() / 3;
+    let n = event_count(events.len());
     for taken in 0..n {
         // what the event names
         let e = event_at(events, taken);
@@ -93,12 +124,17 @@ fn take_events(mut s: State, t: Tally, events: &[u32]) -> Taken
         let count = post::count(send);
         let room = step_parts::room_of(what, flying, place, plan.answer, count, x);
         if room.answer != 0 {
-            return Taken {
-                answer: room.answer,
-                taken, // the refused one is not among them
-                tally,
-                state: s,
-            };
+            // it changes nothing, and the numbers stand as they stood
+            put_turn(trace, taken, room.answer, flying, tally.settled);
+            if stops {
+                return Taken {
+                    answer: room.answer,
+                    taken, // the refused one is not among them
+                    tally,
+                    state: s,
+                };
+            }
+            continue;
         }
         // nothing refuses it: from here on the state is changed, in place
         let turned = plan.condition;
@@ -141,9 +177,10 @@ fn take_events(mut s: State, t: Tally, events: &[u32]) -> Taken
             };
         }
         tally = tally::added(tally, plan.counts);
+        put_turn(trace, taken, 0, s.flying, tally.settled);
     }
     Taken {
-        answer: left_over(events.len()),
+        answer: 0,
         taken: n,
         tally,
         state: s,
@@ -158,11 +195,44 @@ pub fn run_backlog(s: State, t: Tally, events: &[u32]) -> Taken
 {
     if !state::well_formed(s) {
         return Taken {
-            answer: 11,
+            answer: 11, // nothing is taken
             taken: 0,
             tally: t,
             state: s,
         };
     }
-    take_events(s, t, events)
+    let mut none = [0u64; 1];
+    take_events(s, t, events, true, &mut none[..0])
+}
+
+// Many events, three numbers each, and a tally by value. A refused event changes nothing, and it goes on. A bad state is 11; a trace that
+// has fewer than three places for an event is 10, and nothing is done.
+// Promise: equals `Answers.answeredBy`: the steps one by one; the state and the tally after them, and in the trace for each event its
+// answer, the letters in flight after it and the notices settled so far.
+pub fn run_with_answers(s: State, t: Tally, events: &[u32], trace: &mut [u64]) -> Answered
+    ensures { λ r. ⌜ (r ≡ answeredBy (tracing s t (now (events .entry)) (now (trace .entry))) s t (now (events .entry)))
+        × (now (trace .exit) ≡ writingOutput (tracing s t (now (events .entry)) (now (trace .entry))) (now (trace .entry))) ⌝ }
+{
+    if !state::well_formed(s) {
+        return Answered {
+            answer: 11, // nothing is done
+            tally: t,
+            state: s,
+        };
+    }
+    if trace.len() / 3 < event_count(events.len()) {
+        return Answered {
+            answer: 10,
+            tally: t, // as it was given
+            state: s,
+        };
+    }
+    let done = take_events(s, t, events, false, trace);
+    let sums = done.tally;
+    let after = done.state;
+    Answered {
+        answer: 0,
+        tally: sums,
+        state: after,
+    }
 }

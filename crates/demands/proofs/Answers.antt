@@ -1,4 +1,4 @@
--- ONE ANSWER for each of the ten calls: part of the demands (Demands.antt), which hands it on.
+-- ONE ANSWER for each of the eleven calls: part of the demands (Demands.antt), which hands it on.
 use Prim.Native.Nat.{ℕ}
 use mathlib.Core.Path.{_≡_, sym, _∙_}
 use mathlib.Core.List.{List}
@@ -11,7 +11,7 @@ use Rattle.letters.proofs.Refusals as LetterOne
 use Rattle.world.specs.World.{Event}
 use Rattle.state.specs.declared.State.{State}
 use Rattle.demands.specs.Calls.{ReadsSheet, WritesSheet, ReadsLetter, WritesLetter, Begins, Steps, StepsCounted}
-use Rattle.demands.specs.Calls.{TakesBacklog, AsksReach, AsksReport}
+use Rattle.demands.specs.Calls.{TakesBacklog, RunsAnswered, AsksReach, AsksReport}
 
 -- ONE ANSWER. Document 01: "Prove that two answers allowed for one input are equal."
 pub record OneAnswer : Type 0 where
@@ -26,6 +26,8 @@ pub record OneAnswer : Type 0 where
       → (c .answer ≡ d .answer) × (c .tally ≡ d .tally)
   pub takes-backlog : (before : Tally) (s : State) (events : List ℕ) (c d : TakesBacklog before s events)
       → (c .answer ≡ d .answer) × (c .tally ≡ d .tally)
+  pub runs-answered : (before : Tally) (s : State) (events old : List ℕ) (c d : RunsAnswered before s events old)
+      → (c .answer ≡ d .answer) × ((c .tally ≡ d .tally) × (c .trace ≡ d .trace))
   pub asks-reach : (s : State) (a : ℕ) (c d : AsksReach s a) → c .answer ≡ d .answer
   pub asks-report : (s : State) (a : ℕ) (old : List ℕ) (c d : AsksReport s a old) → (c .answer ≡ d .answer) × (c .output ≡ d .output)
 
@@ -42,6 +44,10 @@ one-answer =
       steps = λ s e c d. c .promise ∙ sym (d .promise);
       steps-counted = λ t s e c d. (c .promise ∙ sym (d .promise), c .promise-tally ∙ sym (d .promise-tally));
       takes-backlog = λ t s events c d. (c .promise ∙ sym (d .promise), c .promise-tally ∙ sym (d .promise-tally));
+      runs-answered = λ t s events old c d. (
+        c .promise ∙ sym (d .promise),
+        (c .promise-tally ∙ sym (d .promise-tally), c .promise-trace ∙ sym (d .promise-trace)),
+      );
       asks-reach = λ s a c d. c .promise ∙ sym (d .promise);
       asks-report = λ s a old c d. (c .promise ∙ sym (d .promise), c .promise-output ∙ sym (d .promise-output));
     }

@@ -1,6 +1,6 @@
 -- The call over many events (document 02, L1): its numbers; that it is a run of calls of the step, lent the same tally; and what holds of
 -- such runs, read over the events taken. For every answer that the promise allows.
-use Prim.Native.Nat.{ℕ, _+_, _*_, _≤_, _<_}
+use Prim.Native.Nat.{ℕ, _+_, _*_, _<_}
 use mathlib.Core.Bool.{Bool, true, false, not}
 use mathlib.Core.Path.{_≡_, refl, sym, ap, _∙_, subst, subst⁻¹}
 use mathlib.Core.Logic.{_↔_}
@@ -12,12 +12,10 @@ use Rattle.lists.proofs.Tests.{T-not-is, is-T}
 use Rattle.tally.specs.declared.Tally.{Tally}
 use Rattle.tally.specs.Sums.{largest, tallied}
 use Rattle.tally.proofs.Sums.{Fits}
-use Rattle.station.specs.Holding.{counter}
-use Rattle.world.specs.World.{World, Event, holdingAt, refusal}
+use Rattle.world.specs.World.{Event, refusal}
 use Rattle.world.specs.History.{run, everSettled}
 use Rattle.state.specs.declared.State.{State}
 use Rattle.state.specs.State.{worldOf, stateHolds, Sized}
-use Rattle.state.proofs.Meaning.{world-well}
 use Rattle.step_rules.specs.Step.{steppedOf}
 use Rattle.step_rules.specs.Counting.{talliedBy}
 use Rattle.step_rules.proofs.Bridge.{Good}
@@ -29,16 +27,15 @@ use Rattle.backlog_rules.proofs.Joining as J
 use Rattle.backlog_rules.proofs.Joining.{Course, course, by-taken, by-refused, backlog-good}
 use Rattle.backlog_rules.proofs.OneByOne as O
 use Rattle.backlog_rules.proofs.OneByOne.{takenBy, Takes, OneByOne, one-by-one}
-use Rattle.laws.specs.Flood.{onlyNotices, highest, bound}
+use Rattle.laws.specs.Flood.{onlyNotices}
 use Rattle.laws.specs.Tallied.{everCounted}
-use Rattle.laws.proofs.Demand3 as Flood
 use Rattle.laws.proofs.Calls as C
 use Rattle.step_counted.proofs.Runs.{Lent, LentCalls, tally-is-history}
 use Rattle.demands.specs.Calls.{TakesBacklog}
 use Rattle.demands.specs.StateReasons as W
 use Rattle.demands.specs.StateReasons.{GoodState, BadState, Stopped, Backlog}
 use Rattle.demands.proofs.States.{step-numbers}
-use Rattle.demands.proofs.Runs.{IsRun, lent-is-run, lent-settled}
+use Rattle.demands.proofs.Runs.{IsRun, lent-is-run, LentDiesOut, lent-dies-out}
 
 -- ---- its numbers
 abbrev number : Taken → ℕ
@@ -146,41 +143,16 @@ module _ (before : Tally) (s : State) (events : List ℕ) (c : TakesBacklog befo
     backlog-history f = tally-is-history g f (backlog-run (g .holds))
 
 -- ---- DEMAND 3 over the events taken
-pub record TakenDieOut (before : Tally) (s : State) (events : List ℕ) (c : TakesBacklog before s events) : Type 0 where
-  -- what is added to the tally's settled count stays within the bound
-  pub settled : c .tally .settled ≤ before .settled + bound (worldOf s)
-  -- and so does how many events are taken
-  pub taken : c .answer .taken ≤ bound (worldOf s)
-  -- no counter falls, and none passes the highest one for its link
-  pub no-counter-falls : (i j : ℕ) → counter (holdingAt (worldOf s) i) j ≤ counter (holdingAt (worldOf (c .answer .state)) i) j
-  pub none-passes : (i j : ℕ) → i < worldOf s .net .stations → counter (holdingAt (worldOf (c .answer .state)) i) j ≤ highest (worldOf s) j
-
 module _ (before : Tally) (s : State) (events : List ℕ) (c : TakesBacklog before s events) (g : Good s) (f : Fits before) where
   -- where the tally's settled count does not reach its largest value, what is added to it is how many notices were settled
   pub settled-is : c .tally .settled < largest → c .tally .settled ≡ before .settled + everSettled (worldOf s) (takenBy (c .answer) events)
   settled-is h = omega (arith, ap (λ (t : Tally). t .settled) (backlog-history before s events c g f))
 
-  pub taken-die-out : T (onlyNotices (worldOf s) (takenBy (c .answer) events)) → TakenDieOut before s events c
-  unfolding run
+  pub taken-die-out : T (onlyNotices (worldOf s) (takenBy (c .answer) events))
+      → LentDiesOut s (c .answer .state) before (c .tally) (c .answer .taken)
   taken-die-out o =
-      let es = takenBy (c .answer) events in
-      let d = Flood.flood-of-notices-dies-out (worldOf s) es (world-well s (g .sized) (g .holds)) o in
-      let w : worldOf (c .answer .state) ≡ run (worldOf s) es = backlog-means before s events c g in
-      let all = Flood.at-the-end es in
-      record {
-        settled = lent-settled g f o (backlog-run before s events c (g .holds));
-        taken =
-            omega (
-              arith,
-              d .settled es all,
-              Flood.settled-is-length (worldOf s) es o,
-              backlog-exact before s events c (g .holds) .many,
-            );
-        no-counter-falls =
-            λ i j. subst⁻¹ (λ (v : World). counter (holdingAt (worldOf s) i) j ≤ counter (holdingAt v i) j) w
-            (d .no-counter-falls [] es all i j);
-        none-passes = λ i j h. subst⁻¹ (λ (v : World). counter (holdingAt v i) j ≤ highest (worldOf s) j) w (d .none-passes es all i j h);
-      }
+      subst (LentDiesOut s (c .answer .state) before (c .tally)) (backlog-exact before s events c (g .holds) .many)
+      (lent-dies-out (takenBy (c .answer) events) g f o (backlog-run before s events c (g .holds)))
 
 -- ---- two lists in one call
 pub backlog-joined : (before : Tally) (s : State) → Sized s → (xs ys : List ℕ) (c : TakesBacklog before s xs) → c .answer .answer ≡ 0

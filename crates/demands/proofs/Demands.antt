@@ -1,17 +1,17 @@
 -- THE DEMANDS, one record for each: the mission's own words, then the claims that meet them, each a field; under the record its one
--- value, which is the proof. They are claimed of the ten calls on sheets, letters and states: a sheet read and written, a letter read
--- and written, the fresh state, the step, the step that is lent a tally, the call over many events, the reach, the report. None of
--- them asks anything of its caller, and a claim about a call holds of EVERY answer that its promise allows (specs/Calls.antt;
--- proofs/Promised.antt: these are the promises of the code). The reasons of the numbers are in the words of document 01
--- (specs/SheetReasons.antt, LetterReasons.antt, StateReasons.antt). What a claim takes for granted of a value is what its type already
--- says: that bytes are bytes (`areBytes`), that a network's and a state's arrays have their sizes (`Ends64`, `Sized`), that a tally's
--- counts have 64 bits (`Fits`). `Good s`: such a state that is well formed. The rules themselves are world/specs: a world is what a
--- state means.
+-- value, which is the proof. They are claimed of the eleven calls on sheets, letters and states: a sheet read and written, a letter read
+-- and written, the fresh state, the step, the step that is lent a tally, the backlog's call and the run with answers (both over many
+-- events: ManyEvents.antt), the reach, the report. None of them asks anything of its caller, and a claim about a call holds of EVERY
+-- answer that its promise allows (specs/Calls.antt; proofs/Promised.antt: these are the promises of the code). The reasons of the numbers
+-- are in the words of document 01 (specs/SheetReasons.antt, LetterReasons.antt, StateReasons.antt). What a claim takes for granted of a
+-- value is what its type already says: that bytes are bytes (`areBytes`), that a network's and a state's arrays have their sizes
+-- (`Ends64`, `Sized`), that a tally's counts have 64 bits (`Fits`). `Good s`: such a state that is well formed. The rules themselves are
+-- world/specs: a world is what a state means.
 use Prim.Native.Nat.{ℕ, _+_, _*_, _-_, _≤_, _<_, max}
 use mathlib.Core.Bool.{not}
 use mathlib.Core.Path.{_≡_, sym, ap, _∙_}
 use mathlib.Core.Logic.{_↔_}
-use mathlib.Core.List.{List, [], _∷_, _++_, map}
+use mathlib.Core.List.{List, [], _++_}
 use lib.Dec.{T}
 use lib.ListN.{length, getD, take, drop}
 use Rattle.lists.specs.Lists.{sumOf, below}
@@ -19,7 +19,7 @@ use Rattle.lists.specs.Places.{largestOf}
 use Rattle.lists.specs.Words.{bitAt}
 use Rattle.fields.specs.Fields.{areBytes}
 use Rattle.tally.specs.declared.Tally.{Tally}
-use Rattle.tally.specs.Sums.{largest, tallied}
+use Rattle.tally.specs.Sums.{tallied}
 use Rattle.net.specs.declared.Letter.{Letter}
 use Rattle.net.specs.declared.Net.{Net}
 use Rattle.net.specs.Network.{Network, linkNumbers}
@@ -27,7 +27,6 @@ use Rattle.net.specs.Values.{networkOf}
 use Rattle.sheet.specs.declared.Answer.the-variants as SheetAnswer
 use Rattle.sheet.specs.declared.Wrote.the-variants as sheetWrote
 use Rattle.sheet.specs.Sheet.{writeSheet}
-use Rattle.sheet.specs.Values.{zeroNet}
 use Rattle.sheet.specs.Values as SheetValues
 use Rattle.letters.specs.declared.Answer.the-variants as answer
 use Rattle.letters.specs.declared.Wrote.the-variants as letterWrote
@@ -47,9 +46,6 @@ use Rattle.state.specs.State.{worldOf, Ends64, Sized}
 use Rattle.step_rules.specs.Step.{refusing}
 use Rattle.step_rules.proofs.Bridge.{Good}
 use Rattle.step_rules.specs.Counting.{talliedBy}
-use Rattle.backlog_rules.specs.Backlog.{stopping, andBefore}
-use Rattle.backlog_rules.proofs.Threes.{stoppedAt}
-use Rattle.backlog_rules.proofs.OneByOne.{takenBy, OneByOne}
 use Rattle.report.specs.Answers.{noReach}
 use Rattle.report.proofs.WordShown.{PathTo, WordShown}
 use Rattle.report.proofs.Shown.{Shown}
@@ -57,26 +53,20 @@ use Rattle.step_counted.proofs.Runs.{LentCalls, tally-is-history}
 use Rattle.laws.specs.Flood.{onlyNotices, carried, highest, neighbours, share, bound}
 use Rattle.laws.specs.Tallied.{everCounted}
 use Rattle.laws.proofs.Demand3 as Flood
-use Rattle.laws.proofs.Demand3.{DiesOut}
 use Rattle.laws.proofs.Neighbours.{neighbours-count}
 use Rattle.tally.proofs.Sums.{Fits}
 use Rattle.laws.proofs.Joined as Joined
 use Rattle.laws.proofs.Joined.{Calls, Comes}
 use Rattle.laws.proofs.Cases as Cases
-use Rattle.console.proofs.Lines.{joined}
-use Rattle.event_program.specs.Events.{eventProgram}
-use Rattle.event_program.specs.Calls.{callsText}
-use Rattle.event_program.proofs.Program.{event-program}
 use Rattle.demands.specs.Given.{Lawful, GoodNet, BadNet}
-use Rattle.demands.specs.Calls.{ReadsSheet, WritesSheet, ReadsLetter, WritesLetter, Begins, Steps, StepsCounted}
-use Rattle.demands.specs.Calls.{TakesBacklog, AsksReach, AsksReport}
+use Rattle.demands.specs.Calls.{ReadsSheet, WritesSheet, ReadsLetter, WritesLetter, Begins}
+use Rattle.demands.specs.Calls.{Steps, StepsCounted, AsksReach, AsksReport}
 use Rattle.demands.specs.Counted.{Counted}
-use Rattle.demands.specs.Sample as Sample
 use Rattle.demands.specs.SheetReasons as Sheet
 use Rattle.demands.specs.SheetReasons.{SheetRead, SheetWritten}
 use Rattle.demands.specs.LetterReasons as Letters
 use Rattle.demands.specs.LetterReasons.{GoodLetter, LetterRead, LetterWritten, lettersNumber}
-use Rattle.demands.specs.StateReasons.{BadState, GoodState, Fresh, Step, Backlog, Reach, Report}
+use Rattle.demands.specs.StateReasons.{BadState, GoodState, Fresh, Step, Reach, Report}
 use Rattle.demands.proofs.Sheets.{sheet-numbers, refused-none}
 use Rattle.demands.proofs.Letters.{letter-numbers}
 use Rattle.demands.proofs.Written as Written
@@ -84,11 +74,10 @@ use Rattle.demands.proofs.States as States
 use Rattle.demands.proofs.Exact as Exact
 use Rattle.demands.proofs.Exact.{Ruled, ruled, FreshState, fresh-state, report-after-any}
 use Rattle.demands.proofs.Runs as Runs
-use Rattle.demands.proofs.Runs.{IsRun, Moment}
-use Rattle.demands.proofs.Backlogs as Backlogs
-use Rattle.demands.proofs.Backlogs.{TakenDieOut}
-use Rattle.demands.proofs.Sample.{sample-is}
+use Rattle.demands.proofs.Runs.{IsRun, Moment, acceptedOf}
+use Rattle.demands.proofs.ManyEvents as Many
 pub use Rattle.demands.proofs.Answers.{OneAnswer, one-answer}
+pub use Rattle.demands.proofs.Examples.{Examples, examples}
 
 -- DEMAND 1. "Every sheet, letter, event and state that reaches a public call is answered, never trusted. A refusal has its number from
 -- the list, and the state and the lent buffers keep their contents."
@@ -98,7 +87,7 @@ pub record Demand1 : Type 0 where
       → (SheetValues.numberOf (c .answer .answer) ≡ n) ↔ SheetRead bytes n
   -- A sheet refused gives no network: the value beside the number is zero throughout, and every call refuses it with 11.
   pub sheet-refused : (bytes : List ℕ) → T (areBytes bytes) → (c : ReadsSheet bytes) → (SheetValues.numberOf (c .answer .answer) ≡ 0 → ⊥)
-      → (c .answer .net ≡ zeroNet) × BadNet (c .answer .net)
+      → (c .answer .net ≡ SheetValues.zeroNet) × BadNet (c .answer .net)
   -- A sheet written: 11 for a network that breaks the sheet rules or has unused room not zero, 10 for a short output, else 0.
   pub sheet-written : (net : Net) (old : List ℕ) (c : WritesSheet net old) (n : ℕ)
       → (Sheet.wroteNumber (c .answer) ≡ n) ↔ SheetWritten net old n
@@ -124,17 +113,8 @@ pub record Demand1 : Type 0 where
   pub counted-number : (before : Tally) (s : State) (e : Event) (c : StepsCounted before s e) (n : ℕ) → (c .answer .answer ≡ n) ↔ Step s e n
   pub counted-refused : (before : Tally) (s : State) (e : Event) (c : StepsCounted before s e) → (c .answer .answer ≡ 0 → ⊥)
       → (c .answer ≡ refusing (c .answer .answer) s) × (c .tally ≡ before)
-  -- The call over many events: 11 for a state that isn't well formed, whatever the list; else the number of the first event that the step
-  -- refuses, or 6 where one or two numbers are left over, else 0.
-  pub backlog-number : (before : Tally) (s : State) (events : List ℕ) (c : TakesBacklog before s events) (n : ℕ)
-      → (c .answer .answer ≡ n) ↔ Backlog s events n
-  -- 11 takes nothing and leaves state and tally as they were. What any other refusal keeps is the state and the tally after the events
-  -- taken: the numbers of these alone, given to the same call, are answered by 0, with the same state and the same tally.
-  pub backlog-bad : (before : Tally) (s : State) (events : List ℕ) (c : TakesBacklog before s events) → BadState s
-      → (c .answer ≡ stopping 11 before s) × (c .tally ≡ before)
-  pub backlog-keeps : (before : Tally) (s : State) (events : List ℕ) (c : TakesBacklog before s events) → GoodState s
-      → (d : TakesBacklog before s (take (3 * c .answer .taken) events))
-      → (d .answer ≡ stoppedAt 0 (c .answer .taken) (c .answer .tally) (c .answer .state)) × (d .tally ≡ c .tally)
+  -- The same of the two calls over many events.
+  pub many-events : Many.Demand1
   -- The reach: 11, 6, 7, else 0; beside a refusal there is no reach. It is given a copy of the state and is lent nothing.
   pub reach-number : (s : State) (a : ℕ) (c : AsksReach s a) (n : ℕ) → (c .answer .answer ≡ n) ↔ Reach s a n
   pub reach-refused : (s : State) (a : ℕ) (c : AsksReach s a) → (c .answer .answer ≡ 0 → ⊥) → c .answer .reached ≡ noReach
@@ -164,9 +144,7 @@ demand1 =
         States.step-keeps s (e .kind) (e .a) (e .b) (c .answer) (c .promise) h,
         States.tally-keeps s (e .kind) (e .a) (e .b) (c .answer) (c .promise) t (c .tally) (c .promise-tally) h,
       );
-      backlog-number = Backlogs.backlog-numbers;
-      backlog-bad = Backlogs.backlog-bad;
-      backlog-keeps = Backlogs.backlog-keeps;
+      many-events = Many.demand1;
       reach-number = λ s a c. States.reach-numbers s a (c .answer) (c .promise);
       reach-refused = λ s a c. States.reach-none s a (c .answer) (c .promise);
       report-number = λ s a old c. States.report-numbers s a old (c .answer) (c .promise);
@@ -187,21 +165,8 @@ pub record Demand2 : Type 0 where
   pub counted-exact : (before : Tally) (s : State) → Sized s → (e : Event) (c : StepsCounted before s e) → Ruled s e (c .answer)
   -- and what an accepted one counts is added to the tally.
   pub tally-exact : (before : Tally) (s : State) (e : Event) (c : StepsCounted before s e) → c .tally ≡ talliedBy (c .answer) before
-  -- The call over many events is the calls of the step one by one: each on the state that the one before it handed back, each lent the
-  -- same tally, each answered by 0; and then either nothing is left of the list, or one or two numbers, which is 6, or the next call
-  -- refuses the next event, with that number.
-  pub backlog-exact : (before : Tally) (s : State) (events : List ℕ) (c : TakesBacklog before s events) → GoodState s
-      → OneByOne s before events (c .answer)
-  pub backlog-tally : (before : Tally) (s : State) (events : List ℕ) (c : TakesBacklog before s events) → c .tally ≡ c .answer .tally
-  -- So the rules accept each event taken, in the world that those before it leave, and the state means the world after all of them.
-  pub backlog-accepted : (before : Tally) (s : State) (events : List ℕ) (c : TakesBacklog before s events) → Good s
-      → (ds fs : List Event) (e : Event) → takenBy (c .answer) events ≡ ds ++ (e ∷ fs) → refusal (run (worldOf s) ds) e ≡ 0
-  pub backlog-means : (before : Tally) (s : State) (events : List ℕ) (c : TakesBacklog before s events) → Good s
-      → worldOf (c .answer .state) ≡ run (worldOf s) (takenBy (c .answer) events)
-  -- Two lists, one after the other, the first taken whole, are the same as both in one call.
-  pub backlog-joined : (before : Tally) (s : State) → Sized s → (xs ys : List ℕ) (c : TakesBacklog before s xs) → c .answer .answer ≡ 0
-      → (d : TakesBacklog (c .tally) (c .answer .state) ys) (b : TakesBacklog before s (xs ++ ys))
-      → (b .answer ≡ andBefore (c .answer .taken) (d .answer)) × (b .tally ≡ d .tally)
+  -- The two calls over many events are the calls of the step one by one.
+  pub many-events : Many.Demand2
   -- What a well-formed state means leaves nothing open: two that mean the same world are the same state.
   pub state-determined : (s t : State) → Good s → Good t → worldOf s ≡ worldOf t → s ≡ t
   -- The fresh state of a good network: well formed, every station down and no letter in flight.
@@ -266,11 +231,7 @@ demand2 =
       counted-is-step = λ t s e c d. c .promise ∙ sym (d .promise);
       counted-exact = λ t s z e c. ruled s z (e .kind) (e .a) (e .b) (c .answer) (c .promise);
       tally-exact = λ t s e c. c .promise-tally ∙ ap (λ r. talliedBy r t) (sym (c .promise));
-      backlog-exact = Backlogs.backlog-exact;
-      backlog-tally = Backlogs.tally-answered;
-      backlog-accepted = Backlogs.backlog-accepted;
-      backlog-means = Backlogs.backlog-means;
-      backlog-joined = Backlogs.backlog-joined;
+      many-events = Many.demand2;
       state-determined = Joined.determined;
       fresh-exact = λ net g d c. fresh-state net g d (c .answer) (c .promise);
       shown-working = λ s a old c q. Exact.report-shows s a old (c .answer) (c .output) (c .promise) (c .promise-output) q .working;
@@ -341,22 +302,17 @@ pub record Demand3 : Type 0 where
   pub settled-is-history : {s u : State} {es : List Event} {n : Tally} → Good s → Calls s es n u → n .settled ≡ everSettled (worldOf s) es
   pub each-settles-one : (w : World) (es : List Event) → T (onlyNotices w es) → everSettled w es ≡ length es
   -- A RUN OF CALLS that are all lent a tally is, in its states, such a run of calls, and what it adds to the tally's settled count stays
-  -- within the bound.
+  -- within the bound. A call that is refused may be left out of it.
   pub lent-is-run : {s u : State} {x y : Tally} {es : List Event} → LentCalls s x es u y → IsRun s es u
   pub lent-bounded : {s u : State} {x y : Tally} {es : List Event} → Good s → Fits x → T (onlyNotices (worldOf s) es) → LentCalls s x es u y
       → y .settled ≤ x .settled + bound (worldOf s)
-  -- THE CALL OVER MANY EVENTS is such a run over the events taken. Where these are only notices, what they add to the tally's settled
-  -- count stays within the bound, and so does how many they are; no counter falls or passes the highest one. What they add is how many
-  -- notices they settle, as long as the count is below its largest value.
-  pub backlog-is-run : (before : Tally) (s : State) (events : List ℕ) (c : TakesBacklog before s events) → GoodState s
-      → LentCalls s before (takenBy (c .answer) events) (c .answer .state) (c .tally)
-  pub backlog-bounded : (before : Tally) (s : State) (events : List ℕ) (c : TakesBacklog before s events) → Good s → Fits before
-      → T (onlyNotices (worldOf s) (takenBy (c .answer) events)) → TakenDieOut before s events c
-  pub backlog-settled : (before : Tally) (s : State) (events : List ℕ) (c : TakesBacklog before s events) → Good s → Fits before
-      → c .tally .settled < largest → c .tally .settled ≡ before .settled + everSettled (worldOf s) (takenBy (c .answer) events)
+  pub lent-accepted : {s u : State} {x y : Tally} {es : List Event} → Good s → LentCalls s x es u y
+      → LentCalls s x (acceptedOf (worldOf s) es) u y
+  -- THE TWO CALLS OVER MANY EVENTS are such runs, and keep within the bound.
+  pub many-events : Many.Demand3
   -- IN THE RULES THEMSELVES: the same of every history from a well-formed world, at every moment of it; every beginning of a run made
   -- only of notices is one, and so is what follows it.
-  pub rules-die-out : (w : World) (es : List Event) → T (wellFormed w) → T (onlyNotices w es) → DiesOut w es
+  pub rules-die-out : (w : World) (es : List Event) → T (wellFormed w) → T (onlyNotices w es) → Flood.DiesOut w es
   pub beginnings : (w : World) (ds fs : List Event) → T (onlyNotices w (ds ++ fs)) → T (onlyNotices w ds)
   pub endings : (w : World) (ds fs : List Event) → T (onlyNotices w (ds ++ fs)) → T (onlyNotices (run w ds) fs)
   -- No smaller bound would do: on the line 0-1-2 of document 01's P13 it is met.
@@ -379,9 +335,8 @@ demand3 =
       each-settles-one = Flood.settled-is-length;
       lent-is-run = Runs.lent-is-run;
       lent-bounded = Runs.lent-settled;
-      backlog-is-run = Backlogs.backlog-run;
-      backlog-bounded = Backlogs.taken-die-out;
-      backlog-settled = Backlogs.settled-is;
+      lent-accepted = Runs.lent-accepted;
+      many-events = Many.demand3;
       rules-die-out = Flood.flood-of-notices-dies-out;
       beginnings = Flood.begins-only;
       endings = Flood.follows-only;
@@ -403,10 +358,8 @@ pub record Counts : Type 0 where
   -- there" (`Fits`: three counts of 64 bits, as its type says).
   pub tally-is-history : {s u : State} {x y : Tally} {es : List Event} → Good s → Fits x → LentCalls s x es u y
       → y ≡ tallied x (everCounted (worldOf s) es)
-  -- So too the tally lent to the call over many events, by the events taken; and the state that it hands back is well formed.
-  pub backlog-history : (before : Tally) (s : State) (events : List ℕ) (c : TakesBacklog before s events) → Good s → Fits before
-      → c .tally ≡ tallied before (everCounted (worldOf s) (takenBy (c .answer) events))
-  pub backlog-well : (before : Tally) (s : State) (events : List ℕ) (c : TakesBacklog before s events) → Good s → Good (c .answer .state)
+  -- So too the tally lent to a call over many events; and the state that it hands back is well formed.
+  pub many-events : Many.Counts
   -- The state at the end of a run means the world that the rules leave after its events.
   pub runs-mean : {s u : State} {es : List Event} {n : Tally} → Good s → Calls s es n u → worldOf u ≡ run (worldOf s) es
   -- Every state that a run of calls hands back is well formed, at its end and on its way, from a well-formed one and from a freshly
@@ -434,8 +387,7 @@ counts =
       counted-counts = λ t s z g e c q. Runs.counted s e (c .answer) (demand2 .counted-exact t s z e c .by-rules g) q;
       counts-are-history = Joined.counts-are-history;
       tally-is-history = tally-is-history;
-      backlog-history = Backlogs.backlog-history;
-      backlog-well = Backlogs.backlog-well;
+      many-events = Many.counts;
       runs-mean = Joined.calls-mean;
       well-for-ever = Joined.well-for-ever;
       well-on-the-way = Joined.well-on-the-way;
@@ -445,15 +397,3 @@ counts =
       rules-for-ever = run-well;
       rules-conserve = Ledger.letters-conserved;
     }
-
--- THE EVENT PROGRAM AND THE EXAMPLES of document 01.
-pub record Examples : Type 0 where
-  -- Whatever the pieces that standard input comes in, the program's calls print exactly what document 01 says of the file and the input.
-  pub program : (file : List ℕ) (pieces : List (List ℕ)) → callsText file pieces ≡ eventProgram file (joined pieces)
-  -- Document 01's sheet and its nine lines give its whole output, byte for byte.
-  pub sample : eventProgram Sample.sheet Sample.events ≡ Sample.output
-  -- P1 to P13, as one table with a single claim.
-  pub table : map (λ c. c .got) Cases.table ≡ map (λ c. c .want) Cases.table
-
-pub examples : Examples
-examples = record { program = event-program; sample = sample-is; table = Cases.cases-hold }

@@ -6,7 +6,10 @@ pub mod States
 pub mod Exact
 pub mod Runs
 pub mod Backlogs
+pub mod AnsweredRuns
+pub mod ManyEvents
 pub mod Sample
+pub mod Examples
 pub mod Promised
 pub mod Answers
 pub mod Demands

@@ -32,9 +32,12 @@ use Rattle.report.proofs.report.Kinds as ReportKinds
 use Rattle.report.proofs.report.Reads as Report
 use Rattle.step_counted.proofs.step_counted as Counted
 use Rattle.backlog_counted.proofs.backlog as Backlog
+use Rattle.backlog_counted.proofs.run as Run
 use Rattle.step_rules.specs.Counting.{talliedBy}
 use Rattle.step_rules.specs.Step.{event, steppedOf}
 use Rattle.backlog_rules.specs.Backlog.{backlogOf}
+use Rattle.backlog_rules.specs.Answers.{tracing, answeredBy}
+use Rattle.fields.specs.Output.{writingOutput}
 use Rattle.demands.specs.Calls.{ReadsSheet, WritesSheet, ReadsLetter, WritesLetter, Begins, Steps, AsksReach, AsksReport}
 
 -- sheet::read(bytes)
@@ -100,3 +103,13 @@ pub backlog : {M : Type 1} (𝓤 : URA M) (H : Heap 𝓤) (A : Atoms 𝓤) (mem 
     ≡ fact 𝓤 ((z ≡ backlogOf (a .1 .0) (now (a .0)) (now (a .1 .1 .0)))
     × (now (e .0) ≡ backlogOf (a .1 .0) (now (a .0)) (now (a .1 .1 .0)) .tally))
 backlog 𝓤 H A mem run κs a z e = refl
+
+-- backlog_counted::run(&mut tally, s, events, &mut trace), too: its one clause is the record's three promises
+pub run : {M : Type 1} (𝓤 : URA M) (H : Heap 𝓤) (A : Atoms 𝓤) (mem : Memory → SProp 𝓤) (calls : Routine → Fun 𝓤) (κs : Lfts 3)
+    (a : Args Run.signature κs) (z : Res Run.signature κs) (e : AtExit Run.ended κs)
+    → let before = now (a .0) in let s = a .1 .0 in let events = now (a .1 .1 .0) in let old = now (a .1 .1 .1 .0) in
+    Run.clauses 𝓤 H A mem calls κs a .ensures tt z e
+    ≡ fact 𝓤 ((z ≡ answeredBy (tracing s before events old) s before events)
+    × (now (e .0) ≡ answeredBy (tracing s before events old) s before events .tally)
+    × (now (e .1 .1 .1 .0) ≡ writingOutput (tracing s before events old) old))
+run 𝓤 H A mem calls κs a z e = refl

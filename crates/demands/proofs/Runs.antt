@@ -1,16 +1,16 @@
 -- What one call counts (specs/Counted.antt); and runs of calls: a run of the step that is lent a tally is a run of the step, after any
 -- first events of a run there is the state that it comes to, and runs from a freshly read sheet.
-use Prim.Native.Nat.{ℕ, _+_, _*_, _-_, _≤_, max}
-use mathlib.Core.Bool.{Bool, true, not, _&&_, _||_}
-use mathlib.Core.Path.{_≡_, refl, sym, ap, _∙_, subst, subst⁻¹}
+use Prim.Native.Nat.{ℕ, _+_, _*_, _-_, _≤_, _<_, max}
+use mathlib.Core.Bool.{Bool, true, false, not, _&&_, _||_}
+use mathlib.Core.Path.{_≡_, refl, sym, ap, _∙_, subst, subst⁻¹, transport}
 use mathlib.Core.List.{List, [], _∷_, _++_}
 use native.Mathlib.Omega.{arith}
-use lib.Dec.{T, ltb}
+use lib.Dec.{T}
 use lib.ListN.{length}
 use Rattle.lists.specs.Lists.{if_then_else_, sumOf, below}
 use Rattle.lists.specs.Places.{largestOf}
 use Rattle.lists.specs.Words.{bit}
-use Rattle.lists.proofs.Tests.{T-is, T-not-is}
+use Rattle.lists.proofs.Tests.{T-is, T-not-is, eq→eqb, if-elim}
 use Rattle.tally.specs.declared.Tally.{Tally}
 use Rattle.fields.specs.Fields.{areBytes}
 use Rattle.net.specs.declared.Letter.{Letter}
@@ -26,23 +26,25 @@ use Rattle.station.specs.declared.Kind.the-variants.{NoSuch, Start, Stop, Recov
 use Rattle.station.specs.Holding.{counter, higher, isLive}
 use Rattle.station.specs.Events.{kindOf, delivers, loses, takesLetter, isNotice}
 use Rattle.station.proofs.Tallies.{rule-settles, rule-drops}
-use Rattle.world.specs.World.{World, Event, holdingAt, receiverIn, concernedBy, concerned, rule, comes, refusal}
+use Rattle.world.specs.World.{World, Event, holdingAt, receiverIn, concernedBy, concerned, rule, comes, refusal, accepted, next}
 use Rattle.world.specs.World.{fresh, noticesOf, raised}
-use Rattle.world.specs.History.{everSent, everDelivered, everLost}
+use Rattle.world.specs.History.{run, everSent, everDelivered, everLost}
 use Rattle.world.proofs.Steps.{is-accepted, step-accepts, taken}
 use Rattle.state.specs.declared.State.{State}
 use Rattle.state.specs.State.{worldOf, Ends64}
 use Rattle.state.proofs.Meaning.{world-well}
 use Rattle.state.specs.declared.Begun.{Begun}
 use Rattle.step_rules.specs.declared.Stepped.{Stepped}
-use Rattle.step_rules.proofs.Bridge.{Good, IsStep, countsBy}
+use Rattle.step_rules.specs.Step.{steppedOf}
+use Rattle.step_rules.proofs.Bridge.{Good, IsStep, countsBy, is-step}
 use Rattle.laws.specs.Flood.{onlyNotices, carried, highest, neighbours, distance, share, bound}
+use Rattle.laws.specs.Tallied.{acceptedCounts, tallyBy}
 use Rattle.tally.proofs.Sums.{Fits}
-use Rattle.laws.proofs.Demand3.{flood-of-notices-dies-out, at-the-end}
+use Rattle.laws.proofs.Demand3.{flood-of-notices-dies-out, at-the-end, settled-is-length}
 use Rattle.laws.proofs.Calls as C
 use Rattle.laws.proofs.Joined as Joined
 use Rattle.laws.proofs.Joined.{Call, Calls, Comes}
-use Rattle.step_counted.proofs.Runs.{LentCalls, tally-is-history}
+use Rattle.step_counted.proofs.Runs.{Lent, LentCalls, one-lent, tally-is-history, lent-mean}
 use Rattle.demands.specs.Given.{GoodNet}
 use Rattle.demands.specs.Calls.{ReadsSheet, Begins}
 use Rattle.demands.specs.Counted.{Counted, letterOf, heardAt, isHeard}
@@ -181,9 +183,61 @@ module _ (w : World) where
   unfolding highest
   highest-is k = refl
 
+-- ---- the events that the rules accept, each in the world that those before it leave. A refused call may be left out of a run
+unfoldable pub acceptedOf : World → List Event → List Event
+acceptedOf w [] = []
+acceptedOf w (e ∷ es) = if accepted w e then e ∷ acceptedOf (next w e) es else acceptedOf (next w e) es
+
+pub lent-accepted : {s u : State} {x y : Tally} {es : List Event} → Good s → LentCalls s x es u y
+    → LentCalls s x (acceptedOf (worldOf s) es) u y
+unfolding acceptedOf
+lent-accepted g C.none = C.none
+lent-accepted {u = u} {y = z} g (C.more {s = s} {t = t} {x = x} {y = y} {e = e} {es = es} c r) =
+    let p = one-lent s x e t y g c in
+    let rest : LentCalls t y (acceptedOf (next (worldOf s) e) es) u z
+    = subst (λ (v : World). LentCalls t y (acceptedOf v es) u z) (p .world) (lent-accepted (p .fit) r) in
+    if-elim (λ (l : List Event). LentCalls s x l u z) (accepted (worldOf s) e) (λ a. C.more c rest) (left-out p rest)
+  where
+    left-out : {fs : List Event} → C.IsLentStep worldOf Lent Good s x e t y → LentCalls t y fs u z → T (not (accepted (worldOf s) e))
+        → LentCalls s x fs u z
+    left-out {fs} p rest n =
+        let i = is-step s (e .kind) (e .a) (e .b) g in
+        let never : accepted (worldOf s) e ≡ false = T-not-is (accepted (worldOf s) e) n in
+        let refused : steppedOf s (e .kind) (e .a) (e .b) .answer ≡ 0 → ⊥
+        = λ q. subst T never (eq→eqb (refusal (worldOf s) e) 0 (sym (i .number) ∙ q)) in
+        let state : t ≡ s = c .state ∙ ap (λ (r : Stepped). r .state) (c .promised) ∙ i .refused-same refused in
+        let tally : y ≡ x = p .tally ∙ ap (λ (b : Bool). tallyBy b x (acceptedCounts (worldOf s) e)) never in
+        transport (λ k. LentCalls (state k) (tally k) fs u z) rest
+
 -- ---- the flood, where a tally is lent: what is added to its settled count stays within the bound
 pub lent-settled : {s u : State} {x y : Tally} {es : List Event} → Good s → Fits x → T (onlyNotices (worldOf s) es) → LentCalls s x es u y
     → y .settled ≤ x .settled + bound (worldOf s)
 lent-settled {s} {es = es} g f o r =
     let d = flood-of-notices-dies-out (worldOf s) es (world-well s (g .sized) (g .holds)) o in
     omega (arith, d .settled es (at-the-end es), ap (λ (t : Tally). t .settled) (tally-is-history g f r))
+
+-- what is claimed of a run from the state s to the state u, lent the tally x and leaving y in it, with n events accepted
+pub record LentDiesOut (s u : State) (x y : Tally) (n : ℕ) : Type 0 where
+  -- what is added to the tally's settled count stays within the bound
+  pub settled : y .settled ≤ x .settled + bound (worldOf s)
+  -- and so does how many events are accepted
+  pub taken : n ≤ bound (worldOf s)
+  -- no counter falls, and none passes the highest one for its link
+  pub no-counter-falls : (i j : ℕ) → counter (holdingAt (worldOf s) i) j ≤ counter (holdingAt (worldOf u) i) j
+  pub none-passes : (i j : ℕ) → i < worldOf s .net .stations → counter (holdingAt (worldOf u) i) j ≤ highest (worldOf s) j
+
+pub lent-dies-out : {s u : State} {x y : Tally} (es : List Event) → Good s → Fits x → T (onlyNotices (worldOf s) es) → LentCalls s x es u y
+    → LentDiesOut s u x y (length es)
+unfolding run
+lent-dies-out {s} es g f o r =
+    let d = flood-of-notices-dies-out (worldOf s) es (world-well s (g .sized) (g .holds)) o in
+    let w = lent-mean g r in
+    let all = at-the-end es in
+    record {
+      settled = lent-settled g f o r;
+      taken = omega (arith, d .settled es all, settled-is-length (worldOf s) es o);
+      no-counter-falls =
+          λ i j. subst⁻¹ (λ (v : World). counter (holdingAt (worldOf s) i) j ≤ counter (holdingAt v i) j) w
+          (d .no-counter-falls [] es all i j);
+      none-passes = λ i j h. subst⁻¹ (λ (v : World). counter (holdingAt v i) j ≤ highest (worldOf s) j) w (d .none-passes es all i j h);
+    }

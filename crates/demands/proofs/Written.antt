@@ -52,7 +52,7 @@ module _ (old out : List ℕ) where
   refused-stays (writes new) e h = absurd (h refl)
 
   -- the first n bytes are the writing, and the others the old ones
-  first-bytes : (new : List ℕ) (n : ℕ) → out ≡ onto new old → n ≡ length new → (take n out ≡ new) × (drop n out ≡ drop n old)
+  pub first-bytes : (new : List ℕ) (n : ℕ) → out ≡ onto new old → n ≡ length new → (take n out ≡ new) × (drop n out ≡ drop n old)
   first-bytes new n e l = (
     ap (take n) e ∙ take-at new (drop (length new) old) n (sym l),
     ap (drop n) e ∙ drop-at new (drop (length new) old) n (sym l) ∙ ap (λ (k : ℕ). drop k old) (sym l),

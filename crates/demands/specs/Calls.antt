@@ -23,7 +23,9 @@ use Rattle.step_rules.specs.declared.Stepped.{Stepped}
 use Rattle.step_rules.specs.Step.{steppedOf}
 use Rattle.step_rules.specs.Counting.{talliedBy}
 use Rattle.backlog_rules.specs.declared.Taken.{Taken}
+use Rattle.backlog_rules.specs.declared.Answered.{Answered}
 use Rattle.backlog_rules.specs.Backlog.{backlogOf}
+use Rattle.backlog_rules.specs.Answers.{tracing, answeredBy}
 use Rattle.report.specs.declared.Asked.{Asked}
 use Rattle.report.specs.Answers.{askedOf}
 use Rattle.report.specs.ReportsAnswers.{answerOf, outputOf}
@@ -75,6 +77,15 @@ pub record TakesBacklog (before : Tally) (s : State) (events : List ℕ) : Type 
   pub tally : Tally
   pub promise : answer ≡ backlogOf s before events
   pub promise-tally : tally ≡ backlogOf s before events .tally
+
+-- backlog_counted::run(&mut tally, s, events, &mut trace)
+pub record RunsAnswered (before : Tally) (s : State) (events old : List ℕ) : Type 0 where
+  pub answer : Answered
+  pub tally : Tally
+  pub trace : List ℕ
+  pub promise : answer ≡ answeredBy (tracing s before events old) s before events
+  pub promise-tally : tally ≡ answeredBy (tracing s before events old) s before events .tally
+  pub promise-trace : trace ≡ writingOutput (tracing s before events old) old
 
 -- reaching::reach(s, a)
 pub record AsksReach (s : State) (a : ℕ) : Type 0 where

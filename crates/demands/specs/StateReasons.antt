@@ -1,5 +1,5 @@
 -- The numbers of the calls over a state, each with its reason: "Calls over a state go 11, 6, 7, 8, 9, 10".
-use Prim.Native.Nat.{ℕ, _+_, _≤_, _<_}
+use Prim.Native.Nat.{ℕ, _+_, _*_, _/_, _≤_, _<_}
 use mathlib.Core.Bool.{not}
 use mathlib.Core.Path.{_≡_}
 use mathlib.Core.List.{List, [], _∷_}
@@ -54,6 +54,17 @@ pub data Stopped : State → List ℕ → ℕ → Type 0 where
 pub data Backlog (s : State) (events : List ℕ) : ℕ → Type 0 where
   eleven : BadState s → Backlog s events 11
   told : {n : ℕ} → GoodState s → Stopped s events n → Backlog s events n
+
+-- how many numbers a run's trace has: three for each event of the list, one or two numbers left over being one more
+abbrev pub traceSize : List ℕ → ℕ
+traceSize events = 3 * ((length events + 2) / 3)
+
+-- ---- THE RUN WITH ANSWERS, into a lent trace: 11, 10. A refused event has its number in the trace, and refuses no call
+pub data Run (s : State) (events old : List ℕ) : ℕ → Type 0 where
+  eleven : BadState s → Run s events old 11
+  -- the lent trace is too short
+  ten : GoodState s → length old < traceSize events → Run s events old 10
+  taken : GoodState s → traceSize events ≤ length old → Run s events old 0
 
 -- ---- THE REACH of station a: 11, 6, 7
 pub data Reach (s : State) (a : ℕ) : ℕ → Type 0 where

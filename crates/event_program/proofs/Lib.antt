@@ -1,5 +1,7 @@
+pub mod Desk
 pub mod Answers
 pub mod Parts
+pub mod Pieces
 pub mod Worlds
 pub mod Program
 pub mod Sayings

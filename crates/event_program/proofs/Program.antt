@@ -1,15 +1,14 @@
 -- THE EVENT PROGRAM: whatever the pieces that standard input comes in, its calls print, in all, exactly what document 01 says of the file
 -- and of the whole input.
 use Prim.Native.Nat.{ℕ}
-use mathlib.Core.Bool.{Bool, true}
+use mathlib.Core.Bool.{Bool}
 use mathlib.Core.Path.{_≡_, refl, sym, ap, ap₂, _∙_}
-use mathlib.Core.List.{List, [], _∷_, _++_, map}
+use mathlib.Core.List.{List, _++_, map}
 use native.Mathlib.Omega.{arith}
-use lib.Dec.{T, eqb}
+use lib.Dec.{T}
 use borrow.Author.Tests.{ne-eqb}
 use Rattle.lists.specs.Lists.{if_then_else_}
 use Rattle.lists.proofs.Tests.{T-is}
-use Rattle.tally.specs.Sums.{largest}
 use Rattle.event_lines.specs.Events.{eventLine}
 use Rattle.event_lines.specs.Split.{linesOf}
 use Rattle.event_lines.specs.Steps.{start, readOn, lineEnd}
@@ -22,11 +21,12 @@ use Rattle.sheet_rules.specs.Values.{netHolds}
 use Rattle.sheet.specs.Sheet.{Sheet, refused, sheet}
 use Rattle.sheet.specs.Values.{valueOf}
 use Rattle.sheet.proofs.ValueLaws.{value-means, value-holds, low-long, high-long}
-use Rattle.world.specs.World.{World, fresh}
+use Rattle.world.specs.World.{fresh}
 use Rattle.world.proofs.Keeps.{fresh-formed}
-use Rattle.state.specs.declared.State.{State}
 use Rattle.state.specs.State.{stateOf, Ends64}
 use Rattle.state.specs.declared.Begun.{Begun}
+use Rattle.state.proofs.LaidOut.{laid-sized, laid-holds}
+use Rattle.step_rules.proofs.Bridge.{Good}
 use Rattle.state.specs.Beginning.{begunOf}
 use Rattle.tally.proofs.Sums.{Fits}
 use Rattle.event_lines.specs.Begun.{isBegun}
@@ -36,10 +36,13 @@ use Rattle.console.proofs.Faults.{refusal-counts}
 use Rattle.console.proofs.Goods.{file-holds}
 use Rattle.event_lines.proofs.Begun.{not-first, byte-begins}
 use Rattle.event_program.specs.Stations.{stationsText}
-use Rattle.event_program.specs.Events.{Standing, noTally, begins, printed, doneAll, endText, outputBy, eventProgram}
-use Rattle.event_program.specs.Runs.{Desk, deskOf, acted, spoken}
+use Rattle.event_program.specs.Events.{noTally, begins, doneAll, outputBy, eventProgram}
+use Rattle.event_program.specs.declared.Ran.{Ran}
+use Rattle.event_program.specs.Runs.{ranAs, firstRan}
 use Rattle.event_program.specs.Calls.{runText, openedText, callsText}
-use Rattle.event_program.proofs.Worlds.{Carried, lines-print, Ends, lines-end, end-prints}
+use Rattle.event_program.proofs.Desk.{Desk, deskOf, acted, spoken}
+use Rattle.event_program.proofs.Pieces.{whole-same}
+use Rattle.event_program.proofs.Worlds.{Carried, lines-print, lines-end, end-prints}
 
 no-fits : Fits noTally
 no-fits = record { settled = omega arith; raised = omega arith; dropped = omega arith }
@@ -64,8 +67,12 @@ module _ (net : Network) (t : T (sheetHolds net)) where
   unfolding good-begun
   first-begun = begun-is ∙ ap (λ (n : Network). record { answer = 0; state = stateOf v (fresh n) }) (value-means net t)
 
-  first-is : begunOf v .state ≡ stateOf v (fresh net)
-  first-is = ap (λ (b : Begun). b .state) first-begun
+  -- what the program holds before its first line
+  abbrev first : Ran
+  first = ranAs 0 0 start noTally (stateOf v (fresh net))
+
+  pub first-is : firstRan v ≡ first
+  first-is = ap (λ (b : Begun). ranAs (b .answer) 0 start noTally (b .state)) first-begun
 
   fresh-net : fresh net .net ≡ net
   unfolding fresh
@@ -75,14 +82,21 @@ module _ (net : Network) (t : T (sheetHolds net)) where
   first-carried =
       record { good = value-holds net t; ends = value-ends net t; net = value-means net t ∙ sym fresh-net; formed = fresh-formed net t }
 
-  run-prints : (pieces : List (List ℕ)) → runText (stateOf v (fresh net)) pieces ≡ outputBy (sheet net)
-      (map eventLine (linesOf (joined pieces)))
-  unfolding runText
+  pub first-good : Good (stateOf v (fresh net))
+  first-good =
+      let c = first-carried in
+      record {
+        sized = laid-sized v (fresh net) (c .good) (c .net) (c .formed) (c .ends);
+        holds = laid-holds v (fresh net) (c .good) (c .net) (c .formed);
+      }
+
+  run-prints : (pieces : List (List ℕ)) → runText (firstRan v) pieces ≡ outputBy (sheet net) (map eventLine (linesOf (joined pieces)))
   run-prints pieces =
       let y = deskOf (stateOf v (fresh net)) noTally in
       let said = map eventLine (linesOf (joined pieces)) in
       let ends = lines-end v (fresh net) noTally first-carried no-fits said in
-      ap₂ (λ (a b : List ℕ). a ++ b)
+      ap (λ (n : Ran). runText n pieces) first-is ∙ whole-same pieces first first-good refl
+      ∙ ap₂ (λ (a b : List ℕ). a ++ b)
       (whole-text start readOn lineEnd acted spoken isBegun not-first byte-begins eventLine event-lines y pieces
       ∙ lines-print v (fresh net) noTally first-carried no-fits said)
       (ap (λ (d : Desk). stationsText (d .state)) (whole-held start readOn lineEnd acted spoken isBegun not-first byte-begins eventLine
@@ -97,11 +111,9 @@ event-program file pieces = go (fileSheet file) refl
         (map eventLine (linesOf (joined pieces)))
     go (refused k) e =
         ap (λ (x : Sheet). openedText (openedBy x) pieces) e
-        ∙ ap (λ (b : Bool). if b then runText (begunOf (openedBy (refused k) .net) .state) pieces else refusalText k)
+        ∙ ap (λ (b : Bool). if b then runText (firstRan (openedBy (refused k) .net)) pieces else refusalText k)
         (ne-eqb k 0 (refusal-counts file k e))
         ∙ sym (ap (λ (x : Sheet). outputBy x (map eventLine (linesOf (joined pieces)))) e)
     go (sheet net) e =
-        let t = file-holds file net e in
-        ap (λ (x : Sheet). openedText (openedBy x) pieces) e ∙ ap (λ (s : State). runText s pieces) (first-is net t)
-        ∙ run-prints net t pieces
+        ap (λ (x : Sheet). openedText (openedBy x) pieces) e ∙ run-prints net (file-holds file net e) pieces
         ∙ sym (ap (λ (x : Sheet). outputBy x (map eventLine (linesOf (joined pieces)))) e)

@@ -1,15 +1,19 @@
 -- What is printed for a line, in other words of document 01: a malformed line, and the notices settled so far.
 use Prim.Native.Nat.{ℕ, _*_, _≤_}
-use mathlib.Core.Bool.{Bool, true}
+use mathlib.Core.Bool.{Bool}
 use mathlib.Core.Path.{_≡_, refl, ap, ap₂, _∙_}
 use mathlib.Core.List.{List, [], _∷_, map}
 use native.Mathlib.Omega.{arith}
 use lib.ListN.{length}
 use borrow.Author.Tests.{le-ltb}
-use Rattle.fields.specs.Output.{writes}
+use Rattle.lists.specs.Lists.{if_then_else_}
+use Rattle.fields.specs.Output.{denied, writes, withRoom, fitting}
 use Rattle.tally.specs.declared.Tally.{Tally}
 use Rattle.tally.specs.Sums.{added}
-use Rattle.event_lines.specs.declared.Reading.{Reading}
+use Rattle.event_list.specs.Lines.{numbersIn}
+use Rattle.event_list.proofs.Whole.{numbers-few}
+use Rattle.state.specs.State.{stateHolds}
+use Rattle.backlog_rules.specs.Answers.{turns, tracing}
 use Rattle.station.specs.Events.{dueOf}
 use Rattle.world.specs.World.{World, exists, comes, refusal}
 use Rattle.world.specs.History.{run, everSettled}
@@ -18,7 +22,10 @@ use Rattle.laws.specs.Tallied.{acceptedCounts, tallyBy, tallyAfter}
 use Rattle.tally.proofs.Sums.{Fits}
 use Rattle.laws.proofs.Tallies.{tally-is-history}
 use Rattle.event_program.specs.Events.{Standing, eventBy, answerText, done, printedFor, doneAll}
-use Rattle.event_program.specs.Runs.{Desk, texts, written}
+use Rattle.event_program.specs.declared.Ran.{Ran}
+use Rattle.event_program.specs.Runs.{running, answersText, answersMost}
+use Rattle.event_program.specs.Calls.{traced}
+use Rattle.event_program.proofs.Parts.{trace-size}
 
 -- ---- a malformed line names no event
 no-kind : (w : World) → refusal w (eventBy (6 ∷ [])) ≡ 6
@@ -62,7 +69,20 @@ pub settled-so-far : (said : List (List ℕ)) (st : Standing) → Fits (st .tall
 settled-so-far said st f =
     ap (λ (t : Tally). t .settled) (tally-after said st ∙ tally-is-history (st .tally) (st .world) (map eventBy said) f)
 
--- the event program lends 65,536 bytes for a piece of at most 1,024: it is never refused with 10
-pub room-suffices : (d : Desk) (r : Reading) (bytes out : List ℕ) → length bytes ≤ 1024 → length out ≡ 65536
-    → written d r bytes out ≡ writes (texts d r bytes)
-room-suffices d r bytes out h e = simp (le-ltb (length out) (32 * length bytes) (omega arith))
+-- ---- the event program lends, for a piece of at most 8,192 bytes, 24,576 places of list and of trace, and 516,096 bytes of output: it is
+-- never refused with 10
+pub room-suffices : (n : Ran) (bytes list trace : List ℕ) → length bytes ≤ 8192 → length list ≡ 24576 → length trace ≡ 24576
+    → running (n .state) (n .tally) (n .reading) bytes list trace ≡ traced n bytes
+unfolding running tracing fitting traced
+room-suffices n bytes list trace h e f =
+    let numbers = numbersIn (n .reading) bytes in
+    let few : length numbers ≤ 3 * length bytes = numbers-few bytes (n .reading) in
+    let all = turns (n .state) (n .tally) numbers in
+    ap (λ (b : Bool). if b then denied 10 else (if stateHolds (n .state) then withRoom (length all) all trace else denied 11))
+    (le-ltb (length list) (3 * length bytes) (omega arith))
+    ∙ ap (λ (b : Bool). if stateHolds (n .state) then (if b then denied 10 else writes all) else denied 11)
+    (le-ltb (length trace) (length all) (omega (arith, few, trace-size (n .state) (n .tally) (n .reading) bytes)))
+
+pub output-suffices : (trace out : List ℕ) → length trace ≤ 24576 → length out ≡ 516096
+    → withRoom (answersMost trace) (answersText trace) out ≡ writes (answersText trace)
+output-suffices trace out h e = simp (le-ltb (length out) (21 * length trace) (omega arith))

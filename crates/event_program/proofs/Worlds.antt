@@ -2,7 +2,7 @@
 -- of that world, and the stations' lines are those of its tables.
 use Prim.Native.Nat.{ℕ, zero, suc, _+_, _≤_, _<_}
 use mathlib.Core.Bool.{Bool, true}
-use mathlib.Core.Path.{_≡_, refl, sym, ap, ap₂, _∙_, subst, subst⁻¹}
+use mathlib.Core.Path.{_≡_, refl, sym, ap, ap₂, _∙_, subst⁻¹}
 use mathlib.Core.List.{List, [], _∷_, _++_}
 use native.Mathlib.Decide.{ℕ-discrete}
 use native.Mathlib.Omega.{arith}
@@ -14,7 +14,7 @@ use Rattle.lists.specs.Places.{collect}
 use Rattle.lists.proofs.Tests.{T-is}
 use Rattle.tally.specs.declared.Tally.{Tally}
 use Rattle.tally.specs.Sums.{tallied}
-use Rattle.tally.proofs.Sums.{Fits, tallied-fits, nothing-more}
+use Rattle.tally.proofs.Sums.{Fits, tallied-fits}
 use Rattle.event_lines.specs.Steps.{start, readOn, lineEnd}
 use Rattle.net.specs.declared.Net.{Net}
 use Rattle.net.specs.Values.{networkOf}
@@ -34,11 +34,13 @@ use Rattle.state.proofs.LaidOut.{laid-sized, laid-holds, laid-means}
 use Rattle.state.proofs.Meaning.{count-is, world-holding}
 use Rattle.step_rules.specs.declared.Stepped.{Stepped}
 use Rattle.step_rules.specs.Step as Step
+use Rattle.step_rules.specs.Counting.{talliedBy}
+use Rattle.backlog_rules.proofs.Tracing.{refusal-counts-nothing}
 use Rattle.laws.specs.Tallied.{acceptedCounts, tallyBy}
 use Rattle.console.specs.Feeding as Feeding
 use Rattle.event_program.specs.Stations.{stationText, stationLine, stationsText}
 use Rattle.event_program.specs.Events.{Standing, eventBy, answerText, done, printedFor, printed, doneAll, endText}
-use Rattle.event_program.specs.Runs.{Desk, deskOf, acted, spoken}
+use Rattle.event_program.proofs.Desk.{Desk, deskOf, acted, spoken}
 
 -- a world that a good network carries
 pub record Carried (v : Net) (w : World) : Type 0 where
@@ -120,10 +122,10 @@ module _ (v : Net) (w : World) (c : Carried v w) (t : Tally) (f : Fits t) (said 
             });
         fits = subst⁻¹ Fits tally (tallied-fits t (acceptedCounts w ev));
         acts =
-            ap (λ (x : Stepped). deskOf (x .state) (tallied t (x .counts))) d
+            ap (λ (x : Stepped). deskOf (x .state) (talliedBy x t)) d
             ∙ sym (ap₂ (λ (x : World) (u : Tally). deskOf (stateOf v x) u) world tally);
         says =
-            ap (λ (x : Stepped). answerText (x .answer) (x .state .flying) (tallied t (x .counts) .settled)) d
+            ap (λ (x : Stepped). answerText (x .answer) (x .state .flying) (talliedBy x t .settled)) d
             ∙ ap (λ (n : ℕ). answerText 0 n (tallied t (acceptedCounts w ev) .settled)) (flying-is (after w ev))
             ∙ sym (ap₂ (λ (x : World) (u : Tally). answerText (refusal w ev) (length (x .letters)) (u .settled)) world tally
             ∙ ap (λ (n : ℕ). answerText n (length (after w ev .letters)) (tallied t (acceptedCounts w ev) .settled)) z);
@@ -134,6 +136,7 @@ module _ (v : Net) (w : World) (c : Carried v w) (t : Tally) (f : Fits t) (said 
   line-refused n p h =
       let z : refusal w ev ≡ 0 → ⊥ = λ q. h (sym p ∙ q) in
       let d = stepped-refused v w c (getD said 1 0) (getD said 2 0) (getD said 3 0) n p h in
+      let uncounted : talliedBy (Step.refusing n (stateOf v w)) t ≡ t = sym (refusal-counts-nothing (Step.refusing n (stateOf v w)) t h) in
       let world : next w ev ≡ w = step-refuses w ev z in
       let tally : tallyBy (accepted w ev) t (acceptedCounts w ev) ≡ t = ap (λ (x : Bool). tallyBy x t (acceptedCounts w ev))
       (is-refused w ev z) in
@@ -141,11 +144,11 @@ module _ (v : Net) (w : World) (c : Carried v w) (t : Tally) (f : Fits t) (said 
         carried = subst⁻¹ (Carried v) world c;
         fits = subst⁻¹ Fits tally f;
         acts =
-            ap (λ (x : Stepped). deskOf (x .state) (tallied t (x .counts))) d ∙ ap (deskOf (stateOf v w)) (nothing-more t f)
+            ap (λ (x : Stepped). deskOf (x .state) (talliedBy x t)) d ∙ ap (deskOf (stateOf v w)) uncounted
             ∙ sym (ap₂ (λ (x : World) (u : Tally). deskOf (stateOf v x) u) world tally);
         says =
-            ap (λ (x : Stepped). answerText (x .answer) (x .state .flying) (tallied t (x .counts) .settled)) d
-            ∙ ap₂ (λ (k : ℕ) (u : Tally). answerText n k (u .settled)) (flying-is w) (nothing-more t f)
+            ap (λ (x : Stepped). answerText (x .answer) (x .state .flying) (talliedBy x t .settled)) d
+            ∙ ap₂ (λ (k : ℕ) (u : Tally). answerText n k (u .settled)) (flying-is w) uncounted
             ∙ sym (ap₂ (λ (x : World) (u : Tally). answerText (refusal w ev) (length (x .letters)) (u .settled)) world tally
             ∙ ap (λ (k : ℕ). answerText k (length (w .letters)) (t .settled)) p);
       }

@@ -1,64 +1,46 @@
--- What the code answers for a piece of the input, byte by byte and for every state. proofs/Program.antt: from a fresh state the pieces of
--- an input give what specs/Events.antt says of the whole of it.
+-- What the code answers for a piece of the input, for every state, and what is printed for a trace. proofs/Program.antt: from a fresh state
+-- the pieces of an input give what specs/Events.antt says of the whole of it.
 use Prim.Native.Nat.{ℕ, _*_}
-use mathlib.Core.List.{List}
-use lib.ListN.{length, getD}
-use Rattle.fields.specs.Output.{Writing, denied, writes, withRoom}
+use mathlib.Core.List.{List, [], _∷_, _++_}
+use lib.Dec.{ltb}
+use lib.ListN.{length}
+use Rattle.lists.specs.Lists.{if_then_else_}
+use Rattle.fields.specs.Output.{Writing, denied, writes}
 use Rattle.tally.specs.declared.Tally.{Tally}
-use Rattle.tally.specs.Sums.{tallied}
 use Rattle.event_lines.specs.declared.Reading.{Reading}
-use Rattle.event_lines.specs.Steps.{start, readOn, lineEnd}
+use Rattle.event_lines.specs.Steps.{start}
+use Rattle.event_list.specs.Lines.{numbersIn, lineAfter}
 use Rattle.net.specs.declared.Net.{Net}
 use Rattle.state.specs.declared.State.{State}
 use Rattle.state.specs.Beginning.{begunOf}
-use Rattle.step_rules.specs.declared.Stepped.{Stepped}
-use Rattle.step_rules.specs.Step.{steppedOf}
-use Rattle.console.specs.Feeding.{heldAfter, readAfter, textAfter}
+use Rattle.backlog_rules.specs.Answers.{lastState, lastTally, tracing}
 use Rattle.event_program.specs.declared.Ran.{Ran}
 use Rattle.event_program.specs.Events.{noTally, answerText}
 
--- what is held between two lines
-pub record Desk : Type 0 where
-  pub state : State
-  pub tally : Tally
+-- ---- a piece: the lines that end in it, as one run with answers
+-- 10 where the list is too short for any input of so many bytes; else what the call over the lines' numbers says
+unfoldable pub running : State → Tally → Reading → List ℕ → List ℕ → List ℕ → Writing
+running s t r bytes list trace = if ltb (length list) (3 * length bytes) then denied 10 else tracing s t (numbersIn r bytes) trace
 
-abbrev pub deskOf : State → Tally → Desk
-deskOf s t = record { state = s; tally = t }
+abbrev pub ranAs : ℕ → ℕ → Reading → Tally → State → Ran
+ranAs answer size r t s = record { answer = answer; size = size; reading = r; tally = t; state = s }
 
--- the step of the event that a line's numbers name
-abbrev pub stepBy : State → List ℕ → Stepped
-stepBy s said = steppedOf s (getD said 1 0) (getD said 2 0) (getD said 3 0)
-
--- what a line does, and what is printed for it
-unfoldable pub acted : Desk → List ℕ → Desk
-acted d said =
-    let x = stepBy (d .state) said in
-    record { state = x .state; tally = tallied (d .tally) (x .counts) }
-
-unfoldable pub spoken : Desk → List ℕ → List ℕ
-spoken d said = answerText (stepBy (d .state) said .answer) (acted d said .state .flying) (acted d said .tally .settled)
-
--- after some bytes, from a desk and the reading of a line under way
-abbrev pub deskAfter : Desk → Reading → List ℕ → Desk
-deskAfter = heldAfter start readOn lineEnd acted spoken
-
-abbrev pub lineAfter : Desk → Reading → List ℕ → Reading
-lineAfter = readAfter start readOn lineEnd acted spoken
-
-abbrev pub texts : Desk → Reading → List ℕ → List ℕ
-texts = textAfter start readOn lineEnd acted spoken
-
--- ---- with lent output: 32 bytes for each byte of the input, or 10
-abbrev pub written : Desk → Reading → List ℕ → List ℕ → Writing
-written d r bytes old = withRoom (32 * length bytes) (texts d r bytes) old
-
-abbrev pub ranAs : ℕ → ℕ → Reading → Desk → Ran
-ranAs answer written r d = record { answer = answer; written = written; reading = r; tally = d .tally; state = d .state }
-
-abbrev pub ranBy : Writing → Desk → Reading → List ℕ → Ran
-ranBy (denied k) d r bytes = ranAs k 0 r d
-ranBy (writes text) d r bytes = ranAs 0 (length text) (lineAfter d r bytes) (deskAfter d r bytes)
+abbrev pub ranBy : Writing → State → Tally → Reading → List ℕ → Ran
+ranBy (denied n) s t r bytes = ranAs n 0 r t s
+ranBy (writes trace) s t r bytes =
+    ranAs 0 (length trace) (lineAfter r bytes) (lastTally s t (numbersIn r bytes)) (lastState s (numbersIn r bytes))
 
 -- ---- before the first line: a fresh state; the number is that of `fresh`
 abbrev pub firstRan : Net → Ran
-firstRan net = ranAs (begunOf net .answer) 0 start (deskOf (begunOf net .state) noTally)
+firstRan net = ranAs (begunOf net .answer) 0 start noTally (begunOf net .state)
+
+-- ---- what is printed for a trace: a line for each three numbers of it
+unfoldable pub answersText : List ℕ → List ℕ
+answersText [] = []
+answersText (answer ∷ []) = []
+answersText (answer ∷ flying ∷ []) = []
+answersText (answer ∷ flying ∷ settled ∷ trace) = answerText answer flying settled ++ answersText trace
+
+-- no longer than this: a number has at most 20 digits, and one byte stands behind it
+abbrev pub answersMost : List ℕ → ℕ
+answersMost trace = 21 * length trace

@@ -1,65 +1,27 @@
-// The event program, on bytes and values alone: the lines of a piece of the input, and the stations' lines at the end. Nothing here reads
-// or writes.
+// The event program, on bytes and values alone: the lines of a piece of the input become a list of events, one call takes them, and what
+// stands in its trace is printed; at the end the stations' lines. Nothing here reads or writes.
 // Inner doors: the calls are in docs/CALLS.md.
 ghost use mathlib.Core.Path.{_≡_};
-ghost use Prim.Native.Nat.{_+_, _≤_};
+ghost use Prim.Native.Nat.{_+_, _*_, _≤_};
 ghost use lib.ListN.{length, take};
-ghost use Rattle.event_lines.specs.Steps.{lineEnd};
 ghost use Rattle.console.specs.Outputs.{Counts, Put, wroteBy};
 ghost use Rattle.fields.specs.Output.{withRoom, writingOutput};
+ghost use Rattle.event_list.specs.Lines.{listing};
 ghost use Rattle.event_program.specs.Events.{answerText};
-ghost use Rattle.event_program.specs.Runs.{deskOf, written, ranBy, firstRan};
-ghost use Rattle.event_program.specs.Steps.{askedBy};
+ghost use Rattle.event_program.specs.Runs.{running, ranBy, firstRan, answersText, answersMost};
 ghost use Rattle.event_program.specs.Stations.{stationText, stationMost, stationsText, stationsMost};
 use console::Wrote;
-use event_lines::Line;
 use event_lines::Reading;
 use net::Net;
 use state::State;
 use tally::Tally;
 
-// ---- lines
-
-// The numbers of an event line. A malformed one is no event: there is no kind 0, so that it is answered by 6 and changes
-// nothing.
-struct Asked {
-    kind: u32,
-    a: u32,
-    b: u32,
-}
-
-fn asked_of(r: Reading) -> Asked
-    ensures { λ e. ⌜ e ≡ askedBy (lineEnd r) ⌝ }
-{
-    match event_lines::line_end(r) {
-        Line::Malformed => Asked {
-            kind: 0,
-            a: 0,
-            b: 0,
-        },
-        Line::Event(kind, a, b) => Asked { kind, a, b },
-    }
-}
-
 // ---- events
 
-// Answer, letters in flight, notices settled so far.
-fn put_answer(out: &mut [u8], at: usize, answer: u8, flying: u16, settled: u64) -> usize
-    requires { ⌜ at + 32 ≤ length (now out) ⌝ }
-    ensures { λ r. ⌜ Put (answerText answer flying settled) 32 at (now (out .entry)) r (now (out .exit)) ⌝ }
-{
-    let a = text::put_number(out, at, answer as u64);
-    let b = text::put_word(out, a, b" ");
-    let c = text::put_number(out, b, flying as u64);
-    let d = text::put_word(out, c, b" ");
-    let e = text::put_number(out, d, settled);
-    text::put_word(out, e, b"\n")
-}
-
-// After a piece of the input: 0 or the number that says no, how many bytes of output there are, and all that goes on from there.
+// After a piece of the input: 0 or the number that says no, how many numbers stand at the trace's front, and all that goes on from there.
 pub struct Ran {
     pub answer: u8,
-    pub written: usize,
+    pub size: usize,
     pub reading: Reading,
     pub tally: Tally,
     pub state: State,
@@ -80,59 +42,104 @@ pub fn begin(net: Net) -> Ran
     };
     Ran {
         answer: begun.answer,
-        written: 0, // nothing is printed yet
+        size: 0, // no event yet
         reading,
         tally,
         state,
     }
 }
 
-// Runs the event lines that end in these bytes.
-// Promise: for the lines that end in these bytes: what document 01's event program prints for each, and the state, tally and reading after
-// them.
-pub fn run_events(given: State, t: Tally, r: Reading, bytes: &[u8], out: &mut [u8]) -> Ran
-    ensures answer { λ n. ⌜ n ≡ ranBy (written (deskOf given t) r (now (bytes .entry)) (now (out .entry))) (deskOf given t) r
+// Runs the event lines that end in these bytes by one call; the lent list is the room for their numbers, the trace for what came of them.
+// Promise: for the lines that end in these bytes, in the trace and in the answer what the steps one by one come to (`Answers.turns`), and
+// the reading of the line under way behind them; 10 where the list has fewer than three places for each byte or the trace is too short, 11
+// for a bad state: then state, tally, reading and trace are as they were.
+pub fn run_lines(
+    given: State,
+    t: Tally,
+    r: Reading,
+    bytes: &[u8],
+    list: &mut [u32],
+    trace: &mut [u64],
+) -> Ran
+    ensures answer { λ n. ⌜ n ≡ ranBy (running given t r (now (bytes .entry)) (now (list .entry)) (now (trace .entry))) given t r
         (now (bytes .entry)) ⌝ }
-    ensures output { λ n. ⌜ now (out .exit) ≡ writingOutput
-        (written (deskOf given t) r (now (bytes .entry)) (now (out .entry))) (now (out .entry)) ⌝ }
-    ensures room { λ n. ⌜ Counts (n .written) (now (out .exit)) ⌝ }
+    ensures list { λ n. ⌜ now (list .exit) ≡ writingOutput (listing r (now (bytes .entry)) (now (list .entry))) (now (list .entry)) ⌝ }
+    ensures trace { λ n. ⌜ now (trace .exit) ≡ writingOutput
+        (running given t r (now (bytes .entry)) (now (list .entry)) (now (trace .entry))) (now (trace .entry)) ⌝ }
+    ensures room { λ n. ⌜ Counts (n .size) (now (trace .exit)) ⌝ }
 {
-    // no line is longer than 32 bytes, and none is without a byte of input
-    if out.len() / 32 < bytes.len() {
+    let listed = event_list::list_lines(r, bytes, list);
+    if listed.answer != 0 {
         return Ran {
-            answer: 10,
-            written: 0,
+            answer: listed.answer,
+            size: 0,
             reading: r,
             tally: t,
             state: given,
         };
     }
-    let mut reading = r;
-    let mut tally = t;
-    let mut state = given;
+    let size = listed.size;
+    let line = listed.reading;
+    let done = backlog_run::run_with_answers(given, t, &list[..size], trace);
+    let sums = done.tally;
+    let after = done.state;
+    if done.answer != 0 {
+        return Ran {
+            answer: done.answer,
+            size: 0,
+            reading: r,
+            tally: sums,
+            state: after,
+        };
+    }
+    Ran {
+        answer: 0,
+        size,
+        reading: line,
+        tally: sums,
+        state: after,
+    }
+}
+
+// Answer, letters in flight, notices settled so far.
+fn put_answer(out: &mut [u8], at: usize, answer: u64, flying: u64, settled: u64) -> usize
+    requires { ⌜ at + 63 ≤ length (now out) ⌝ }
+    ensures { λ r. ⌜ Put (answerText answer flying settled) 63 at (now (out .entry)) r (now (out .exit)) ⌝ }
+{
+    let a = text::put_number(out, at, answer);
+    out[a] = 32;
+    let c = text::put_number(out, a + 1, flying);
+    out[c] = 32;
+    let e = text::put_number(out, c + 1, settled);
+    out[e] = 10;
+    e + 1
+}
+
+// A line for each event of a trace.
+// Promise: for each three numbers of the trace the line that document 01 has the event program print: answer, letters in flight, notices
+// settled so far; 10 where the output has fewer than 21 bytes for each number.
+pub fn put_answers(trace: &[u64], out: &mut [u8]) -> Wrote
+    ensures answer { λ r. ⌜ r ≡ wroteBy (withRoom (answersMost (now (trace .entry))) (answersText (now (trace .entry))) (now (out .entry))) ⌝ }
+    ensures output { λ r. ⌜ now (out .exit) ≡ writingOutput (withRoom (answersMost (now (trace .entry))) (answersText (now (trace .entry)))
+        (now (out .entry))) (now (out .entry)) ⌝ }
+    ensures room { λ r. ⌜ Counts (r .written) (now (out .exit)) ⌝ }
+{
+    // no number has more than 20 digits, and one byte stands behind each
+    if out.len() / 21 < trace.len() {
+        return Wrote {
+            answer: 10,
+            written: 0,
+        };
+    }
     let mut at: usize = 0;
-    let mut from: usize = 0;
-    loop {
-        let end = event_lines::find_end(bytes, from);
-        let stop = end.stop;
-        let line = event_lines::read_bytes(reading, &bytes[from..stop]);
-        if !end.ended {
-            return Ran {
-                answer: 0,
-                written: at,
-                reading: line,
-                tally,
-                state,
-            };
-        }
-        let e = asked_of(line);
-        let done = step::step(state, e.kind, e.a, e.b);
-        let after = done.state;
-        state = after;
-        tally = tally::with_step(tally, done.counts);
-        at = put_answer(out, at, done.answer, state.flying, tally.settled);
-        reading = event_lines::begin();
-        from = stop + 1;
+    let n = trace.len() / 3;
+    for i in 0..n {
+        let first = 3 * i;
+        at = put_answer(out, at, trace[first], trace[first + 1], trace[first + 2]);
+    }
+    Wrote {
+        answer: 0,
+        written: at,
     }
 }
 

@@ -5,7 +5,7 @@ use state::State;
 
 // A file that can't be opened or read counts as empty, as in `events`.
 fn main() {
-    let mut file = io::large_buffer();
+    let mut file = [0u8; 4097];
     let fd = os::open_read(b"network.sheet");
     let n = io::read_full(fd, &mut file);
     libc::close(fd);
@@ -22,11 +22,13 @@ fn make_page(file: &[u8]) {
         taken: 0,
         refused: 0,
     };
+    let mut list = [0u32; 24576];
+    let mut trace = [0u64; 24576];
     let net = opened.net;
     let mut ran = event_program::begin(net);
     let mut turns = u64::MAX;
     while turns > 0 {
-        let done = take_turn(ran, answers);
+        let done = take_turn(ran, answers, &mut list, &mut trace);
         let after = done.ran;
         let counted = done.answers;
         ran = after;
@@ -76,23 +78,23 @@ struct Turn {
 }
 
 // One read and its events. What `events` would print for them is counted and not written.
-fn take_turn(before: Ran, counted: Answers) -> Turn {
-    let mut room = [0u8; 1024];
+fn take_turn(before: Ran, counted: Answers, list: &mut [u32], trace: &mut [u64]) -> Turn {
+    let mut room = [0u8; 8192];
     let got = libc::read(0, &mut room);
     let n = io::count(got, &room);
     let size = console::put_piece(n, event_lines::is_begun(before.reading), &mut room);
-    let mut out = io::large_buffer();
-    let ran = event_program::run_events(
+    let ran = event_program::run_lines(
         before.state,
         before.tally,
         before.reading,
         &room[..size],
-        &mut out,
+        list,
+        trace,
     );
-    let written = ran.written;
+    let numbers = ran.size;
     Turn {
         more: 0 < n,
-        answers: page_program::count_answers(&out[..written], counted),
+        answers: page_program::count_answers(&trace[..numbers], counted),
         ran,
     }
 }

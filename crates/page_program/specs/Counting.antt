@@ -1,6 +1,5 @@
--- How many events were taken and refused, by the lines that were printed for them, and the page's first line.
+-- How many events were taken and refused, by the trace of their run, and the page's first line.
 use Prim.Native.Nat.{ℕ}
-use mathlib.Core.Bool.{Bool, true, false}
 use mathlib.Core.List.{List, [], _∷_, _++_}
 use lib.Dec.{eqb}
 use Rattle.lists.specs.Lists.{if_then_else_}
@@ -15,15 +14,16 @@ tookOne a = record { taken = added (a .taken) 1; refused = a .refused }
 abbrev pub refusedOne : Answers → Answers
 refusedOne a = record { taken = a .taken; refused = added (a .refused) 1 }
 
--- a line is counted at its first byte: only the answer 0 begins with the digit 0
-abbrev pub byteCounted : Bool → ℕ → Answers → Answers
-byteCounted true b a = if eqb b 48 then tookOne a else refusedOne a
-byteCounted false b a = a
+-- an event that is answered by 0 is taken
+abbrev pub counted : ℕ → Answers → Answers
+counted answer a = if eqb answer 0 then tookOne a else refusedOne a
 
--- bytes of which the first begins a line or does not
-unfoldable pub counting : Bool → List ℕ → Answers → Answers
-counting begins [] a = a
-counting begins (b ∷ bytes) a = counting (eqb b 10) bytes (byteCounted begins b a)
+-- a trace has three numbers an event, and the first is its answer
+unfoldable pub counting : List ℕ → Answers → Answers
+counting [] a = a
+counting (answer ∷ []) a = a
+counting (answer ∷ flying ∷ []) a = a
+counting (answer ∷ flying ∷ settled ∷ trace) a = counting trace (counted answer a)
 
 -- "`T events taken, R refused`"
 unfoldable pub countsText : ℕ → ℕ → List ℕ

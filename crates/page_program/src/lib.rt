@@ -8,10 +8,9 @@ ghost use Rattle.console.specs.Outputs.{Counts, wroteBy};
 ghost use Rattle.fields.specs.Output.{withRoom, writingOutput};
 ghost use Rattle.page_part.specs.Parts.{partWriting};
 ghost use Rattle.page_program.specs.Page.{stationPart};
-ghost use mathlib.Core.Bool.{true};
 ghost use lib.ListN.{length};
 ghost use Rattle.tally.specs.Sums.{added};
-ghost use Rattle.page_program.specs.Counting.{byteCounted, counting, countsText};
+ghost use Rattle.page_program.specs.Counting.{counted, counting, countsText};
 use console::Wrote;
 use state::State;
 use station::Condition;
@@ -49,7 +48,7 @@ pub fn put_station(s: State, i: u8, out: &mut [u8]) -> Wrote
     )
 }
 
-// ---- How many events were taken and refused, counted in the lines that the event program prints for them: the page's first line.
+// ---- How many events were taken and refused, counted in the trace of their run: the page's first line.
 
 // Each count has 64 bits and stays at its largest value once there.
 pub struct Answers {
@@ -67,14 +66,10 @@ fn one_more(count: u64) -> u64
     }
 }
 
-// A line is counted at its first byte: only the answer 0 begins with the digit 0.
-fn count_byte(begins: bool, byte: u8, a: Answers) -> Answers
-    ensures { λ r. ⌜ r ≡ byteCounted begins byte a ⌝ }
+fn count_answer(answer: u64, a: Answers) -> Answers
+    ensures { λ r. ⌜ r ≡ counted answer a ⌝ }
 {
-    if !begins {
-        return a;
-    }
-    if byte == 48 {
+    if answer == 0 {
         return Answers {
             taken: one_more(a.taken),
             refused: a.refused,
@@ -86,17 +81,16 @@ fn count_byte(begins: bool, byte: u8, a: Answers) -> Answers
     }
 }
 
-// The answers on these lines, which the event program prints for events, added to those before.
-// Promise: of the lines of the event program's text, those that begin with 0 are taken and the others refused.
-pub fn count_answers(bytes: &[u8], before: Answers) -> Answers
-    ensures { λ r. ⌜ r ≡ counting true (now (bytes .entry)) before ⌝ }
+// The answers of a run's trace, added to those before.
+// Promise: of the events in the trace, those that are answered by 0 are taken and the others refused.
+pub fn count_answers(trace: &[u64], before: Answers) -> Answers
+    ensures { λ r. ⌜ r ≡ counting (now (trace .entry)) before ⌝ }
 {
     let mut a = before;
-    let mut begins = true;
-    for i in 0..bytes.len() {
-        let byte = bytes[i];
-        a = count_byte(begins, byte, a);
-        begins = byte == 10;
+    let n = trace.len() / 3;
+    for i in 0..n {
+        let first = 3 * i;
+        a = count_answer(trace[first], a);
     }
     a
 }

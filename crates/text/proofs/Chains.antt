@@ -1,12 +1,12 @@
 -- For callers: texts put one after the other are the joined text put at once, and the last answer says whether all of it fits.
-use Prim.Native.Nat.{ℕ, _+_, _≤_}
+use Prim.Native.Nat.{ℕ, suc, _+_, _≤_, _<_}
 use mathlib.Core.Path.{_≡_, refl, sym, ap, ap₂, _∙_}
-use mathlib.Core.List.{List, [], _++_, append-assoc}
+use mathlib.Core.List.{List, [], _∷_, _++_, append-assoc}
 use native.Mathlib.Nat.{add-zero}
 use native.Mathlib.Decide.{decLe}
 use native.Mathlib.Omega.{arith}
-use lib.ListN.{length, take, drop, length-append}
-use lib.Seq.{paste-zero, take-at, drop-at, drop-drop, length-take-le}
+use lib.ListN.{length, take, drop, set, length-append, length-set}
+use lib.Seq.{set-split, paste-zero, take-at, drop-at, drop-drop, length-take-le}
 use Rattle.text.specs.Text.{putAt, placeAfter}
 use Rattle.text.proofs.Puts.{place-over, place-fits, put-fits, length-put}
 
@@ -93,3 +93,36 @@ pub chain-next : {xs : List ℕ} {from : ℕ} {old : List ℕ} {at : ℕ} {out :
 chain-next {xs} {from} {old} {at} {out} ys c p =
     let w = chain-more xs ys from old at out c in
     record { place = p .0 ∙ w .place; size = ap length (p .1) ∙ w .size; output = λ l. p .1 ∙ w .output (omega (arith, p .0)) }
+
+-- ---- numbers stored one by one
+-- one number stored is a text of one put there
+pub stored : (old : List ℕ) (at r x : ℕ) → at < length old → r ≡ at + 1
+    → (r ≡ placeAfter (x ∷ []) at old) × (set old at x ≡ putAt (x ∷ []) at old)
+stored old at r x h e =
+    let past : suc at ≡ at + length (x ∷ []) = omega arith in (
+      e ∙ sym (place-fits (x ∷ []) at old (omega arith)),
+      set-split old at x h ∙ ap (λ (n : ℕ). take at old ++ (x ∷ drop n old)) past
+          ∙ sym (put-fits (x ∷ []) at old (omega arith) ∙ append-assoc (take at old) (x ∷ []) (drop (at + length (x ∷ [])) old)),
+    )
+
+-- and three are a text of three
+pub stored-three : (old : List ℕ) (at x y z : ℕ) → at + 3 ≤ length old
+    → Chain (x ∷ y ∷ z ∷ []) at old (at + 3) (set (set (set old at x) (at + 1) y) (at + 2) z)
+stored-three old at x y z h =
+    let first = chain-next (x ∷ []) (chain-none at old (omega arith)) (stored old at (at + 1) x (omega arith) refl) in
+    let second = chain-next (y ∷ []) first (stored (set old at x) (at + 1) (at + 2) y (simp length-set (omega arith)) (omega arith)) in
+    chain-next (z ∷ []) second
+    (stored (set (set old at x) (at + 1) y) (at + 2) (at + 3) z (simp length-set (omega arith)) (omega arith))
+
+pub put-three : (old : List ℕ) (at x y z : ℕ) → at + 3 ≤ length old
+    → set (set (set old at x) (at + 1) y) (at + 2) z ≡ putAt (x ∷ y ∷ z ∷ []) at old
+put-three old at x y z h = stored-three old at x y z h .output (omega arith)
+
+-- behind a text that was put, with room for one more
+module _ {xs : List ℕ} {from : ℕ} {old : List ℕ} {at : ℕ} {out : List ℕ} (c : Chain xs from old at out)
+    (h : from + length xs < length old) where
+  pub chain-room : at < length out
+  chain-room = omega (arith, c .size, c .place, place-fits xs from old (omega arith))
+
+  pub chain-stored : (x : ℕ) → Chain (xs ++ (x ∷ [])) from old (at + 1) (set out at x)
+  chain-stored x = chain-next (x ∷ []) c (stored out at (at + 1) x chain-room refl)

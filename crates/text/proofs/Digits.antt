@@ -1,10 +1,10 @@
--- Laws of numbers in decimal: their text reads back to the number, is made of digits, has no leading zero, and is not longer than
--- the number allows.
+-- Laws of numbers in decimal: their text reads back to the number, is made of digits, has no leading zero, and is as long as the powers
+-- of ten say.
 use Prim.Native.Nat.{ℕ, zero, suc, _+_, _-_, _*_, _/_, _%_, _^_, _≤_, _<_}
 use mathlib.Core.Bool.{true}
 use mathlib.Core.Path.{_≡_, refl, sym, ap, _∙_, subst}
 use mathlib.Core.List.{List, [], _∷_, _++_, map}
-use native.Mathlib.Nat.{pow-suc, le-refl}
+use native.Mathlib.Nat.{pow-suc, one-le-pow, le-refl}
 use native.Mathlib.Decide.{decLt}
 use native.Mathlib.Omega.{arith}
 use lib.ListN.{length, getD, length-append}
@@ -105,6 +105,20 @@ digits-at-most (suc k) n h = go (decLt n 10) (λ l. digits-at-most k (n / 10) l)
         let grows : 10 ^ suc (suc k) ≡ 10 ^ suc k * 10 = pow-suc 10 (suc k) in
         let shorter : length (digits (n / 10)) ≤ suc k = f (omega arith) in
         rw (digits-more n (omega arith), length-append) (omega arith)
+
+-- and one that is at least that power has more
+pub digits-some : (n : ℕ) → 1 ≤ length (digits n)
+digits-some =
+    by-digits (λ n text. 1 ≤ length text) (λ n h. omega arith)
+    (λ n text h e. omega (arith, length-append text ((48 + n % 10) ∷ [])))
+
+pub digits-at-least : (k n : ℕ) → 10 ^ k ≤ n → k < length (digits n)
+digits-at-least zero n h = omega (arith, digits-some n)
+digits-at-least (suc k) n h =
+    let grows : 10 ^ suc k ≡ 10 ^ k * 10 = pow-suc 10 k in
+    let one : 1 ≤ 10 ^ k = one-le-pow k 10 (omega arith) in
+    let shorter : k < length (digits (n / 10)) = digits-at-least k (n / 10) (omega arith) in
+    rw (digits-more n (omega arith), length-append) (omega arith)
 
 -- the sixteen hexadecimal digits, in order
 pub hex-table : map hexDigit (below 16) ≡ 48 ∷ 49 ∷ 50 ∷ 51 ∷ 52 ∷ 53 ∷ 54 ∷ 55 ∷ 56 ∷ 57 ∷ 65 ∷ 66 ∷ 67 ∷ 68 ∷ 69 ∷ 70 ∷ []

@@ -2,8 +2,8 @@
 // nothing is touched and the answer is one beyond the output's end. Nothing fits there, so a chain of puts needs one test, at its end.
 // Inner doors: the calls are in docs/CALLS.md.
 ghost use mathlib.Core.Path.{_≡_};
-ghost use Prim.Native.Nat.{_≤_, _<_};
-ghost use lib.ListN.{length, drop};
+ghost use Prim.Native.Nat.{_<_};
+ghost use lib.ListN.{length};
 ghost use Rattle.text.specs.Text.{digits, hexDigit, hexPair, putAt, placeAfter};
 ghost use Rattle.text.specs.Parts.{fieldText, hexText};
 
@@ -44,21 +44,19 @@ fn put_hex(out: &mut [u8], at: usize, byte: u8) -> usize
     put_word(out, at, &pair)
 }
 
-// The digits of n at the end of the room, and where they start: the last digit is known first.
-fn spell(room: &mut [u8], n: u64) -> usize
-    requires { ⌜ length (now room) ≡ 20 ⌝ }
-    ensures start { λ r. ⌜ r ≤ 20 ⌝ }
-    ensures digits { λ r. ⌜ drop r (now (room .exit)) ≡ digits n ⌝ }
+// How many digits a number has.
+fn digit_count(n: u64) -> usize
+    ensures { λ r. ⌜ r ≡ length (digits n) ⌝ }
 {
-    let mut m = n;
-    let mut i: usize = 19;
-    while 10 <= m {
-        room[i] = 48 + (m % 10) as u8;
-        m = m / 10;
-        i -= 1;
+    let mut top: u64 = 1;
+    for count in 1..20 {
+        top = top * 10;
+        if n < top {
+            return count;
+        }
     }
-    room[i] = 48 + m as u8;
-    i
+    // no 64-bit number has more digits
+    20
 }
 
 // A number in decimal.
@@ -68,10 +66,31 @@ pub fn put_number(out: &mut [u8], at: usize, n: u64) -> usize
     ensures place { λ r. ⌜ r ≡ placeAfter (digits n) at (now (out .entry)) ⌝ }
     ensures output { λ r. ⌜ now (out .exit) ≡ putAt (digits n) at (now (out .entry)) ⌝ }
 {
-    // no 64-bit number has more digits
-    let mut room = [0u8; 20];
-    let start = spell(&mut room, n);
-    put_word(out, at, &room[start..])
+    // most numbers that are put have one digit
+    if n < 10 {
+        if out.len() <= at {
+            return out.len() + 1;
+        }
+        out[at] = 48 + n as u8;
+        return at + 1;
+    }
+    let count = digit_count(n);
+    if out.len() < at {
+        return out.len() + 1;
+    }
+    if out.len() - at < count {
+        return out.len() + 1;
+    }
+    // straight to their places: the last digit is known first
+    let mut m = n;
+    let mut i = at + count - 1;
+    while 10 <= m {
+        out[i] = 48 + (m % 10) as u8;
+        m = m / 10;
+        i -= 1;
+    }
+    out[at] = 48 + m as u8;
+    at + count
 }
 
 // Bytes in hexadecimal, two digits each, upper case.

@@ -1,7 +1,7 @@
 -- `backlog_counted::backlog` meets its contract: a walk of its MIR, by hand. The borrow is opened and the tally is copied out of it; the
 -- call over many events is given the state, this copy and the list; the answer's tally is stored, and the borrow is closed at it.
 -- A shared list can be had twice: one goes to the call, and one is kept for the exit.
-use mathlib.Core.Path.{_≡_, refl, ap, subst}
+use mathlib.Core.Path.{_≡_, refl, ap}
 use Prim.Native.Nat.{ℕ}
 use mathlib.Core.List.{[], _∷_, List}
 use lib.Dec.{T as Holds}
@@ -59,6 +59,7 @@ use Rattle.backlog_run.proofs.run_backlog as taking
 use Rattle.backlog_run.proofs.run_backlog.Symbol as taking-def
 use Rattle.backlog_run.proofs.run_backlog.Symbol.{name as #backlog-run·run-backlog}
 use Rattle.backlog_run.proofs.run_backlog.Met as taking-thm
+use Rattle.backlog_counted.proofs.Lent.{in-its-value}
 use Rattle.backlog_counted.proofs.backlog.Key.{name as #backlog-counted·backlog}
 use Rattle.backlog_counted.proofs.backlog as here
 use Rattle.backlog_counted.proofs.backlog.Statement as stated
@@ -72,10 +73,6 @@ stayed = (
   stay-ref (0 ∷ []) tt (plain (λ _. T.the-row)),
   (stay-none (λ _. S.the-row) yes, (stay-none-slice (1 ∷ []) tt (plain (λ _. u32)) yes, tt)),
 )
-
--- the machine values of a tally are the ones that its type writes out
-in-its-value : (t : Tally) (vs : List Val) → Is T.the-row t vs → Is T.the-row t (LL.val T.the-type T′.the-laws t ∷ [])
-in-its-value t vs is = subst (Is T.the-row t) (LL.tells T.the-type T′.the-laws t vs is) is
 
 -- the contract that the proof cites
 module _ {M : Type 1} (𝓤 : URA M) (H : Heap 𝓤) (A : Atoms 𝓤) (at-mem : Memory → SProp 𝓤) (run : Routine → Fun 𝓤) where

@@ -1,4 +1,4 @@
-use mathlib.Core.Path.{sym, _∙_}
+use mathlib.Core.Path.{refl, sym, _∙_}
 use denote.Ref.{now}
 use borrow.Author.Needs.{needs}
 use borrow.Author.Tests.{not-true, not-false}
@@ -23,11 +23,17 @@ tested c =
     let said = c .before .well-formed .ensures in
     record { sized = said .1 good; holds = is-T _ (sym (said .0) ∙ good) }
 
+array-borrow-prefix-none : tie.Need-array-borrow-prefix-none
+array-borrow-prefix-none c = search needs
+
+slice-aggregate-take-events : tie.Need-slice-aggregate-take-events
+slice-aggregate-take-events c = search needs
+
 take-events-requires : tie.Need-take-events-requires
-take-events-requires c κs = tested c
+take-events-requires c κs = tested (c .before)
 
 returns-2 : tie.Need-returns-2
-returns-2 c = c .take-events .ensures ∙ sym (good-state _ _ _ (tested (c .before) .holds))
+returns-2 c = c .before .take-events .ensures .stopped refl ∙ sym (good-state _ _ _ (tested (c .before .before .before) .holds))
 
 pub run-backlog-spec : {M : Type 1} → statement M
-run-backlog-spec = tie.close (tie.spec well-formed-requires returns take-events-requires returns-2)
+run-backlog-spec = tie.close (tie.spec well-formed-requires returns array-borrow-prefix-none slice-aggregate-take-events take-events-requires returns-2)

@@ -1,23 +1,22 @@
-use Prim.Native.Nat.{_+_, _*_, _≤_, _<_, _^_}
+use Prim.Native.Nat.{_+_, _<_, _^_}
 use mathlib.Core.Logic.{⊎-elim}
-use mathlib.Core.Path.{_≡_, refl, sym, ap, _∙_, subst⁻¹}
+use mathlib.Core.Path.{_≡_, refl, sym, ap, _∙_}
 use native.Mathlib.Omega.{arith}
 use lib.ListN.{length}
 use denote.Ref.{now}
 use borrow.Author.Needs.{needs}
+use Rattle.text.proofs.Puts.{length-put}
 use Rattle.net.specs.declared.Net.{Net}
 use Rattle.station_plan.specs.Carrying.{keptBy}
 use Rattle.state.specs.declared.State.{State}
 use Rattle.post.proofs.PostLaws as P
 use Rattle.step_rules.specs.declared.Stepped.{Stepped}
 use Rattle.step_rules.specs.Step.{refusing, steppedOf}
-use Rattle.step_rules.proofs.Bridge.{Good, is-step}
 use Rattle.step_parts.proofs.Made.{refused-event, answer-refusal, few-after, free-within}
 use Rattle.step_parts.proofs.Loops.{next-within, closes-more, puts-more}
 use Rattle.step_parts.proofs.Turned.{closing-begins, putting-begins, stays, stores-again}
-use Rattle.backlog_rules.proofs.Laws.{before-none}
-use Rattle.backlog_rules.proofs.Threes as Threes
-use Rattle.backlog_run.specs.declared.Asked.{Asked}
+use Rattle.backlog_run.specs.Events.{eventCount}
+use Rattle.backlog_run.proofs.Course.{count-tight, course-begins, course-taken, course-refused, course-stops, course-ends}
 use Rattle.backlog_run.proofs.Turns.{kept-same}
 use Rattle.backlog_run.proofs.take_events.Statement.{statement}
 use Rattle.backlog_run.proofs.take_events.Tie as tie
@@ -30,11 +29,14 @@ mod Seen
 own-words-requires : tie.Need-own-words-requires Inv-loop2 μ-loop2 Inv-loop3 μ-loop3 Inv-loop μ-loop
 own-words-requires c κs = search needs
 
+event-count-requires : tie.Need-event-count-requires Inv-loop2 μ-loop2 Inv-loop3 μ-loop3 Inv-loop μ-loop
+event-count-requires c κs = search needs
+
 loop-holds : tie.Need-loop-holds Inv-loop2 μ-loop2 Inv-loop3 μ-loop3 Inv-loop μ-loop
-loop-holds c = (omega arith, refl, c .before .before .before .pre, refl, sym (before-none _))
+loop-holds c = (omega arith, c .event-count .ensures, course-begins _ _ _ _ _ (c .before .before .before .before .before .pre))
 
 event-at-requires : tie.Need-event-at-requires Inv-loop2 μ-loop2 Inv-loop3 μ-loop3 Inv-loop μ-loop
-event-at-requires c κs = omega arith
+event-at-requires c κs = search needs
 
 mul-x : tie.Need-mul-x Inv-loop2 μ-loop2 Inv-loop3 μ-loop3 Inv-loop μ-loop
 mul-x c = omega (arith, place-within c)
@@ -75,34 +77,74 @@ count-requires c κs = search needs
 room-of-requires : tie.Need-room-of-requires Inv-loop2 μ-loop2 Inv-loop3 μ-loop3 Inv-loop μ-loop
 room-of-requires c κs = search needs
 
--- how many numbers there are is a 64-bit number, and the event's three stand among them
-small : (c : tie.After-shared-slice-known Inv-loop2 μ-loop2 Inv-loop3 μ-loop3 Inv-loop μ-loop)
-    → length (now (c .before .args .events)) < 2 ^ 64
-small c = omega arith
+put-turn-requires : tie.Need-put-turn-requires Inv-loop2 μ-loop2 Inv-loop3 μ-loop3 Inv-loop μ-loop
+put-turn-requires c κs = search needs
 
-inside : (c : tie.In-loop Inv-loop2 μ-loop2 Inv-loop3 μ-loop3 Inv-loop μ-loop)
-    → 3 * c .before .loop .taken + 3 ≤ length (now (c .before .before .before .before .before .args .events))
-inside c = omega arith
+-- ---- the event is refused
+abbrev Refused : Type 0
+Refused = tie.After-put-turn Inv-loop2 μ-loop2 Inv-loop3 μ-loop3 Inv-loop μ-loop
+
+abbrev refused : Refused → Answered
+refused c = c .before .before .before .before
 
 abbrev testAt : Answered → tie.In-loop Inv-loop2 μ-loop2 Inv-loop3 μ-loop3 Inv-loop μ-loop
 testAt c = eventAt c .before
 
+within : (c : Answered) → turnAt c .loop .taken < eventCount (length (now (turnAt c .before .before .before .before .before .before .args .events)))
+within c = omega (arith, testAt c .loop-test .taken, turnAt c .loop .inv .1)
+
+-- how many numbers there are is a 64-bit number
+small : (c : tie.After-shared-slice-known Inv-loop2 μ-loop2 Inv-loop3 μ-loop3 Inv-loop μ-loop)
+    → length (now (c .before .args .events)) < 2 ^ 64
+small c = omega arith
+
+next-fits : (c : Answered) → turnAt c .loop .taken + 1 < 2 ^ 64
+next-fits c =
+    let begun = turnAt c .before .before .before .before .before in
+    omega (arith, within c, count-tight (length (now (begun .before .args .events))), small begun)
+
+no-step : (c : Refused) → refusing (roomOf (refused c) .answer) (stateOf (refused c)) ≡ steppedOf (stateOf (refused c))
+    (eventOf (refused c) .kind) (eventOf (refused c) .a) (eventOf (refused c) .b)
+no-step c =
+    let n = refused c in
+    let e = eventOf n in
+    refused-event (stateOf n) (e .kind) (e .a) (e .b) (facts n .seen .holds) _ (answer-refusal (facts n)) (c .before .before .if3 .taken)
+
+same-length : tie.Need-same-length Inv-loop2 μ-loop2 Inv-loop3 μ-loop3 Inv-loop μ-loop
+same-length c =
+    let q = c .before .before .before in
+    ap length (q .put-turn .ensures) ∙ length-put _ _ _ ∙ turnAt (refused q) .loop .inv .2 .size
+
 returns : tie.Need-returns Inv-loop2 μ-loop2 Inv-loop3 μ-loop3 Inv-loop μ-loop
 returns c =
-    let n = c .before .before in
+    let q = c .before .before .before in
+    let n = refused q in
     let l = turnAt n .loop in
-    let e = eventOf n in
-    let q = eventAt n .event-at .ensures in
-    Threes.stops _ _ (l .s) (l .tally) (l .taken) (l .inv .4) (e .kind) (e .a) (e .b) (refusing (roomOf n .answer) (l .s)) (inside
-    (testAt n))
-    (ap (λ (x : Asked). x .kind) q) (ap (λ (x : Asked). x .a) q) (ap (λ (x : Asked). x .b) q)
-    (refused-event (l .s) (e .kind) (e .a) (e .b) (facts n .seen .holds) _ (answer-refusal (facts n)) (c .if3 .taken)) (c .if3 .taken)
+    course-stops _ _ _ _ _ (l .s) (l .tally) (l .taken) (l .trace) (l .inv .2) (eventOf n) (eventAt n .event-at .ensures) (within n)
+    (roomOf n .answer) (no-step q) (q .before .before .if3 .taken) _ (q .put-turn .ensures) (c .if4 .taken)
+
+add-taken : tie.Need-add-taken Inv-loop2 μ-loop2 Inv-loop3 μ-loop3 Inv-loop μ-loop
+add-taken c = omega (arith, next-fits (refused (c .before .before .before)))
+
+loop-less : tie.Need-loop-less Inv-loop2 μ-loop2 Inv-loop3 μ-loop3 Inv-loop μ-loop
+loop-less c = omega (arith, testAt (refused (c .before .before .before)) .loop-test .taken)
+
+loop-again : tie.Need-loop-again Inv-loop2 μ-loop2 Inv-loop3 μ-loop3 Inv-loop μ-loop
+loop-again c =
+    let q = c .before .before .before in
+    let n = refused q in
+    let l = turnAt n .loop in (
+      omega (arith, testAt n .loop-test .taken),
+      l .inv .1,
+      course-refused _ _ _ _ _ (l .s) (l .tally) (l .taken) (l .trace) (l .inv .2) (eventOf n) (eventAt n .event-at .ensures) (within n)
+          (roomOf n .answer) (no-step q) (q .before .before .if3 .taken) _ (q .put-turn .ensures) (c .if4 .left),
+    )
 
 abbrev marked : tie.After-marked Inv-loop2 μ-loop2 Inv-loop3 μ-loop3 Inv-loop μ-loop → Answered
 marked c = c .before .before .before
 
-mul-t45 : tie.Need-mul-t45 Inv-loop2 μ-loop2 Inv-loop3 μ-loop3 Inv-loop μ-loop
-mul-t45 c = omega (arith, names-within (namesAt (marked c)) .station)
+mul-t47 : tie.Need-mul-t47 Inv-loop2 μ-loop2 Inv-loop3 μ-loop3 Inv-loop μ-loop
+mul-t47 c = omega (arith, names-within (namesAt (marked c)) .station)
 
 element-set-from-s : tie.Need-element-set-from-s Inv-loop2 μ-loop2 Inv-loop3 μ-loop3 Inv-loop μ-loop
 element-set-from-s c = names-within (namesAt (marked c)) .station
@@ -215,8 +257,8 @@ kept-table-requires c κs = search needs
 abbrev keeping : tie.After-marked2 Inv-loop2 μ-loop2 Inv-loop3 μ-loop3 Inv-loop μ-loop → Answered
 keeping c = answered (c .before .before .before .before)
 
-mul-t82 : tie.Need-mul-t82 Inv-loop2 μ-loop2 Inv-loop3 μ-loop3 Inv-loop μ-loop
-mul-t82 c = omega (arith, names-within (namesAt (keeping c)) .station)
+mul-t88 : tie.Need-mul-t88 Inv-loop2 μ-loop2 Inv-loop3 μ-loop3 Inv-loop μ-loop
+mul-t88 c = omega (arith, names-within (namesAt (keeping c)) .station)
 
 element-set-from-s-2 : tie.Need-element-set-from-s-2 Inv-loop2 μ-loop2 Inv-loop3 μ-loop3 Inv-loop μ-loop
 element-set-from-s-2 c = names-within (namesAt (keeping c)) .station
@@ -226,7 +268,7 @@ added-requires c κs = search needs
 
 -- ---- the turn ends: the network is the same, and it is the step
 abbrev Ending : Type 0
-Ending = tie.Joined4 Inv-loop2 μ-loop2 Inv-loop3 μ-loop3 Inv-loop μ-loop
+Ending = tie.Joined5 Inv-loop2 μ-loop2 Inv-loop3 μ-loop3 Inv-loop μ-loop
 
 abbrev ended : Ending → Answered
 ended c = answered (c .before .before)
@@ -234,8 +276,8 @@ ended c = answered (c .before .before)
 abbrev steppedBy : Ending → State → Stepped
 steppedBy c s = record { answer = 0; counts = planOf (ended c) .counts; state = s }
 
-after-turn : (c : Ending) → (c .if4 .s .net ≡ stateOf (ended c) .net)
-    × (steppedBy c (c .if4 .s) ≡ steppedOf (stateOf (ended c)) (eventOf (ended c) .kind) (eventOf (ended c) .a) (eventOf (ended c) .b))
+after-turn : (c : Ending) → (c .if5 .s .net ≡ stateOf (ended c) .net)
+    × (steppedBy c (c .if5 .s) ≡ steppedOf (stateOf (ended c)) (eventOf (ended c) .kind) (eventOf (ended c) .a) (eventOf (ended c) .b))
 after-turn c =
     let b = begunAt (c .before .before) in
     let o = puts b in
@@ -250,47 +292,46 @@ after-turn c =
     let all : l .i ≡ n .before .count .result = omega arith in
     ⊎-elim
     (λ w. stores-again f (none o) (stores o) (laidDown o) refl (m .s) (l .s) (b .begun .result) (l .post) (m .i) (l .i) (m .inv)
-    (b .begun .ensures) (l .inv) end all (w .1 .result) (w .1 .ensures ∙ net) (c .if4 .s) (w .3))
+    (b .begun .ensures) (l .inv) end all (w .1 .result) (w .1 .ensures ∙ net) (c .if5 .s) (w .3))
     (λ w. stays f (none o) (stores o) (laidDown o) refl (m .s) (l .s) (b .begun .result) (l .post) (m .i) (l .i) (m .inv)
     (b .begun .ensures) (l .inv) end all (toldOf n)
-    (kept-same (s .net) (meOf n) (p .resets) (p .purges) (toldOf n) (sym (c .before .either .ensures) ∙ w .0 .left)) refl (c .if4 .s)
+    (kept-same (s .net) (meOf n) (p .resets) (p .purges) (toldOf n) (sym (c .before .either .ensures) ∙ w .0 .left)) refl (c .if5 .s)
     (w .1))
-    (c .if4 .came)
+    (c .if5 .came)
 
-add-taken : tie.Need-add-taken Inv-loop2 μ-loop2 Inv-loop3 μ-loop3 Inv-loop μ-loop
-add-taken c =
-    omega (
-      arith,
-      inside (testAt (ended (c .before))),
-      small (turnAt (ended (c .before)) .before .before .before),
-    )
+put-turn-requires-2 : tie.Need-put-turn-requires-2 Inv-loop2 μ-loop2 Inv-loop3 μ-loop3 Inv-loop μ-loop
+put-turn-requires-2 c κs = search needs
 
-loop-less : tie.Need-loop-less Inv-loop2 μ-loop2 Inv-loop3 μ-loop3 Inv-loop μ-loop
-loop-less c = omega (arith, testAt (ended (c .before)) .loop-test .taken)
+abbrev tallied : tie.After-put-turn2 Inv-loop2 μ-loop2 Inv-loop3 μ-loop3 Inv-loop μ-loop
+    → tie.After-added Inv-loop2 μ-loop2 Inv-loop3 μ-loop3 Inv-loop μ-loop
+tallied c = c .before .before
 
-loop-again : tie.Need-loop-again Inv-loop2 μ-loop2 Inv-loop3 μ-loop3 Inv-loop μ-loop
-loop-again c =
-    let n = ended (c .before) in
+add-taken-2 : tie.Need-add-taken-2 Inv-loop2 μ-loop2 Inv-loop3 μ-loop3 Inv-loop μ-loop
+add-taken-2 c = omega (arith, next-fits (ended (tallied (c .before .before) .before)))
+
+loop-less-2 : tie.Need-loop-less-2 Inv-loop2 μ-loop2 Inv-loop3 μ-loop3 Inv-loop μ-loop
+loop-less-2 c = omega (arith, testAt (ended (tallied (c .before .before) .before)) .loop-test .taken)
+
+loop-again-2 : tie.Need-loop-again-2 Inv-loop2 μ-loop2 Inv-loop3 μ-loop3 Inv-loop μ-loop
+loop-again-2 c =
+    let p = c .before .before in
+    let u = tallied p in
+    let n = ended (u .before) in
     let l = turnAt n .loop in
-    let e = eventOf n in
-    let q = eventAt n .event-at .ensures in
-    let r = after-turn (c .before) in (
+    let r = after-turn (u .before) in (
       omega (arith, testAt n .loop-test .taken),
-      refl,
-      subst⁻¹ (λ (x : Stepped). Good (x .state)) (r .1) (is-step (l .s) (e .kind) (e .a) (e .b) (l .inv .2) .good),
-      r .0 ∙ l .inv .3,
-      Threes.goes-on _ _ (l .s) (l .tally) (l .taken) (l .inv .4) (e .kind) (e .a) (e .b) (steppedBy (c .before) (c .before .if4 .s))
-          (inside (testAt n)) (ap (λ (x : Asked). x .kind) q) (ap (λ (x : Asked). x .a) q) (ap (λ (x : Asked). x .b) q) (r .1)
-          (c .added .result) (c .added .ensures) refl,
+      l .inv .1,
+      course-taken _ _ _ _ _ (l .s) (l .tally) (l .taken) (l .trace) (l .inv .2) (eventOf n) (eventAt n .event-at .ensures) (within n)
+          (steppedBy (u .before) (u .before .if5 .s)) (r .1) refl (r .0) (u .added .result) (u .added .ensures) _ (p .put-turn2 .ensures),
     )
 
-left-over-requires : tie.Need-left-over-requires Inv-loop2 μ-loop2 Inv-loop3 μ-loop3 Inv-loop μ-loop
-left-over-requires c κs = search needs
+same-length-2 : tie.Need-same-length-2 Inv-loop2 μ-loop2 Inv-loop3 μ-loop3 Inv-loop μ-loop
+same-length-2 c = c .before .loop .inv .2 .size
 
 returns-2 : tie.Need-returns-2 Inv-loop2 μ-loop2 Inv-loop3 μ-loop3 Inv-loop μ-loop
 returns-2 c =
-    let l = c .before .before .loop in
-    Threes.ends _ _ (l .s) (l .tally) (l .taken) _ (c .left-over .result) (l .inv .4) (omega arith) refl (c .left-over .ensures)
+    let l = c .before .loop in
+    course-ends _ _ _ _ _ (l .s) (l .tally) (l .taken) (l .trace) (l .inv .2) _ (omega arith) (l .inv .1)
 
 pub take-events-spec : {M : Type 1} → statement M
 take-events-spec =
@@ -303,6 +344,7 @@ take-events-spec =
     Inv-loop
     μ-loop
     own-words-requires
+    event-count-requires
     loop-holds
     event-at-requires
     mul-x
@@ -318,8 +360,13 @@ take-events-spec =
     narrow-requires
     count-requires
     room-of-requires
+    put-turn-requires
+    same-length
     returns
-    mul-t45
+    add-taken
+    loop-less
+    loop-again
+    mul-t47
     element-set-from-s
     cast-last
     loop2-holds
@@ -351,11 +398,12 @@ take-events-spec =
     add-s
     either-requires
     kept-table-requires
-    mul-t82
+    mul-t88
     element-set-from-s-2
     added-requires
-    add-taken
-    loop-less
-    loop-again
-    left-over-requires
+    put-turn-requires-2
+    add-taken-2
+    loop-less-2
+    loop-again-2
+    same-length-2
     returns-2)

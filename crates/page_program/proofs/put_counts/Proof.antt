@@ -5,7 +5,6 @@ use Rattle.page_program.specs.Words.{eventsTaken, refusedWord}
 use Rattle.text.proofs.Chains.{chain-none, chain-next}
 use Rattle.text.specs.Text.{digits}
 use denote.Ref.{now}
-use mathlib.Core.List.{[], _∷_}
 use Prim.Native.Nat.{_<_, _^_}
 use native.Mathlib.Omega.{arith}
 use borrow.Author.Needs.{needs}

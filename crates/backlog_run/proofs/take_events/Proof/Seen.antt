@@ -1,6 +1,6 @@
 -- What `take_events` knows at the places of its code that have names: the three loops' invariants, what it has seen of an event when it has
 -- its answer (`facts`), and the station as it is stored first.
-use Prim.Native.Nat.{ℕ, _-_, _/_, _≤_, _<_, min}
+use Prim.Native.Nat.{ℕ, _-_, _≤_, _<_, min}
 use mathlib.Core.Logic.{⊎-elim}
 use mathlib.Core.Path.{_≡_, sym, ap, _∙_}
 use mathlib.Core.List.{List}
@@ -19,42 +19,40 @@ use Rattle.station_plan.specs.Plans.{toldIn}
 use Rattle.state.specs.declared.State.{State}
 use Rattle.state.specs.State.{letterIn, stationIn}
 use Rattle.post.proofs.PostLaws as P
-use Rattle.step_rules.proofs.Bridge.{Good}
 use Rattle.step_parts.specs.declared.Names.{Names}
 use Rattle.step_parts.specs.declared.Room.{Room}
 use Rattle.step_parts.specs.Parts.{namesBy, placeBy}
 use Rattle.step_parts.proofs.Helpers.{place-few, Placed, placed}
 use Rattle.step_parts.proofs.Made.{Facts, stored}
 use Rattle.step_parts.proofs.Loops.{withStation, Closing, Putting}
-use Rattle.backlog_rules.specs.Backlog.{calls}
-use Rattle.backlog_rules.proofs.Threes as Threes
-use Rattle.backlog_rules.proofs.Threes.{CameTo}
 use Rattle.backlog_run.specs.declared.Asked.{Asked}
+use Rattle.backlog_run.specs.Events.{eventCount}
+use Rattle.backlog_run.proofs.Course.{Course, asked-kind, asked-place}
 use Rattle.backlog_run.proofs.Turns.{told-same, told-long, sent-same}
 use Rattle.backlog_run.proofs.take_events.Tie as tie
 
 -- while the later letters close up
 abbrev pub Inv-loop2 : tie.InvT-loop2
-Inv-loop2 events s₀ net owns tally n taken place flying me who plan told send count room last from i₀ s i = Closing s₀ from last s i
+Inv-loop2 events stops trace s₀ net owns tally n taken place flying me who plan told send count room last from i₀ s i = Closing s₀ from last s i
 
 abbrev pub μ-loop2 : tie.MeasureT-loop2
-μ-loop2 events s₀ net owns tally n taken place flying me who plan told send count room last from i₀ s i = last - i
+μ-loop2 events stops trace s₀ net owns tally n taken place flying me who plan told send count room last from i₀ s i = last - i
 
 -- while new letters are put at the end
 abbrev pub Inv-loop3 : tie.InvT-loop3
-Inv-loop3 events s₀ net owns tally n taken place flying me who plan told count room last from free post₀ i₀ s post i =
+Inv-loop3 events stops trace s₀ net owns tally n taken place flying me who plan told count room last from free post₀ i₀ s post i =
     Putting s₀ me told last count post₀ s post i
 
 abbrev pub μ-loop3 : tie.MeasureT-loop3
-μ-loop3 events s₀ net owns tally n taken place flying me who plan told count room last from free post₀ i₀ s post i = count - i
+μ-loop3 events stops trace s₀ net owns tally n taken place flying me who plan told count room last from free post₀ i₀ s post i = count - i
 
--- between two events: the state is well formed, and what the whole call answers is what the calls one by one answer from here on
+-- between two events
 abbrev pub Inv-loop : tie.InvT-loop
-Inv-loop events s₀ net owns tally₀ n taken₀ s tally taken =
-    (taken ≤ n) × (n ≡ length events / 3) × Good s × (s .net ≡ net) × CameTo (calls s₀ tally₀ events) events s tally taken
+Inv-loop events stops trace₀ s₀ net owns tally₀ n taken₀ trace s tally taken =
+    (taken ≤ n) × (n ≡ eventCount (length events)) × Course stops events trace₀ s₀ tally₀ s tally taken trace
 
 abbrev pub μ-loop : tie.MeasureT-loop
-μ-loop events s₀ net owns tally₀ n taken₀ s tally taken = n - taken
+μ-loop events stops trace₀ s₀ net owns tally₀ n taken₀ trace s tally taken = n - taken
 
 -- ---- the places of the code that have names, from the answer back: the plan, what the event names, its
 -- three numbers, the turn's beginning
@@ -75,7 +73,7 @@ turnAt c = eventAt c .before .before
 
 abbrev pub ownsAt : tie.At-loop Inv-loop2 μ-loop2 Inv-loop3 μ-loop3 Inv-loop μ-loop
     → tie.After-own-words Inv-loop2 μ-loop2 Inv-loop3 μ-loop3 Inv-loop μ-loop
-ownsAt c = c .before
+ownsAt c = c .before .before
 
 -- and what they are of
 abbrev pub stateOf : Answered → State
@@ -105,11 +103,11 @@ roomOf c = c .room-of .result
 -- the event's kind, and the place of its letter, by its numbers
 pub decoded : (c : tie.After-event-at Inv-loop2 μ-loop2 Inv-loop3 μ-loop3 Inv-loop μ-loop)
     → c .event-at .result .what ≡ kindOf (c .event-at .result .kind)
-decoded c = ap (λ (x : Asked). x .what) (c .event-at .ensures) ∙ ap (λ (x : Asked). kindOf (x .kind)) (sym (c .event-at .ensures))
+decoded c = asked-kind _ _ (c .event-at .result) (c .event-at .ensures)
 
 pub placed-at : (c : tie.After-event-at Inv-loop2 μ-loop2 Inv-loop3 μ-loop3 Inv-loop μ-loop)
     → c .event-at .result .place ≡ placeBy (c .event-at .result .a)
-placed-at c = ap (λ (x : Asked). x .place) (c .event-at .ensures) ∙ ap (λ (x : Asked). placeBy (x .a)) (sym (c .event-at .ensures))
+placed-at c = asked-place _ _ (c .event-at .result) (c .event-at .ensures)
 
 -- what is read is within its room
 pub place-within : (c : tie.After-event-at Inv-loop2 μ-loop2 Inv-loop3 μ-loop3 Inv-loop μ-loop) → c .event-at .result .place < letterRoom
@@ -120,8 +118,8 @@ names-within c = placed _ _ _ _ _ _ _ (c .names-of .ensures)
 
 -- the network, found once, is the state's own
 pub same-net : (c : tie.At-loop Inv-loop2 μ-loop2 Inv-loop3 μ-loop3 Inv-loop μ-loop)
-    → c .loop .s .net ≡ c .before .before .before .before .args .t1 .net
-same-net c = c .loop .inv .3
+    → c .loop .s .net ≡ c .before .before .before .before .before .before .args .t1 .net
+same-net c = c .loop .inv .2 .net
 
 -- what is told and what is sent, by a test or by its function
 pub told-is : (c : tie.Joined1 Inv-loop2 μ-loop2 Inv-loop3 μ-loop3 Inv-loop μ-loop)
@@ -149,8 +147,8 @@ facts c =
     let l = turnAt c .loop in
     record {
       seen = record {
-        sized = l .inv .2 .sized;
-        holds = l .inv .2 .holds;
+        sized = l .inv .2 .good .sized;
+        holds = l .inv .2 .good .holds;
         decodes = decoded (eventAt c);
         at = placed-at (eventAt c);
         names =
@@ -170,7 +168,7 @@ pub told-size : (c : Answered) → length (toldOf c) ≡ linkRoom
 told-size c =
     ap length (told-is (c .before .before .before .before))
     ∙ told-long (planOf c .sets) (planOf c .at) (planOf c .counter) linkRoom (stationIn (stateOf c) (meOf c) .counters)
-    (turnAt c .loop .inv .2 .sized .each (meOf c) (names-within (namesAt c) .station) .counters)
+    (turnAt c .loop .inv .2 .good .sized .each (meOf c) (names-within (namesAt c) .station) .counters)
 
 -- the answer, from where the letters begin to close up and from where new letters begin to be put
 abbrev pub Stored : Type 0
