@@ -22,7 +22,7 @@ use Rattle.net.specs.Values.{networkOf, linkCount}
 use Rattle.net.specs.Sizes.{stationRoom}
 use Rattle.sets.specs.Sets.{wordBy, upTo}
 use Rattle.sets.proofs.WordLaws.{in-by, by-same, on-is, upto-none}
-use Rattle.marks.specs.Marks.{ownAt, ownWords}
+use Rattle.marks.specs.Marks.{ownWords}
 use Rattle.marks.proofs.OwnLinks.{own-read}
 
 -- a word for each place of the room of stations
@@ -69,7 +69,8 @@ module _ (f : ℕ → ℕ → Bool) (k e : ℕ) where
   end-stored os w z h p d =
       ap₂ (λ (l : List ℕ) (v : ℕ). set l e v) p
       (d ∙ ap (λ (v : ℕ). wordBy (λ t. inWord v t || inWord ((1 * 2 ^ k) % 2 ^ 64) t)) read ∙ there e z refl)
-      ∙ ext-getD 0 (set (wordsAt f) e new) (wordsAt withEnd) (length-set (wordsAt f) e new ∙ sizes) (λ s l. go s (room s l) (ℕ-discrete s e))
+      ∙ ext-getD 0 (set (wordsAt f) e new) (wordsAt withEnd) (length-set (wordsAt f) e new ∙ sizes)
+      (λ s l. go s (room s l) (ℕ-discrete s e))
     where
       new : ℕ
       new = wordBy (withEnd e)
@@ -99,6 +100,12 @@ module _ (f : ℕ → ℕ → Bool) (k e : ℕ) where
 
 -- ---- the links that have been gone through
 module _ (net : Net) where
+  abbrev low : ℕ → ℕ
+  low k = getD (net .low) k 0
+
+  abbrev high : ℕ → ℕ
+  high k = getD (net .high) k 0
+
   abbrev pub ownsUpTo : ℕ → List ℕ
   ownsUpTo k = wordsAt (λ s. upTo (λ t. isEnd (networkOf net) t s) k)
 
@@ -109,7 +116,7 @@ module _ (net : Net) where
       (λ s l. upto-none (λ t. isEnd (networkOf net) t s))
 
   pub pass-more : (k : ℕ) → k < linkCount net
-      → wordsAt (withEnd (withEnd (λ s. upTo (λ t. isEnd (networkOf net) t s) k) k (getD (net .low) k 0)) k (getD (net .high) k 0))
+      → wordsAt (withEnd (withEnd (λ s. upTo (λ t. isEnd (networkOf net) t s) k) k (low k)) k (high k))
       ≡ ownsUpTo (k + 1)
   unfolding wordsAt
   pass-more k h =
@@ -117,7 +124,7 @@ module _ (net : Net) where
       (λ s l. by-same (both s) (upTo (λ t. isEnd (networkOf net) t s) (k + 1)) (λ t m. go s t (ℕ-discrete t k)))
     where
       both : ℕ → ℕ → Bool
-      both = withEnd (withEnd (λ s. upTo (λ t. isEnd (networkOf net) t s) k) k (getD (net .low) k 0)) k (getD (net .high) k 0)
+      both = withEnd (withEnd (λ s. upTo (λ t. isEnd (networkOf net) t s) k) k (low k)) k (high k)
 
       later : (s t : ℕ) → (t ≡ k → ⊥) → Dec (t < k) → (ltb t k && isEnd (networkOf net) t s) ≡ (ltb t (k + 1) && isEnd (networkOf net) t s)
       later s t n (yes l) = ap (λ (b : Bool). b && isEnd (networkOf net) t s) (lt-ltb t k l ∙ sym (lt-ltb t (k + 1) (omega arith)))
@@ -130,14 +137,14 @@ module _ (net : Net) where
 
       go : (s t : ℕ) → Dec (t ≡ k) → both s t ≡ upTo (λ t. isEnd (networkOf net) t s) (k + 1) t
       go s t (yes q) =
-          ap₂ (λ (a b : Bool). ((a && isEnd (networkOf net) t s) || (b && eqb (getD (net .low) k 0) s)) || (b && eqb (getD (net .high) k 0) s))
+          ap₂ (λ (a b : Bool). ((a && isEnd (networkOf net) t s) || (b && eqb (low k) s)) || (b && eqb (high k) s))
           (le-ltb t k (omega arith)) (eq-eqb t k q)
-          ∙ own-read net s k (eqb (getD (net .low) k 0) s || eqb (getD (net .high) k 0) s) h refl ∙ ap (λ (x : ℕ). isEnd (networkOf net) x s) (sym q)
+          ∙ own-read net s k (eqb (low k) s || eqb (high k) s) h refl ∙ ap (λ (x : ℕ). isEnd (networkOf net) x s) (sym q)
           ∙ sym (ap (λ (b : Bool). b && isEnd (networkOf net) t s) (lt-ltb t (k + 1) (omega arith)))
       go s t (no n) =
-          ap (λ (b : Bool). ((upTo (λ t. isEnd (networkOf net) t s) k t || (b && eqb (getD (net .low) k 0) s))
-          || (b && eqb (getD (net .high) k 0) s))) (ne-eqb t k n)
-          ∙ table (upTo (λ t. isEnd (networkOf net) t s) k t) (eqb (getD (net .low) k 0) s) (eqb (getD (net .high) k 0) s) ∙ later s t n (decLt t k)
+          ap (λ (b : Bool). ((upTo (λ t. isEnd (networkOf net) t s) k t || (b && eqb (low k) s))
+          || (b && eqb (high k) s))) (ne-eqb t k n)
+          ∙ table (upTo (λ t. isEnd (networkOf net) t s) k t) (eqb (low k) s) (eqb (high k) s) ∙ later s t n (decLt t k)
 
   pub pass-ends : (os : List ℕ) (k : ℕ) → k ≡ linkCount net → os ≡ ownsUpTo k → os ≡ ownWords net
   unfolding ownWords wordsAt

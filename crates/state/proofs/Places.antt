@@ -6,9 +6,9 @@ use mathlib.Core.List.{List}
 use native.Mathlib.Decide.{decLt}
 use native.Mathlib.Nat.{mod-eq-of-lt}
 use native.Mathlib.Omega.{arith}
-use lib.Dec.{T, eqb, ltb}
+use lib.Dec.{T, ltb}
 use lib.ListN.{length, getD}
-use borrow.Author.Tests.{ne-eqb, lt-ltb, le-ltb}
+use borrow.Author.Tests.{ne-eqb, le-ltb}
 use Rattle.lists.specs.Lists.{if_then_else_, every, below}
 use Rattle.lists.specs.Words.{inWord}
 use Rattle.lists.proofs.Tests.{and-no, same-test, every-at, at-every}
@@ -30,7 +30,7 @@ use Rattle.station.specs.declared.Condition.{Condition}
 use Rattle.station.specs.declared.Condition.the-variants.{Down, Waiting, Live}
 use Rattle.station.specs.declared.Station.{Station}
 use Rattle.station.specs.Holding.{isDown, isLive}
-use Rattle.state_rules.specs.Carried.{wayTest, letterTest}
+use Rattle.state_rules.specs.Carried.{letterTest}
 use Rattle.state_rules.specs.Formed.{stationFormed, stationTest}
 use Rattle.state_rules.specs.Steps.{everyPlace, counterTest, marksTest}
 use Rattle.state_rules.proofs.LetterTests.{letter-is, way-beyond}

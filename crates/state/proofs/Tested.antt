@@ -1,6 +1,6 @@
 -- The test of a whole state: what its three loops have seen so far, with a law for the beginning, for one turn and for the end; and that
 -- what they have seen in the end is the definition. Two walks cite them: the test's own and the network's step, which has the same loops.
-use Prim.Native.Nat.{ℕ, _+_, _*_, _%_, _≤_, _<_, min, max}
+use Prim.Native.Nat.{ℕ, _+_, _-_, _*_, _/_, _%_, _≤_, _<_, min, max}
 use mathlib.Core.Bool.{Bool, true, false, _&&_, _||_}
 use mathlib.Core.Path.{_≡_, refl, sym, ap, ap₂, _∙_, subst, subst⁻¹}
 use mathlib.Core.List.{List}
@@ -12,7 +12,7 @@ use lib.ListN.{length, getD}
 use borrow.Author.Tests.{eq-eqb, ne-eqb, lt-ltb, le-ltb, le-leb}
 use Rattle.lists.specs.Lists.{if_then_else_, every, below}
 use Rattle.lists.specs.Words.{inWord}
-use Rattle.lists.proofs.Tests.{and-l, and-r, and-i, and-assoc, T-is, is-T, same-test, or-left}
+use Rattle.lists.proofs.Tests.{and-l, and-r, and-i, and-assoc, is-T, same-test, or-left}
 use Rattle.lists.proofs.Numbers.{below-at, at-below}
 use Rattle.net.specs.Letters.{letterHolds}
 use Rattle.net.specs.Values.{networkOf}
@@ -54,33 +54,72 @@ word-zero l s t b e =
     sum-zero (l + s * 65536) (t * 4294967296) b (same-zero (t * 4294967296) t (λ p. omega arith) (λ p. omega arith) ∙ e)
     ∙ ap (λ (x : Bool). x && b) (sum-zero l (s * 65536) (eqb s 0) (same-zero (s * 65536) s (λ p. omega arith) (λ p. omega arith)))
 
--- ---- the third loop: the places beyond the letters
+-- ---- the third loop: the places beyond the letters, from two starts at once
 module _ (s : State) where
-  abbrev pub restAt : ℕ → ℕ → Bool
-  restAt used t = ltb t used || isNoLetter (letterIn s t)
+  abbrev pub freeAt : ℕ → Bool
+  freeAt t = isNoLetter (letterIn s t)
 
-  pub record Resting (used rest j : ℕ) : Type 0 where
-    pub from : used ≤ j
-    pub within : j ≤ letterRoom
-    pub clean : eqb rest 0 ≡ every (restAt used) (below j)
+  abbrev pub bothFree : ℕ → ℕ → ℕ → Bool
+  bothFree used half t = freeAt (used + t) && freeAt ((letterRoom - half) + t)
 
-  pub resting-begins : (used : ℕ) → used ≤ letterRoom → Resting used 0 used
-  resting-begins used h =
+  pub record Resting (used half rest j : ℕ) : Type 0 where
+    pub few : used ≤ letterRoom
+    pub halves : half ≡ (letterRoom - used + 1) / 2
+    pub within : j ≤ half
+    pub clean : eqb rest 0 ≡ every (bothFree used half) (below j)
+
+  pub resting-begins : (used half : ℕ) → used ≤ letterRoom → half ≡ (letterRoom - used + 1) / 2 → Resting used half 0 0
+  resting-begins used half h e = record { few = h; halves = e; within = omega arith; clean = refl }
+
+  pub resting-more : {used half rest j : ℕ} → Resting used half rest j → j < half → (w v : ℕ) → eqb w 0 ≡ freeAt (used + j)
+      → eqb v 0 ≡ freeAt ((letterRoom - half) + j) → Resting used half (bitOr rest (bitOr w v)) (j + 1)
+  resting-more {used} {half} {rest} {j} r h w v e d =
       record {
-        from = omega arith;
-        within = h;
-        clean = sym (T-is _ (at-below (restAt used) used (λ t l. or-left (ltb t used) _ (is-T _ (lt-ltb t used l)))));
-      }
-
-  pub resting-more : {used rest j : ℕ} → Resting used rest j → j < letterRoom → (w : ℕ) → eqb w 0 ≡ isNoLetter (letterIn s j)
-      → Resting used (bitOr rest w) (j + 1)
-  resting-more {used} {rest} {j} r h w e =
-      record {
-        from = omega arith;
+        few = r .few;
+        halves = r .halves;
         within = omega arith;
-        clean = gather-more (restAt used) j _ _ (r .clean) (or-zero rest w ∙ ap (λ (b : Bool). eqb rest 0 && b)
-            (e ∙ sym (ap (λ (b : Bool). b || isNoLetter (letterIn s j)) (le-ltb j used (r .from)))));
+        clean = gather-more (bothFree used half) j _ _ (r .clean) (or-zero rest (bitOr w v) ∙ ap (λ (b : Bool). eqb rest 0 && b)
+            (or-zero w v ∙ ap₂ (λ (a b : Bool). a && b) e d));
       }
+
+  -- together they go through all of them
+  abbrev restAt : ℕ → ℕ → Bool
+  restAt used t = ltb t used || freeAt t
+
+  module _ (used half : ℕ) (few : used ≤ letterRoom) (e : half ≡ (letterRoom - used + 1) / 2) where
+    rest-from : T (every (bothFree used half) (below half)) → (t : ℕ) → t < letterRoom → used ≤ t → T (freeAt t)
+    rest-from u t h l = go (decLt t (used + half))
+      where
+        go : Dec (t < used + half) → T (freeAt t)
+        go (yes p) =
+            subst (λ (k : ℕ). T (freeAt k)) (omega arith) (and-l (freeAt (used + (t - used))) _
+            (below-at (bothFree used half) half u (t - used) (omega arith)))
+        go (no p) =
+            let i : ℕ = t - (letterRoom - half) in
+            subst (λ (k : ℕ). T (freeAt k)) (omega arith) (and-r (freeAt (used + i)) _
+            (below-at (bothFree used half) half u i (omega arith)))
+
+    rest-all : every (bothFree used half) (below half) ≡ every (restAt used) (below letterRoom)
+    rest-all =
+        same-test (every (bothFree used half) (below half)) (every (restAt used) (below letterRoom))
+        (λ u. at-below (restAt used) letterRoom (λ t h. forth u t h (decLt t used)))
+        (λ u. at-below (bothFree used half) half (λ t h. and-i (freeAt (used + t)) _ (back u (used + t) (omega arith) (omega arith))
+        (back u ((letterRoom - half) + t) (omega arith) (omega arith))))
+      where
+        forth : T (every (bothFree used half) (below half)) → (t : ℕ) → t < letterRoom → Dec (t < used) → T (restAt used t)
+        forth u t h (yes p) = or-left (ltb t used) _ (is-T _ (lt-ltb t used p))
+        forth u t h (no p) =
+            subst⁻¹ (λ (b : Bool). T (b || freeAt t)) (le-ltb t used (omega arith)) (rest-from u t h (omega arith))
+
+        back : T (every (restAt used) (below letterRoom)) → (t : ℕ) → t < letterRoom → used ≤ t → T (freeAt t)
+        back u t h l = subst (λ (b : Bool). T (b || freeAt t)) (le-ltb t used l) (below-at (restAt used) letterRoom u t h)
+
+  resting-ends : {used half rest j : ℕ} → Resting used half rest j → half ≤ j → eqb rest 0 ≡ every (restAt used) (below letterRoom)
+  resting-ends {used} {half} {rest} {j} r h =
+      r .clean ∙ ap (λ (n : ℕ). every (bothFree used half) (below n)) all ∙ rest-all used half (r .few) (r .halves)
+    where
+      all : j ≡ half
+      all = omega (arith, r .within)
 
 module _ (s : State) (owns : List ℕ) where
   -- ---- the first loop: the stations
@@ -112,18 +151,24 @@ module _ (s : State) (owns : List ℕ) where
       go t l (no n) = p .fits t (omega arith)
 
   -- ---- the second: the letters in flight
+  abbrev pub wayAt : ℕ → Bool
+  wayAt t = wayTest (letterIn s t)
+
   abbrev pub ownedAt : ℕ → Bool
   ownedAt t = inWord (getD owns (letterIn s t .sender % stationRoom) 0) (letterIn s t .link % linkRoom)
+
+  abbrev pub countedAt : ℕ → Bool
+  countedAt t = counterHolds (letterIn s t .body)
 
   abbrev pub toldAt : ℕ → Bool
   toldAt t = leb (pastSubject (letterIn s t .body)) (s .net .links)
 
   pub record Gathering (used ways ended most least j : ℕ) : Type 0 where
     pub within : j ≤ used
-    pub rooms : inRooms ways ≡ every (λ t. wayTest (letterIn s t)) (below j)
+    pub rooms : inRooms ways ≡ every wayAt (below j)
     pub ends : inWord ended 0 ≡ every ownedAt (below j)
     pub told : leb most (s .net .links) ≡ every toldAt (below j)
-    pub counts : leb 1 least ≡ every (λ t. counterHolds (letterIn s t .body)) (below j)
+    pub counts : leb 1 least ≡ every countedAt (below j)
 
   pub gathering-begins : (used : ℕ) → Gathering used 0 1 0 1 0
   gathering-begins used =
@@ -137,11 +182,11 @@ module _ (s : State) (owns : List ℕ) where
   gathering-more {used} {ways} {ended} {most} {least} {j} g h w e m l p c ew ee ep em ec el =
       record {
         within = omega arith;
-        rooms = gather-more (λ t. wayTest (letterIn s t)) j _ _ (g .rooms) ew;
+        rooms = gather-more wayAt j _ _ (g .rooms) ew;
         ends = gather-more ownedAt j _ _ (g .ends) ee;
         told = gather-more toldAt j _ _ (g .told) (ap (λ (n : ℕ). leb n (s .net .links)) em ∙ most-more most p (s .net .links)
             ∙ ap (λ (n : ℕ). leb most (s .net .links) && leb n (s .net .links)) ep);
-        counts = gather-more (λ t. counterHolds (letterIn s t .body)) j _ _ (g .counts) (ap (leb 1) el ∙ least-more least c 1
+        counts = gather-more countedAt j _ _ (g .counts) (ap (leb 1) el ∙ least-more least c 1
             ∙ ap (λ (b : Bool). leb 1 least && b) ec);
       }
 
@@ -159,18 +204,21 @@ module _ (s : State) (owns : List ℕ) where
         (ap (λ (w : List ℕ). getD w t 0) e ∙ own-word (s .net) t h))
 
     module _ (t : T frame) where
+      abbrev flies : ℕ → Bool
+      flies k = letterHolds (networkOf (s .net)) (letterIn s k)
+
       carried-are : {ways ended most least j : ℕ} → Gathering (s .flying) ways ended most least j → j ≡ s .flying
-          → gatheredHold (s .net .links) ways ended most least ≡ every (λ k. letterHolds (networkOf (s .net)) (letterIn s k)) (below (s .flying))
+          → gatheredHold (s .net .links) ways ended most least ≡ every flies (below (s .flying))
       carried-are {ways} {ended} {most} {least} {j} g q =
           ap₂ (λ (a b : Bool). ((a && b) && leb most (s .net .links)) && leb 1 least) (g .rooms) (g .ends)
-          ∙ ap₂ (λ (a b : Bool). ((every (λ t. wayTest (letterIn s t)) (below j) && every ownedAt (below j)) && a) && b) (g .told) (g .counts)
-          ∙ ap (λ (b : Bool). (b && every toldAt (below j)) && every (λ t. counterHolds (letterIn s t .body)) (below j))
-          (gather-both (λ t. wayTest (letterIn s t)) ownedAt j)
-          ∙ ap (λ (b : Bool). b && every (λ t. counterHolds (letterIn s t .body)) (below j))
-          (gather-both (λ t. wayTest (letterIn s t) && ownedAt t) toldAt j)
-          ∙ gather-both (λ t. (wayTest (letterIn s t) && ownedAt t) && toldAt t) (λ t. counterHolds (letterIn s t .body)) j
+          ∙ ap₂ (λ (a b : Bool). ((every wayAt (below j) && every ownedAt (below j)) && a) && b) (g .told) (g .counts)
+          ∙ ap (λ (b : Bool). (b && every toldAt (below j)) && every countedAt (below j))
+          (gather-both wayAt ownedAt j)
+          ∙ ap (λ (b : Bool). b && every countedAt (below j))
+          (gather-both (λ t. wayAt t && ownedAt t) toldAt j)
+          ∙ gather-both (λ t. (wayAt t && ownedAt t) && toldAt t) countedAt j
           ∙ ap (λ (n : ℕ). every one (below n)) q
-          ∙ every-same one (λ k. letterHolds (networkOf (s .net)) (letterIn s k)) (s .flying)
+          ∙ every-same one flies (s .flying)
           (λ k h. letter-seen (s .net) (letterIn s k) (and-l (netHolds (s .net)) _ t) owns e)
         where
           one : ℕ → Bool
@@ -178,9 +226,6 @@ module _ (s : State) (owns : List ℕ) where
 
       abbrev letterAt : ℕ → Bool
       letterAt j = letterPlace (s .net) (s .flying) j (letterIn s j)
-
-      abbrev flies : ℕ → Bool
-      flies k = letterHolds (networkOf (s .net)) (letterIn s k)
 
       few : s .flying ≤ letterRoom
       few = leb→le (s .flying) letterRoom (and-r (netHolds (s .net)) _ t)
@@ -192,32 +237,32 @@ module _ (s : State) (owns : List ℕ) where
           (λ u. at-below letterAt letterRoom (λ k h. forth k (and-l (every flies (below (s .flying))) _ u)
           (below-at (restAt s (s .flying)) letterRoom (and-r (every flies (below (s .flying))) _ u) k h) (decLt k (s .flying))))
           (λ u. and-i (every flies (below (s .flying))) _
-          (at-below flies (s .flying) (λ k h. subst (λ (b : Bool). T (if b then flies k else isNoLetter (letterIn s k))) (lt-ltb k (s .flying) h)
+          (at-below flies (s .flying) (λ k h. subst (λ (b : Bool). T (if b then flies k else freeAt s k)) (lt-ltb k (s .flying) h)
           (below-at letterAt letterRoom u k (omega (arith, few)))))
           (at-below (restAt s (s .flying)) letterRoom (λ k h. back k (below-at letterAt letterRoom u k h) (decLt k (s .flying)))))
         where
           forth : (k : ℕ) → T (every flies (below (s .flying))) → T (restAt s (s .flying) k) → Dec (k < s .flying) → T (letterAt k)
           forth k f r (yes h) =
-              subst⁻¹ (λ (b : Bool). T (if b then flies k else isNoLetter (letterIn s k))) (lt-ltb k (s .flying) h)
+              subst⁻¹ (λ (b : Bool). T (if b then flies k else freeAt s k)) (lt-ltb k (s .flying) h)
               (below-at flies (s .flying) f k h)
           forth k f r (no h) =
               let d = le-ltb k (s .flying) (omega arith) in
-              subst⁻¹ (λ (b : Bool). T (if b then flies k else isNoLetter (letterIn s k))) d
-              (subst (λ (b : Bool). T (b || isNoLetter (letterIn s k))) d r)
+              subst⁻¹ (λ (b : Bool). T (if b then flies k else freeAt s k)) d
+              (subst (λ (b : Bool). T (b || freeAt s k)) d r)
 
           back : (k : ℕ) → T (letterAt k) → Dec (k < s .flying) → T (restAt s (s .flying) k)
           back k u (yes h) = or-left (ltb k (s .flying)) _ (is-T _ (lt-ltb k (s .flying) h))
           back k u (no h) =
               let d = le-ltb k (s .flying) (omega arith) in
-              subst⁻¹ (λ (b : Bool). T (b || isNoLetter (letterIn s k))) d
-              (subst (λ (b : Bool). T (if b then flies k else isNoLetter (letterIn s k))) d u)
+              subst⁻¹ (λ (b : Bool). T (b || freeAt s k)) d
+              (subst (λ (b : Bool). T (if b then flies k else freeAt s k)) d u)
 
-    pub all-seen : {placed : Bool} {i used ways ended most least j rest k : ℕ} (framed carried r : Bool) → framed ≡ frame
+    pub all-seen : {placed : Bool} {i used ways ended most least j half rest k : ℕ} (framed carried r : Bool) → framed ≡ frame
         → used ≡ min (s .flying) letterRoom → Placing placed i → stationRoom ≤ i → Gathering used ways ended most least j → used ≤ j
-        → Resting s used rest k → letterRoom ≤ k → carried ≡ gatheredHold (s .net .links) ways ended most least
+        → Resting s used half rest k → half ≤ k → carried ≡ gatheredHold (s .net .links) ways ended most least
         → r ≡ ((framed && placed) && (carried && eqb rest 0)) → r ≡ stateHolds s
     unfolding stateHolds
-    all-seen {placed} {i} {used} {ways} {ended} {most} {least} {j} {rest} {k} framed carried r ef eu p hi g hj q hk ec er =
+    all-seen {placed} {i} {used} {ways} {ended} {most} {least} {j} {half} {rest} {k} framed carried r ef eu p hi g hj q hk ec er =
         er ∙ sym (and-assoc framed placed (carried && eqb rest 0)) ∙ go framed ef
       where
         go : (x : Bool) → x ≡ frame → (x && (placed && (carried && eqb rest 0))) ≡ (frame && (stationsHold s && lettersHold s))
@@ -225,7 +270,7 @@ module _ (s : State) (owns : List ℕ) where
         go true d =
             ap₂ (λ (a b : Bool). a && b) (stations-are p at-all)
             (ap₂ (λ (a b : Bool). a && b) (ec ∙ carried-are t (subst (λ (n : ℕ). Gathering n ways ended most least j) all g) at-last)
-            (q .clean ∙ ap₂ (λ (m n : ℕ). every (restAt s m) (below n)) all at-end) ∙ letters-are t)
+            (resting-ends s q hk ∙ ap (λ (n : ℕ). every (restAt s n) (below letterRoom)) all) ∙ letters-are t)
             ∙ ap (λ (b : Bool). b && (stationsHold s && lettersHold s)) d
           where
             t : T frame
@@ -239,9 +284,6 @@ module _ (s : State) (owns : List ℕ) where
 
             at-last : j ≡ s .flying
             at-last = omega (arith, g .within, few t)
-
-            at-end : k ≡ letterRoom
-            at-end = omega (arith, q .within)
 
   -- what the type says, told along
   pub seen-sized : {placed : Bool} {i : ℕ} → Placing placed i → stationRoom ≤ i → Ends64 (s .net) → length (s .stations) ≡ stationRoom

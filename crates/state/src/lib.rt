@@ -52,8 +52,8 @@ fn links_there(used: bool, links: u8) -> u8
 
 // Whether a place of the stations is right: an unused one is down, with no mark and no counter, as a station without links.
 // What the type says of the station is told along: the network's step needs it of every station of a state.
-// Promise: equals `State.placeTest`: a station that is there, well formed by these links and own links; else an unused place, zero. And what
-// the type itself says of the station.
+// Promise: equals `State.placeTest`: a station that is there, well formed by these links and own links; else an unused place, zero; with
+// a station's own links this is `State.stationPlace` (`Places.place-is`). And what the type itself says of the station.
 pub fn station_place(links: u8, used: bool, own: u64, st: Station) -> bool
     ensures { λ r. ⌜ (r ≡ placeTest links used own st) × Fits st ⌝ }
 {
@@ -153,11 +153,17 @@ pub fn well_formed(s: State) -> bool
         most = state_rules::larger(most, state_rules::past_subject(body));
         least = state_rules::smaller(least, state_rules::counter_said(body));
     }
+    // the places beyond them, from two starts at once: each joining waits for the one before it
+    let half = (MOST_LETTERS - used + 1) / 2;
+    let first = used as usize;
+    let second = (MOST_LETTERS - half) as usize;
     let mut rest: u64 = 0;
-    for j in used..MOST_LETTERS {
-        let at = j as usize;
+    for j in 0..half {
+        let at = first + j as usize;
+        let to = second + j as usize;
         let x = s.letters[at];
-        rest = rest | word_of(x);
+        let y = s.letters[to];
+        rest = rest | (word_of(x) | word_of(y));
     }
     let carried = state_rules::letters_formed(net.links, ways, ended, most, least);
     all_hold(framed, placed, carried, rest)

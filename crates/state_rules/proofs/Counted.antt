@@ -66,7 +66,8 @@ module _ (cs : List ℕ) (m : ℕ) where
     back : (live : Bool) → ((t : ℕ) → t < linkRoom → T (counterTest (ltb t m) live (getD cs t 0))) → T (gathered live)
     back live f =
         and-i (countersHold m && (live || noneAbove m)) _
-        (and-i (countersHold m) _ (at-below (λ t. isCounter (getD cs t 0)) m (λ t l. and-l (isCounter (getD cs t 0)) _ (there t l))) (go live f))
+        (and-i (countersHold m) _
+        (at-below (λ t. isCounter (getD cs t 0)) m (λ t l. and-l (isCounter (getD cs t 0)) _ (there t l))) (go live f))
         (at-below (λ t. ltb t m || isZero (getD cs t 0)) linkRoom (λ t h. past t h (decLt t m)))
       where
         there : (t : ℕ) → t < m → T (isCounter (getD cs t 0) && (live || eqb (getD cs t 0) 1))
@@ -96,28 +97,28 @@ module _ (cs : List ℕ) (m : ℕ) where
         (λ u. back live (place-at (λ t. counterTest (ltb t m) live (getD cs t 0)) u))
 
 -- ---- a station, in the order in which the code asks
-module _ (links own : ℕ) (st : Station) (r : Bool) (d : r ≡ everyPlace (λ t. marksTest (st .condition) (inWord own t) (marksAt (st .marks) t)))
-  where
-    abbrev counterPlace : ℕ → ℕ → Bool
-    counterPlace m t = counterTest (ltb t m) (isLive (st .condition)) (getD (st .counters) t 0)
+module _ (links own : ℕ) (st : Station) (r : Bool)
+    (d : r ≡ everyPlace (λ t. marksTest (st .condition) (inWord own t) (marksAt (st .marks) t))) where
+  abbrev counterPlace : ℕ → ℕ → Bool
+  counterPlace m t = counterTest (ltb t m) (isLive (st .condition)) (getD (st .counters) t 0)
 
-    pub mismarked : r ≡ false → false ≡ stationTest links own st
-    unfolding stationTest
-    mismarked q = ap (λ (b : Bool). b && everyPlace (counterPlace (min links linkRoom))) (sym q ∙ d)
+  pub mismarked : r ≡ false → false ≡ stationTest links own st
+  unfolding stationTest
+  mismarked q = ap (λ (b : Bool). b && everyPlace (counterPlace (min links linkRoom))) (sym q ∙ d)
 
-    pub by-counters : r ≡ true → (m : ℕ) → m ≡ min links linkRoom → (w a b : Bool) → w ≡ countersHold (st .counters) m m
-        → a ≡ noneAbove (st .counters) m m → b ≡ noneBeyond (st .counters) m linkRoom
-        → ((w && (isLive (st .condition) || a)) && b) ≡ stationTest links own st
-    unfolding stationTest
-    by-counters q m em w a b ew ea eb =
-        ap₂ (λ (x y : Bool). (x && (isLive (st .condition) || y)) && b) ew ea
-        ∙ ap (λ (x : Bool). (countersHold (st .counters) m m && (isLive (st .condition) || noneAbove (st .counters) m m)) && x) eb
-        ∙ counters-are (st .counters) m few (isLive (st .condition))
-        ∙ ap (λ (n : ℕ). everyPlace (counterPlace n)) em
-        ∙ ap (λ (x : Bool). x && everyPlace (counterPlace (min links linkRoom))) (sym q ∙ d)
-      where
-        few : m ≤ linkRoom
-        few = omega arith
+  pub by-counters : r ≡ true → (m : ℕ) → m ≡ min links linkRoom → (w a b : Bool) → w ≡ countersHold (st .counters) m m
+      → a ≡ noneAbove (st .counters) m m → b ≡ noneBeyond (st .counters) m linkRoom
+      → ((w && (isLive (st .condition) || a)) && b) ≡ stationTest links own st
+  unfolding stationTest
+  by-counters q m em w a b ew ea eb =
+      ap₂ (λ (x y : Bool). (x && (isLive (st .condition) || y)) && b) ew ea
+      ∙ ap (λ (x : Bool). (countersHold (st .counters) m m && (isLive (st .condition) || noneAbove (st .counters) m m)) && x) eb
+      ∙ counters-are (st .counters) m few (isLive (st .condition))
+      ∙ ap (λ (n : ℕ). everyPlace (counterPlace n)) em
+      ∙ ap (λ (x : Bool). x && everyPlace (counterPlace (min links linkRoom))) (sym q ∙ d)
+    where
+      few : m ≤ linkRoom
+      few = omega arith
 
 -- ---- the answer by the three tests and whether the station is live
 pub record Asked (w a b live R : Bool) : Type 0 where

@@ -6,7 +6,7 @@ use mathlib.Core.List.{[], _∷_}
 use native.Mathlib.Decide.{decLt}
 use native.Mathlib.Omega.{arith}
 use lib.Bits.{bitAnd, and-le-l, and-le-r, bitOr, or-add-and, or-lt, or-shr, or-mod}
-use lib.Dec.{T, eqb, leb, ltb, eqb→eq, leb→le}
+use lib.Dec.{eqb, leb, ltb, eqb→eq, leb→le}
 use borrow.Author.Tests.{eq-eqb, ne-eqb, lt-ltb, le-ltb, le-leb, lt-leb}
 use Rattle.lists.specs.Lists.{every, below}
 use Rattle.lists.specs.Words.{bitAt, inWord}

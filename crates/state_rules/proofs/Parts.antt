@@ -1,7 +1,7 @@
 -- What the code asks of each of the 64 places is what a station must be.
 use Prim.Native.Nat.{ℕ, _+_, _-_, _≤_, _<_}
-use mathlib.Core.Bool.{Bool, true, false, _&&_, _||_}
-use mathlib.Core.Path.{_≡_, refl, sym, ap, ap₂, _∙_, subst, subst⁻¹}
+use mathlib.Core.Bool.{Bool, false, _&&_, _||_}
+use mathlib.Core.Path.{_≡_, sym, ap, ap₂, _∙_, subst, subst⁻¹}
 use mathlib.Core.List.{List}
 use native.Mathlib.Decide.{decLt}
 use native.Mathlib.Omega.{arith}
@@ -9,7 +9,7 @@ use lib.Dec.{T, eqb, ltb}
 use lib.ListN.{length, getD, drop, length-drop}
 use lib.Seq.{getD-drop, length-take-le}
 use borrow.Author.Tests.{lt-ltb, le-ltb}
-use Rattle.lists.specs.Lists.{every, from, below}
+use Rattle.lists.specs.Lists.{every, from}
 use Rattle.lists.specs.Words.{inWord}
 use Rattle.lists.proofs.Tests.{and-l, and-r, and-i, same-test, every-at, at-every}
 use Rattle.lists.proofs.Numbers.{every-from, from-every, length-map-below}

@@ -1,7 +1,7 @@
 // Whether what one station holds is well formed, and whether letters are: the parts of the test of a whole state.
 // Inner doors: the calls are in docs/CALLS.md.
 ghost use mathlib.Core.Path.{_≡_};
-ghost use mathlib.Core.Bool.{not, _&&_, _||_};
+ghost use mathlib.Core.Bool.{not, _&&_};
 ghost use Prim.Native.Nat.{_%_, max, min};
 ghost use lib.Dec.{eqb, leb, ltb};
 ghost use Rattle.lists.specs.Words.{inWord};

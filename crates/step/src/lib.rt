@@ -53,11 +53,17 @@ pub fn step(mut s: State, kind: u32, a: u32, b: u32) -> Stepped
         most = state_rules::larger(most, state_rules::past_subject(body));
         least = state_rules::smaller(least, state_rules::counter_said(body));
     }
+    // the places beyond them, from two starts at once: each joining waits for the one before it
+    let half = (MOST_LETTERS - used + 1) / 2;
+    let first = used as usize;
+    let second = (MOST_LETTERS - half) as usize;
     let mut rest: u64 = 0;
-    for j in used..MOST_LETTERS {
-        let at = j as usize;
+    for j in 0..half {
+        let at = first + j as usize;
+        let to = second + j as usize;
         let x = s.letters[at];
-        rest = rest | state::word_of(x);
+        let y = s.letters[to];
+        rest = rest | (state::word_of(x) | state::word_of(y));
     }
     let carried = state_rules::letters_formed(net.links, ways, ended, most, least);
     let good = state::all_hold(framed, placed, carried, rest);

@@ -20,7 +20,8 @@ returns-2 c =
 returns-3 : tie.Need-returns-3
 returns-3 c =
     let a = c .before .before .before .args in
-    sym (ap (λ (b : Bool). (a .framed && a .placed) && (b && eqb (a .rest) 0)) (not-true (a .carried) (c .if3 .taken)) ∙ and-no (a .framed && a .placed))
+    sym (ap (λ (b : Bool). (a .framed && a .placed) && (b && eqb (a .rest) 0)) (not-true (a .carried) (c .if3 .taken))
+    ∙ and-no (a .framed && a .placed))
 
 returns-4 : tie.Need-returns-4
 returns-4 c =

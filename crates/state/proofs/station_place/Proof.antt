@@ -39,7 +39,8 @@ returns c =
     let a = b .args in (
       c .both .ensures
           ∙ ap₂ (λ (x y : Bool). x && y)
-          (c .before .before .before .either .ensures ∙ ap (λ (x : Bool). a .used || x) (c .before .before .before .before .is-down .ensures))
+          (c .before .before .before .either .ensures
+          ∙ ap (λ (x : Bool). a .used || x) (c .before .before .before .before .is-down .ensures))
           (c .before .station-formed .ensures ∙ ap (λ (n : ℕ). stationTest n (a .own) (a .st)) (c .before .before .links-there .ensures)),
       fits b,
     )

@@ -1,5 +1,5 @@
-use Prim.Native.Nat.{_≤_, _-_, _%_}
-use mathlib.Core.Path.{_≡_, sym, _∙_}
+use Prim.Native.Nat.{_-_}
+use mathlib.Core.Path.{_≡_, refl, sym, _∙_}
 use mathlib.Core.List.{map}
 use native.Mathlib.Omega.{arith}
 use borrow.Author.Needs.{needs}
@@ -27,10 +27,10 @@ abbrev μ-loop2 : tie.MeasureT-loop2
 μ-loop2 s net flying framed owns placed used ways₀ ended₀ most₀ least₀ j₀ ways ended most least j = used - j
 
 abbrev Inv-loop3 : tie.InvT-loop3
-Inv-loop3 s net flying framed placed used ways ended most least rest₀ j₀ rest j = Resting s used rest j
+Inv-loop3 s net flying framed placed used ways ended most least half first second rest₀ j₀ rest j = Resting s used half rest j
 
 abbrev μ-loop3 : tie.MeasureT-loop3
-μ-loop3 s net flying framed placed used ways ended most least rest₀ j₀ rest j = letterRoom - j
+μ-loop3 s net flying framed placed used ways ended most least half first second rest₀ j₀ rest j = half - j
 
 -- what the type says of the state
 stations-long : (c : tie.Start Inv-loop μ-loop Inv-loop2 μ-loop2 Inv-loop3 μ-loop3) → length (c .args .t1 .stations) ≡ stationRoom
@@ -153,11 +153,35 @@ loop2-again c =
     (c .before .before .before .before .still-ended .ensures) (c .before .before .before .past-subject .ensures)
     (c .before .before .larger .ensures) (c .before .counter-said .ensures) (c .smaller .ensures)
 
+sub-half : tie.Need-sub-half Inv-loop μ-loop Inv-loop2 μ-loop2 Inv-loop3 μ-loop3
+sub-half c = omega arith
+
+add-half : tie.Need-add-half Inv-loop μ-loop Inv-loop2 μ-loop2 Inv-loop3 μ-loop3
+add-half c = omega arith
+
+cast-first : tie.Need-cast-first Inv-loop μ-loop Inv-loop2 μ-loop2 Inv-loop3 μ-loop3
+cast-first c = omega arith
+
+sub-second : tie.Need-sub-second Inv-loop μ-loop Inv-loop2 μ-loop2 Inv-loop3 μ-loop3
+sub-second c = omega arith
+
+cast-second : tie.Need-cast-second Inv-loop μ-loop Inv-loop2 μ-loop2 Inv-loop3 μ-loop3
+cast-second c = omega arith
+
 loop3-holds : tie.Need-loop3-holds Inv-loop μ-loop Inv-loop2 μ-loop2 Inv-loop3 μ-loop3
-loop3-holds c = resting-begins _ _ (omega (arith, c .before .before .few .ensures))
+loop3-holds c = resting-begins _ _ _ (omega (arith, c .before .before .few .ensures)) refl
 
 cast-at-3 : tie.Need-cast-at-3 Inv-loop μ-loop Inv-loop2 μ-loop2 Inv-loop3 μ-loop3
 cast-at-3 c = omega arith
+
+add-at : tie.Need-add-at Inv-loop μ-loop Inv-loop2 μ-loop2 Inv-loop3 μ-loop3
+add-at c = omega arith
+
+cast-to : tie.Need-cast-to Inv-loop μ-loop Inv-loop2 μ-loop2 Inv-loop3 μ-loop3
+cast-to c = omega arith
+
+add-to : tie.Need-add-to Inv-loop μ-loop Inv-loop2 μ-loop2 Inv-loop3 μ-loop3
+add-to c = omega arith
 
 mul-x-2 : tie.Need-mul-x-2 Inv-loop μ-loop Inv-loop2 μ-loop2 Inv-loop3 μ-loop3
 mul-x-2 c = omega arith
@@ -166,8 +190,19 @@ element-copy-out-x-2 :
     tie.Need-element-copy-out-x-2 Inv-loop μ-loop Inv-loop2 μ-loop2 Inv-loop3 μ-loop3
 element-copy-out-x-2 c = omega arith
 
+mul-y : tie.Need-mul-y Inv-loop μ-loop Inv-loop2 μ-loop2 Inv-loop3 μ-loop3
+mul-y c = omega arith
+
+element-copy-out-y :
+    tie.Need-element-copy-out-y Inv-loop μ-loop Inv-loop2 μ-loop2 Inv-loop3 μ-loop3
+element-copy-out-y c = omega arith
+
 word-of-requires : tie.Need-word-of-requires Inv-loop μ-loop Inv-loop2 μ-loop2 Inv-loop3 μ-loop3
 word-of-requires c κs = search needs
+
+word-of-requires-2 :
+    tie.Need-word-of-requires-2 Inv-loop μ-loop Inv-loop2 μ-loop2 Inv-loop3 μ-loop3
+word-of-requires-2 c κs = search needs
 
 add-j-2 : tie.Need-add-j-2 Inv-loop μ-loop Inv-loop2 μ-loop2 Inv-loop3 μ-loop3
 add-j-2 c = omega arith
@@ -176,7 +211,9 @@ loop3-less : tie.Need-loop3-less Inv-loop μ-loop Inv-loop2 μ-loop2 Inv-loop3 �
 loop3-less c = omega arith
 
 loop3-again : tie.Need-loop3-again Inv-loop μ-loop Inv-loop2 μ-loop2 Inv-loop3 μ-loop3
-loop3-again c = resting-more _ (c .before .before .before .loop3 .inv) (omega arith) _ (c .word-of .ensures)
+loop3-again c =
+    resting-more _ (c .before .before .before .before .before .loop3 .inv) (omega arith) (c .before .word-of .result) (c .word-of2 .result)
+    (c .before .word-of .ensures) (c .word-of2 .ensures)
 
 letters-formed-requires :
     tie.Need-letters-formed-requires Inv-loop μ-loop Inv-loop2 μ-loop2 Inv-loop3 μ-loop3
@@ -238,11 +275,22 @@ well-formed-spec =
     add-j
     loop2-less
     loop2-again
+    sub-half
+    add-half
+    cast-first
+    sub-second
+    cast-second
     loop3-holds
     cast-at-3
+    add-at
+    cast-to
+    add-to
     mul-x-2
     element-copy-out-x-2
+    mul-y
+    element-copy-out-y
     word-of-requires
+    word-of-requires-2
     add-j-2
     loop3-less
     loop3-again

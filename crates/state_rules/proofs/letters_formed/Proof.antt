@@ -1,4 +1,3 @@
-use native.Mathlib.Omega.{arith}
 use Rattle.state_rules.proofs.Gathered.{link-beyond, sender-beyond, sender-foreign, told-beyond, all-gathered}
 use Rattle.state_rules.proofs.letters_formed.Statement.{statement}
 use Rattle.state_rules.proofs.letters_formed.Tie as tie
@@ -14,7 +13,8 @@ returns-2 c =
 returns-3 : tie.Need-returns-3
 returns-3 c =
     let a = c .before .before .before .args in
-    sender-foreign (a .links) (a .ways) (a .ended) (a .most) (a .least) (c .before .before .if1 .left) (c .before .if2 .left) (c .if3 .taken)
+    sender-foreign (a .links) (a .ways) (a .ended) (a .most) (a .least) (c .before .before .if1 .left) (c .before .if2 .left)
+    (c .if3 .taken)
 
 returns-4 : tie.Need-returns-4
 returns-4 c =

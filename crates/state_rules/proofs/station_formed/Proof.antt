@@ -104,7 +104,8 @@ loop-again c =
 loop2-holds : tie.Need-loop2-holds Inv-loop μ-loop Inv-loop2 μ-loop2
 loop2-holds c =
     let l = c .before in
-    (omega arith, omega (arith, l .before .before .at-most-64 .ensures), beyond-none (begun l .args .st .counters) (l .before .before .at-most-64 .result))
+    let m = l .before .before .at-most-64 in
+    (omega arith, omega (arith, m .ensures), beyond-none (begun l .args .st .counters) (m .result))
 
 cast-i-2 : tie.Need-cast-i-2 Inv-loop μ-loop Inv-loop2 μ-loop2
 cast-i-2 c = omega arith

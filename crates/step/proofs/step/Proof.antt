@@ -84,8 +84,8 @@ answer-by-requires c κs = search needs
 kept-table-requires : tie.Need-kept-table-requires I1 μ1 I2 μ2 I3 μ3 I4 μ4 I5 μ5
 kept-table-requires c κs = search needs
 
-mul-t100 : tie.Need-mul-t100 I1 μ1 I2 μ2 I3 μ3 I4 μ4 I5 μ5
-mul-t100 c = omega (arith, names-within (namesAt (c .before .before .before)) .station)
+mul-t111 : tie.Need-mul-t111 I1 μ1 I2 μ2 I3 μ3 I4 μ4 I5 μ5
+mul-t111 c = omega (arith, names-within (namesAt (c .before .before .before)) .station)
 
 element-set-from-s : tie.Need-element-set-from-s I1 μ1 I2 μ2 I3 μ3 I4 μ4 I5 μ5
 element-set-from-s c = names-within (namesAt (c .before .before .before)) .station
@@ -99,14 +99,14 @@ loop4-holds c = closing-begins (known c) (none c) (stores c) (laidDown c) refl
 add-j-3 : tie.Need-add-j-3 I1 μ1 I2 μ2 I3 μ3 I4 μ4 I5 μ5
 add-j-3 c = omega arith
 
-mul-y : tie.Need-mul-y I1 μ1 I2 μ2 I3 μ3 I4 μ4 I5 μ5
-mul-y c = omega arith
-
-element-copy-out-y : tie.Need-element-copy-out-y I1 μ1 I2 μ2 I3 μ3 I4 μ4 I5 μ5
-element-copy-out-y c = next-within (c .before .loop4 .inv) (omega arith)
-
 mul-y-2 : tie.Need-mul-y-2 I1 μ1 I2 μ2 I3 μ3 I4 μ4 I5 μ5
 mul-y-2 c = omega arith
+
+element-copy-out-y-2 : tie.Need-element-copy-out-y-2 I1 μ1 I2 μ2 I3 μ3 I4 μ4 I5 μ5
+element-copy-out-y-2 c = next-within (c .before .loop4 .inv) (omega arith)
+
+mul-y-3 : tie.Need-mul-y-3 I1 μ1 I2 μ2 I3 μ3 I4 μ4 I5 μ5
+mul-y-3 c = omega arith
 
 element-set-from-y : tie.Need-element-set-from-y I1 μ1 I2 μ2 I3 μ3 I4 μ4 I5 μ5
 element-set-from-y c = omega (arith, next-within (c .before .before .loop4 .inv) (omega arith))
@@ -137,8 +137,8 @@ loop5-holds c =
 cast-at-4 : tie.Need-cast-at-4 I1 μ1 I2 μ2 I3 μ3 I4 μ4 I5 μ5
 cast-at-4 c = omega arith
 
-add-at : tie.Need-add-at I1 μ1 I2 μ2 I3 μ3 I4 μ4 I5 μ5
-add-at c = omega arith
+add-at-2 : tie.Need-add-at-2 I1 μ1 I2 μ2 I3 μ3 I4 μ4 I5 μ5
+add-at-2 c = omega arith
 
 subject-requires : tie.Need-subject-requires I1 μ1 I2 μ2 I3 μ3 I4 μ4 I5 μ5
 subject-requires c κs = search needs
@@ -155,8 +155,8 @@ array-read-first c = P.subject-few (c .before .before .loop5 .post) _ (c .subjec
 first-requires : tie.Need-first-requires I1 μ1 I2 μ2 I3 μ3 I4 μ4 I5 μ5
 first-requires c κs = search needs
 
-mul-y-3 : tie.Need-mul-y-3 I1 μ1 I2 μ2 I3 μ3 I4 μ4 I5 μ5
-mul-y-3 c = omega arith
+mul-y-4 : tie.Need-mul-y-4 I1 μ1 I2 μ2 I3 μ3 I4 μ4 I5 μ5
+mul-y-4 c = omega arith
 
 element-set-from-y-2 : tie.Need-element-set-from-y-2 I1 μ1 I2 μ2 I3 μ3 I4 μ4 I5 μ5
 element-set-from-y-2 c = omega (arith, c .before .before .before .loop5 .inv .fits)
@@ -240,11 +240,22 @@ step-spec =
     T.add-j
     T.loop2-less
     T.loop2-again
+    T.sub-half
+    T.add-half
+    T.cast-first
+    T.sub-second
+    T.cast-second
     T.loop3-holds
     T.cast-at-3
+    T.add-at
+    T.cast-to
+    T.add-to
     T.mul-x-2
     T.element-copy-out-x-2
+    T.mul-y
+    T.element-copy-out-y
     T.word-of-requires
+    T.word-of-requires-2
     T.add-j-2
     T.loop3-less
     T.loop3-again
@@ -267,14 +278,14 @@ step-spec =
     room-of-requires
     answer-by-requires
     kept-table-requires
-    mul-t100
+    mul-t111
     element-set-from-s
     cast-last
     loop4-holds
     add-j-3
-    mul-y
-    element-copy-out-y
     mul-y-2
+    element-copy-out-y-2
+    mul-y-3
     element-set-from-y
     add-i-2
     loop4-less
@@ -284,13 +295,13 @@ step-spec =
     begun-requires
     loop5-holds
     cast-at-4
-    add-at
+    add-at-2
     subject-requires
     cast-subject
     mul-first
     array-read-first
     first-requires
-    mul-y-3
+    mul-y-4
     element-set-from-y-2
     rest-requires
     add-i-3

@@ -1,5 +1,5 @@
--- What `step` knows at the places of its code that have names: the five loops' invariants, what the test came to (`tested`), what is seen of
--- the event when there is an answer (`facts`), and the station as it is stored.
+-- What `step` knows at the places of its code that have names: the five loops' invariants, what the test came to (`tested`), what is seen
+-- of the event when there is an answer (`facts`), and the station as it is stored.
 use Prim.Native.Nat.{ℕ, _-_, _<_}
 use mathlib.Core.Bool.{Bool, true, false}
 use mathlib.Core.Path.{_≡_, refl, sym, ap, _∙_}
@@ -39,27 +39,29 @@ abbrev pub μ2 : tie.MeasureT-loop2
 μ2 kind a b s net flying owns framed placed used ways₀ ended₀ most₀ least₀ j₀ ways ended most least j = used - j
 
 abbrev pub I3 : tie.InvT-loop3
-I3 kind a b s net flying owns framed placed used ways ended most least rest₀ j₀ rest j = Resting s used rest j
+I3 kind a b s net flying owns framed placed used ways ended most least half first second rest₀ j₀ rest j = Resting s used half rest j
 
 abbrev pub μ3 : tie.MeasureT-loop3
-μ3 kind a b s net flying owns framed placed used ways ended most least rest₀ j₀ rest j = letterRoom - j
+μ3 kind a b s net flying owns framed placed used ways ended most least half first second rest₀ j₀ rest j = half - j
 
 -- ---- while the later letters close up, and while new letters are put at the end
 abbrev pub I4 : tie.InvT-loop4
-I4 kind a b s₀ flying framed placed used ways ended most least rest carried good place me who plan told send count room answer last i₀ s i =
+I4 kind a b s₀ flying framed placed used ways ended most least half first second rest carried good
+    place me who plan told send count room answer last i₀ s i =
     Closing s₀ (room .from) last s i
 
 abbrev pub μ4 : tie.MeasureT-loop4
-μ4 kind a b s₀ flying framed placed used ways ended most least rest carried good place me who plan told send count room answer last i₀ s i =
+μ4 kind a b s₀ flying framed placed used ways ended most least half first second rest carried good
+    place me who plan told send count room answer last i₀ s i =
     last - i
 
 abbrev pub I5 : tie.InvT-loop5
-I5 kind a b s₀ flying framed placed used ways ended most least rest carried good place me who plan told count room answer last free post₀ i₀ s
-    post i = Putting s₀ me told last count post₀ s post i
+I5 kind a b s₀ flying framed placed used ways ended most least half first second rest carried good
+    place me who plan told count room answer last free post₀ i₀ s post i = Putting s₀ me told last count post₀ s post i
 
 abbrev pub μ5 : tie.MeasureT-loop5
-μ5 kind a b s₀ flying framed placed used ways ended most least rest carried good place me who plan told count room answer last free post₀ i₀ s
-    post i = count - i
+μ5 kind a b s₀ flying framed placed used ways ended most least half first second rest carried good
+    place me who plan told count room answer last free post₀ i₀ s post i = count - i
 
 -- ---- the number that says no
 pub accepted : (good : Bool) (n r : ℕ) → r ≡ (if good then n else 11) → r ≡ 0 → (good ≡ true) × (n ≡ 0)

@@ -1,4 +1,5 @@
 -- The needs of the three loops of the test: those of `state::well_formed`, by the same laws.
+use mathlib.Core.Path.{refl}
 use native.Mathlib.Omega.{arith}
 use borrow.Author.Needs.{needs}
 use Rattle.state.proofs.Tested.{placing-begins, placing-more, gathering-begins, gathering-more, resting-begins, resting-more}
@@ -101,11 +102,35 @@ loop2-again c =
     (c .before .before .before .before .still-ended .ensures) (c .before .before .before .past-subject .ensures)
     (c .before .before .larger .ensures) (c .before .counter-said .ensures) (c .smaller .ensures)
 
+pub sub-half : tie.Need-sub-half I1 μ1 I2 μ2 I3 μ3 I4 μ4 I5 μ5
+sub-half c = omega arith
+
+pub add-half : tie.Need-add-half I1 μ1 I2 μ2 I3 μ3 I4 μ4 I5 μ5
+add-half c = omega arith
+
+pub cast-first : tie.Need-cast-first I1 μ1 I2 μ2 I3 μ3 I4 μ4 I5 μ5
+cast-first c = omega arith
+
+pub sub-second : tie.Need-sub-second I1 μ1 I2 μ2 I3 μ3 I4 μ4 I5 μ5
+sub-second c = omega arith
+
+pub cast-second : tie.Need-cast-second I1 μ1 I2 μ2 I3 μ3 I4 μ4 I5 μ5
+cast-second c = omega arith
+
 pub loop3-holds : tie.Need-loop3-holds I1 μ1 I2 μ2 I3 μ3 I4 μ4 I5 μ5
-loop3-holds c = resting-begins _ _ (omega (arith, c .before .before .few .ensures))
+loop3-holds c = resting-begins _ _ _ (omega (arith, c .before .before .few .ensures)) refl
 
 pub cast-at-3 : tie.Need-cast-at-3 I1 μ1 I2 μ2 I3 μ3 I4 μ4 I5 μ5
 cast-at-3 c = omega arith
+
+pub add-at : tie.Need-add-at I1 μ1 I2 μ2 I3 μ3 I4 μ4 I5 μ5
+add-at c = omega arith
+
+pub cast-to : tie.Need-cast-to I1 μ1 I2 μ2 I3 μ3 I4 μ4 I5 μ5
+cast-to c = omega arith
+
+pub add-to : tie.Need-add-to I1 μ1 I2 μ2 I3 μ3 I4 μ4 I5 μ5
+add-to c = omega arith
 
 pub mul-x-2 : tie.Need-mul-x-2 I1 μ1 I2 μ2 I3 μ3 I4 μ4 I5 μ5
 mul-x-2 c = omega arith
@@ -113,8 +138,17 @@ mul-x-2 c = omega arith
 pub element-copy-out-x-2 : tie.Need-element-copy-out-x-2 I1 μ1 I2 μ2 I3 μ3 I4 μ4 I5 μ5
 element-copy-out-x-2 c = omega arith
 
+pub mul-y : tie.Need-mul-y I1 μ1 I2 μ2 I3 μ3 I4 μ4 I5 μ5
+mul-y c = omega arith
+
+pub element-copy-out-y : tie.Need-element-copy-out-y I1 μ1 I2 μ2 I3 μ3 I4 μ4 I5 μ5
+element-copy-out-y c = omega arith
+
 pub word-of-requires : tie.Need-word-of-requires I1 μ1 I2 μ2 I3 μ3 I4 μ4 I5 μ5
 word-of-requires c κs = search needs
+
+pub word-of-requires-2 : tie.Need-word-of-requires-2 I1 μ1 I2 μ2 I3 μ3 I4 μ4 I5 μ5
+word-of-requires-2 c κs = search needs
 
 pub add-j-2 : tie.Need-add-j-2 I1 μ1 I2 μ2 I3 μ3 I4 μ4 I5 μ5
 add-j-2 c = omega arith
@@ -123,7 +157,9 @@ pub loop3-less : tie.Need-loop3-less I1 μ1 I2 μ2 I3 μ3 I4 μ4 I5 μ5
 loop3-less c = omega arith
 
 pub loop3-again : tie.Need-loop3-again I1 μ1 I2 μ2 I3 μ3 I4 μ4 I5 μ5
-loop3-again c = resting-more _ (c .before .before .before .loop3 .inv) (omega arith) _ (c .word-of .ensures)
+loop3-again c =
+    resting-more _ (c .before .before .before .before .before .loop3 .inv) (omega arith) (c .before .word-of .result) (c .word-of2 .result)
+    (c .before .word-of .ensures) (c .word-of2 .ensures)
 
 pub letters-formed-requires : tie.Need-letters-formed-requires I1 μ1 I2 μ2 I3 μ3 I4 μ4 I5 μ5
 letters-formed-requires c κs = search needs
