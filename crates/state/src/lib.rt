@@ -92,9 +92,9 @@ pub fn frame_holds(net: Net, flying: u16) -> bool
     sets::both(sheet_rules::keeps_sheet_rules(net), flying <= MOST_LETTERS)
 }
 
-// As many letters as there is room for.
-// Promise: the smaller of the two.
-pub fn few(flying: u16) -> u16
+// As many places of the letters as are used, whatever the number: no more than there are.
+// Promise: the number, or 4,096 if it is larger.
+pub fn used_places(flying: u16) -> u16
     ensures { λ r. ⌜ r ≡ min flying letterRoom ⌝ }
 {
     if flying < MOST_LETTERS {
@@ -138,7 +138,7 @@ pub fn well_formed(s: State) -> bool
         let right = station_place(net.links, i < net.stations, owns[at], st);
         placed = sets::both(placed, right);
     }
-    let used = few(flying);
+    let used = used_places(flying);
     let mut ways: u64 = 0;
     let mut ended: u64 = 1;
     let mut most: u16 = 0;

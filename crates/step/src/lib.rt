@@ -1,7 +1,8 @@
 // The network's step: one call takes the whole state and one event, and hands back the whole state after it, or the same
-// state and the number that says no. Only `step` and the test for 11 hold a state: nothing else that it calls takes or returns one, nor
-// the letters' room. The station that the event concerns is copied once out of the state and stored once into it. What the event names,
-// the plan at that station and what becomes of the list of letters are `step_parts`.
+// state and the number that says no. Only `step` holds a state: nothing that it calls takes or returns one, nor the letters' room, so that it
+// is copied once in and once out. The station that the event concerns is copied once out of the state and stored once into it. What the event
+// names, the plan at that station and what becomes of the list of letters are `step_parts`; the parts of the test for 11 are `state` and
+// `state_rules`.
 ghost use mathlib.Core.Path.{_≡_};
 ghost use Rattle.lists.specs.Lists.{if_then_else_};
 ghost use Rattle.step_rules.specs.Step.{steppedOf};
@@ -38,7 +39,7 @@ pub fn step(mut s: State, kind: u32, a: u32, b: u32) -> Stepped
         let right = state::station_place(net.links, i < net.stations, owns[at], st);
         placed = sets::both(placed, right);
     }
-    let used = state::few(flying);
+    let used = state::used_places(flying);
     let mut ways: u64 = 0;
     let mut ended: u64 = 1;
     let mut most: u16 = 0;

@@ -92,8 +92,8 @@ loop-again c =
     placing-more _ _ (c .before .before .before .before .before .loop .inv) (omega arith) _ _ (c .before .station-place .ensures)
     (c .both .ensures)
 
-few-requires : tie.Need-few-requires Inv-loop μ-loop Inv-loop2 μ-loop2 Inv-loop3 μ-loop3
-few-requires c κs = search needs
+used-places-requires : tie.Need-used-places-requires Inv-loop μ-loop Inv-loop2 μ-loop2 Inv-loop3 μ-loop3
+used-places-requires c κs = search needs
 
 loop2-holds : tie.Need-loop2-holds Inv-loop μ-loop Inv-loop2 μ-loop2 Inv-loop3 μ-loop3
 loop2-holds c = gathering-begins _ _ _
@@ -169,7 +169,7 @@ cast-second : tie.Need-cast-second Inv-loop μ-loop Inv-loop2 μ-loop2 Inv-loop3
 cast-second c = omega arith
 
 loop3-holds : tie.Need-loop3-holds Inv-loop μ-loop Inv-loop2 μ-loop2 Inv-loop3 μ-loop3
-loop3-holds c = resting-begins _ _ _ (omega (arith, c .before .before .few .ensures)) refl
+loop3-holds c = resting-begins _ _ _ (omega (arith, c .before .before .used-places .ensures)) refl
 
 cast-at-3 : tie.Need-cast-at-3 Inv-loop μ-loop Inv-loop2 μ-loop2 Inv-loop3 μ-loop3
 cast-at-3 c = omega arith
@@ -229,7 +229,7 @@ returns c =
     let p = g .before .before .before in
     let b = p .before .before .before .before in
     let s = b .args .t1 in (
-      all-seen s _ (p .before .own-words .ensures) _ _ _ (p .before .before .frame-holds .ensures) (g .before .few .ensures) (p .loop .inv)
+      all-seen s _ (p .before .own-words .ensures) _ _ _ (p .before .before .frame-holds .ensures) (g .before .used-places .ensures) (p .loop .inv)
           (omega arith) (g .loop2 .inv) (omega arith) (l .loop3 .inv) (omega arith) (c .before .letters-formed .ensures)
           (c .all-hold .ensures),
       λ q. seen-sized s _ (p .loop .inv) (omega arith) (ends-long b) (stations-long b) (letters-long b),
@@ -258,7 +258,7 @@ well-formed-spec =
     add-i
     loop-less
     loop-again
-    few-requires
+    used-places-requires
     loop2-holds
     cast-at-2
     mul-x

@@ -223,7 +223,7 @@ step-spec =
     T.add-i
     T.loop-less
     T.loop-again
-    T.few-requires
+    T.used-places-requires
     T.loop2-holds
     T.cast-at-2
     T.mul-x

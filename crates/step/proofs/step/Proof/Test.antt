@@ -47,8 +47,8 @@ loop-again c =
     placing-more _ _ (c .before .before .before .before .before .loop .inv) (omega arith) _ _ (c .before .station-place .ensures)
     (c .both .ensures)
 
-pub few-requires : tie.Need-few-requires I1 μ1 I2 μ2 I3 μ3 I4 μ4 I5 μ5
-few-requires c κs = search needs
+pub used-places-requires : tie.Need-used-places-requires I1 μ1 I2 μ2 I3 μ3 I4 μ4 I5 μ5
+used-places-requires c κs = search needs
 
 pub loop2-holds : tie.Need-loop2-holds I1 μ1 I2 μ2 I3 μ3 I4 μ4 I5 μ5
 loop2-holds c = gathering-begins _ _ _
@@ -118,7 +118,7 @@ pub cast-second : tie.Need-cast-second I1 μ1 I2 μ2 I3 μ3 I4 μ4 I5 μ5
 cast-second c = omega arith
 
 pub loop3-holds : tie.Need-loop3-holds I1 μ1 I2 μ2 I3 μ3 I4 μ4 I5 μ5
-loop3-holds c = resting-begins _ _ _ (omega (arith, c .before .before .few .ensures)) refl
+loop3-holds c = resting-begins _ _ _ (omega (arith, c .before .before .used-places .ensures)) refl
 
 pub cast-at-3 : tie.Need-cast-at-3 I1 μ1 I2 μ2 I3 μ3 I4 μ4 I5 μ5
 cast-at-3 c = omega arith
