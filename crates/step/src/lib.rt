@@ -1,8 +1,8 @@
 // The network's step: one call takes the whole state and one event, and hands back the whole state after it, or the same
-// state and the number that says no. Only `step` holds a state: nothing that it calls takes or returns one, nor the letters' room, so that it
-// is copied once in and once out. The station that the event concerns is copied once out of the state and stored once into it. What the event
-// names, the plan at that station and what becomes of the list of letters are `step_parts`; the parts of the test for 11 are `state` and
-// `state_rules`.
+// state and the number that says no. Only `step` holds a state: nothing that it calls takes or returns one, nor the letters' room, so
+// that it is copied once in and once out. The station that the event concerns is copied once out of the state and stored once into it.
+// What the event names, the plan at that station and what becomes of the list of letters are `step_parts`; the parts of the test for 11
+// are `state` and `state_rules`.
 ghost use mathlib.Core.Path.{_≡_};
 ghost use Rattle.lists.specs.Lists.{if_then_else_};
 ghost use Rattle.step_rules.specs.Step.{steppedOf};

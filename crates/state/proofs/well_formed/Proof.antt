@@ -229,8 +229,8 @@ returns c =
     let p = g .before .before .before in
     let b = p .before .before .before .before in
     let s = b .args .t1 in (
-      all-seen s _ (p .before .own-words .ensures) _ _ _ (p .before .before .frame-holds .ensures) (g .before .used-places .ensures) (p .loop .inv)
-          (omega arith) (g .loop2 .inv) (omega arith) (l .loop3 .inv) (omega arith) (c .before .letters-formed .ensures)
+      all-seen s _ (p .before .own-words .ensures) _ _ _ (p .before .before .frame-holds .ensures) (g .before .used-places .ensures)
+          (p .loop .inv) (omega arith) (g .loop2 .inv) (omega arith) (l .loop3 .inv) (omega arith) (c .before .letters-formed .ensures)
           (c .all-hold .ensures),
       λ q. seen-sized s _ (p .loop .inv) (omega arith) (ends-long b) (stations-long b) (letters-long b),
     )

@@ -102,8 +102,8 @@ tested c =
     let p = stationsAt c in
     let b = begun p in
     let s = b .args .t1 in (
-      all-seen s _ (p .before .before .own-words .ensures) _ _ _ (p .before .frame-holds .ensures) (g .before .used-places .ensures) (p .loop .inv)
-          (omega arith) (g .loop2 .inv) (omega arith) (l .loop3 .inv) (omega arith) (c .before .letters-formed .ensures)
+      all-seen s _ (p .before .before .own-words .ensures) _ _ _ (p .before .frame-holds .ensures) (g .before .used-places .ensures)
+          (p .loop .inv) (omega arith) (g .loop2 .inv) (omega arith) (l .loop3 .inv) (omega arith) (c .before .letters-formed .ensures)
           (c .all-hold .ensures),
       seen-sized s _ (p .loop .inv) (omega arith) (ends-long b) (stations-long b) (letters-long b),
     )
