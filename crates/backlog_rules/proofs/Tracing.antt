@@ -11,7 +11,6 @@ use lib.ListN.{length, getD, take, drop, length-append, take-append-drop}
 use lib.Seq.{take-at, drop-at, drop-drop, length-take-le}
 use Rattle.lists.proofs.Tests.{T-is}
 use Rattle.tally.specs.declared.Tally.{Tally}
-use Rattle.fields.specs.Fields.{onto}
 use Rattle.fields.specs.Output.{fitting, writingOutput}
 use Rattle.text.specs.Text.{putAt}
 use Rattle.text.proofs.Puts.{put-fits, length-put}
@@ -24,7 +23,7 @@ use Rattle.step_rules.specs.Step.{event, numberOf, steppedOf}
 use Rattle.step_rules.specs.Counting.{talliedBy}
 use Rattle.step_rules.proofs.Bridge.{Good, is-step}
 use Rattle.backlog_rules.specs.declared.Answered.{Answered}
-use Rattle.backlog_rules.specs.Answers.{turnOf, turns, lastState, lastTally, tracing, answeredBy}
+use Rattle.backlog_rules.specs.Answers.{turnOf, turns, lastState, lastTally, RanThrough, tracing, answeredBy}
 use Rattle.backlog_rules.proofs.Threes.{three, none-left, Over, one, two, left-over}
 
 -- a refusal touches no tally
@@ -121,11 +120,6 @@ module _ (es : List ℕ) (s₀ : State) (t₀ : Tally) (old : List ℕ) (s : Sta
       })
 
 -- ---- the end of the list
-pub record RanThrough (es : List ℕ) (s₀ : State) (t₀ : Tally) (old : List ℕ) (s : State) (t : Tally) (trace : List ℕ) : Type 0 where
-  pub state : s ≡ lastState s₀ es
-  pub tally : t ≡ lastTally s₀ t₀ es
-  pub output : trace ≡ onto (turns s₀ t₀ es) old
-
 pub trace-ends : (es : List ℕ) (s₀ : State) (t₀ : Tally) (old : List ℕ) (s : State) (t : Tally) (n : ℕ) (trace : List ℕ)
     → Traced es s₀ t₀ old s t n trace → length es ≤ 3 * n → 3 * n ≤ length old → RanThrough es s₀ t₀ old s t trace
 unfolding turns lastState lastTally

@@ -1,8 +1,10 @@
 -- A run with answers: the calls of the step one by one, as for a backlog, but a refused event changes nothing and the run goes on. What
 -- each event came to stands in a trace that is lent: three numbers an event, as the event has three.
 use Prim.Native.Nat.{ℕ}
+use mathlib.Core.Path.{_≡_}
 use mathlib.Core.List.{List, [], _∷_, _++_}
 use Rattle.lists.specs.Lists.{if_then_else_}
+use Rattle.fields.specs.Fields.{onto}
 use Rattle.fields.specs.Output.{Writing, denied, writes, fitting}
 use Rattle.tally.specs.declared.Tally.{Tally}
 use Rattle.state.specs.declared.State.{State}
@@ -37,6 +39,12 @@ lastTally s t [] = t
 lastTally s t (kind ∷ []) = t
 lastTally s t (kind ∷ a ∷ []) = t
 lastTally s t (kind ∷ a ∷ b ∷ events) = lastTally (steppedOf s kind a b .state) (talliedBy (steppedOf s kind a b) t) events
+
+-- what a run from one state and tally leaves: these, and the trace over the front of the old one
+pub record RanThrough (es : List ℕ) (s₀ : State) (t₀ : Tally) (old : List ℕ) (s : State) (t : Tally) (trace : List ℕ) : Type 0 where
+  pub state : s ≡ lastState s₀ es
+  pub tally : t ≡ lastTally s₀ t₀ es
+  pub output : trace ≡ onto (turns s₀ t₀ es) old
 
 -- with a trace that is lent: 11 for a bad state, even for an empty list; 10 for a trace that is too short
 unfoldable pub tracing : State → Tally → List ℕ → List ℕ → Writing

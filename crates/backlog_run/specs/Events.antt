@@ -12,7 +12,7 @@ use Rattle.state.specs.declared.State.{State}
 use Rattle.step_parts.specs.Parts.{placeBy}
 use Rattle.backlog_rules.specs.declared.Taken.{Taken}
 use Rattle.backlog_rules.specs.Backlog.{calls}
-use Rattle.backlog_rules.proofs.Tracing.{RanThrough}
+use Rattle.backlog_rules.specs.Answers.{RanThrough}
 use Rattle.backlog_run.specs.declared.Asked.{Asked}
 
 -- three numbers, and what they say

@@ -119,7 +119,8 @@ fn put_answer(out: &mut [u8], at: usize, answer: u64, flying: u64, settled: u64)
 // Promise: for each three numbers of the trace the line that document 01 has the event program print: answer, letters in flight, notices
 // settled so far; 10 where the output has fewer than 21 bytes for each number.
 pub fn put_answers(trace: &[u64], out: &mut [u8]) -> Wrote
-    ensures answer { λ r. ⌜ r ≡ wroteBy (withRoom (answersMost (now (trace .entry))) (answersText (now (trace .entry))) (now (out .entry))) ⌝ }
+    ensures answer { λ r. ⌜ r ≡ wroteBy (withRoom (answersMost (now (trace .entry))) (answersText (now (trace .entry)))
+        (now (out .entry))) ⌝ }
     ensures output { λ r. ⌜ now (out .exit) ≡ writingOutput (withRoom (answersMost (now (trace .entry))) (answersText (now (trace .entry)))
         (now (out .entry))) (now (out .entry)) ⌝ }
     ensures room { λ r. ⌜ Counts (r .written) (now (out .exit)) ⌝ }

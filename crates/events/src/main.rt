@@ -3,8 +3,8 @@
 use event_program::Ran;
 use state::State;
 
-// A file that can't be opened or read counts as empty: a read of the descriptor -1 gives nothing, and closing it does nothing. One byte more
-// than a sheet's file may have is enough to see that it has too many.
+// A file that can't be opened or read counts as empty: a read of the descriptor -1 gives nothing, and closing it does nothing. One byte
+// more than a sheet's file may have is enough to see that it has too many.
 fn main() {
     let mut file = [0u8; 4097];
     let fd = os::open_read(b"network.sheet");
@@ -20,8 +20,8 @@ fn answer_events(file: &[u8]) {
         refuse(opened.number);
         return;
     }
-    // made once, since to fill them with zeros takes time: for each byte of a piece three numbers of a line that it may end and three of what
-    // comes of it, and 21 bytes for each of these
+    // made once, since to fill them with zeros takes time: for each byte of a piece three numbers of a line that it may end and three of
+    // what comes of it, and 21 bytes for each of these
     let mut list = [0u32; 24576];
     let mut trace = [0u64; 24576];
     let mut out = [0u8; 516096];

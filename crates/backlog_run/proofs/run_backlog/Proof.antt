@@ -36,4 +36,5 @@ returns-2 : tie.Need-returns-2
 returns-2 c = c .before .take-events .ensures .stopped refl ∙ sym (good-state _ _ _ (tested (c .before .before .before) .holds))
 
 pub run-backlog-spec : {M : Type 1} → statement M
-run-backlog-spec = tie.close (tie.spec well-formed-requires returns array-borrow-prefix-none slice-aggregate-take-events take-events-requires returns-2)
+run-backlog-spec =
+    tie.close (tie.spec well-formed-requires returns array-borrow-prefix-none slice-aggregate-take-events take-events-requires returns-2)

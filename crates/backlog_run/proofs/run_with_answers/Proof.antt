@@ -36,8 +36,8 @@ returns-2 c =
     let n = c .before .event-count in
     let a = c .before .before .before .before .before .before .args in
     let size = length (now (a .events)) in
-    answers-short (a .s) (a .t) (now (a .events)) (now (a .trace)) _ (count-covers size) (count-tight size) (tested (c .before .before) .holds)
-    (omega (arith, n .ensures, c .if2 .taken))
+    answers-short (a .s) (a .t) (now (a .events)) (now (a .trace)) _ (count-covers size) (count-tight size)
+    (tested (c .before .before) .holds) (omega (arith, n .ensures, c .if2 .taken))
 
 take-events-requires : tie.Need-take-events-requires
 take-events-requires c κs = tested (c .before .before .before)

@@ -52,7 +52,8 @@ returns-2 c =
     let l = listing o in
     let a = entry l .args in
     ran-refused (a .given) (a .t) (a .r) (now (a .bytes)) (now (a .list)) (now (a .trace)) (l .list-lines .result) _
-    (l .list-lines .ensures .0) (l .list-lines .ensures .1 .0) (o .if1 .left) (d .run-with-answers .result) _ (d .run-with-answers .ensures) (c .if2 .taken)
+    (l .list-lines .ensures .0) (l .list-lines .ensures .1 .0) (o .if1 .left)
+    (d .run-with-answers .result) _ (d .run-with-answers .ensures) (c .if2 .taken)
 
 same-length-4 : tie.Need-same-length-4
 same-length-4 c = search needs
@@ -67,7 +68,8 @@ returns-3 c =
     let l = listing o in
     let a = entry l .args in
     ran-all (a .given) (a .t) (a .r) (now (a .bytes)) (now (a .list)) (now (a .trace)) (l .list-lines .result) _
-    (l .list-lines .ensures .0) (l .list-lines .ensures .1 .0) (o .if1 .left) (d .run-with-answers .result) _ (d .run-with-answers .ensures) (c .if2 .left)
+    (l .list-lines .ensures .0) (l .list-lines .ensures .1 .0) (o .if1 .left)
+    (d .run-with-answers .result) _ (d .run-with-answers .ensures) (c .if2 .left)
 
 pub run-lines-spec : {M : Type 1} → statement M
 run-lines-spec =
