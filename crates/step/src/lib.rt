@@ -9,7 +9,7 @@ ghost use Rattle.std.specs.Prelude.{◌≡◌};
 ghost use Rattle.lists.specs.Lists.{if◌then◌else◌};
 ghost use Rattle.step_rules.specs.Step.{stepped_of};
 
-use net::{LINK_ROOM, MOST_LETTERS, MOST_STATIONS, STATION_ROOM};
+use net::{MOST_LETTERS, MOST_STATIONS, STATION_ROOM};
 use state::State;
 use station::Station;
 use step_rules::Stepped;
@@ -73,19 +73,7 @@ pub fn step(mut s: State, kind: u32, a: u32, b: u32) -> Stepped
     let what = station_kinds::kind_of(kind);
     let place = step_parts::place_of(a);
     let x = s.letters[place];
-    let k = x.link as usize % LINK_ROOM;
-    let asker = a as usize % STATION_ROOM;
-    let names = step_parts::names_of(
-        net.stations,
-        flying,
-        what,
-        a,
-        b,
-        x,
-        net.low[k],
-        net.high[k],
-        owns[asker],
-    );
+    let names = step_parts::names_of(net, flying, what, a, b, x);
     let me = names.station;
     // what it comes to at the station that it concerns
     let who = me as usize;

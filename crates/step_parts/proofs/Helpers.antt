@@ -18,7 +18,7 @@ use Rattle.station.specs.Events.{takes_letter, link_of}
 use Rattle.station.specs.Acts.{subject_of}
 use Rattle.step_parts.specs.declared.Names.{Names}
 use Rattle.step_parts.specs.declared.Room.{Room}
-use Rattle.step_parts.specs.Parts.{place_by, fewer_by, number_by, concerned_from, names_from, names_by, room_by}
+use Rattle.step_parts.specs.Parts.{place_by, fewer_by, number_by, names_by, room_by}
 
 pub place_there : (a : ℕ) → a < letter_room → a ≡ place_by a
 place_there a h = sym (ap (λ (b : Bool). if b then a else 0) (lt-ltb a letter_room h))
@@ -42,22 +42,16 @@ pub record Placed (n : Names) : Type 0 where
   pub link : n.link < link_room
   pub subject : n.subject < link_room
 
-placed_as : (c : ℕ) (kind : Kind) (b : ℕ) (x : Letter) (n : Names) → n.station ≡ in_room c → n.link ≡ link_of kind b x % link_room
-    → n.subject ≡ subject_of x.body % link_room → Placed n
-placed_as c kind b x n s l u = record { station = room_few c n.station s; link = omega (arith, l); subject = omega (arith, u) }
-
-pub placed : (stations flying : ℕ) (kind : Kind) (a b : ℕ) (x : Letter) (low high own : ℕ) (n : Names)
-    → n ≡ names_from stations flying kind a b x low high own → Placed n
-unfolding names_from
-placed stations flying kind a b x low high own n e =
-    placed_as (concerned_from kind a x low high) kind b x n (ap (λ (y : Names). y.station) e) (ap (λ (y : Names). y.link) e)
-    (ap (λ (y : Names). y.subject) e)
-
-pub placed_by : (net : Net) (flying : ℕ) (kind : Kind) (a b : ℕ) (x : Letter) (n : Names) → n ≡ names_by net flying kind a b x → Placed n
+pub placed : (net : Net) (flying : ℕ) (kind : Kind) (a b : ℕ) (x : Letter) (n : Names) → n ≡ names_by net flying kind a b x → Placed n
 unfolding names_by
-placed_by net flying kind a b x n e =
-    placed_as (concerned_by kind (network_of net) a x) kind b x n (ap (λ (y : Names). y.station) e) (ap (λ (y : Names). y.link) e)
-    (ap (λ (y : Names). y.subject) e)
+placed net flying kind a b x n e =
+    let k : n.link ≡ link_of kind b x % link_room = ap (λ (y : Names). y.link) e in
+    let j : n.subject ≡ subject_of x.body % link_room = ap (λ (y : Names). y.subject) e in
+    record {
+      station = room_few (concerned_by kind (network_of net) a x) n.station (ap (λ (y : Names). y.station) e);
+      link = omega (arith, k);
+      subject = omega (arith, j);
+    }
 
 module _ (leaves : Bool) where
   pub left_all : (n : ℕ) → leaves ≡ false → n ≡ fewer_by leaves n

@@ -45,7 +45,7 @@ use Rattle.sets.specs.Rooms.{in_room}
 use Rattle.step_rules.specs.Step.{event}
 use Rattle.step_parts.specs.declared.Names.{Names}
 use Rattle.step_parts.specs.Parts.{place_by, names_by, counter_at, PlansAt}
-use Rattle.step_parts.proofs.Helpers.{Placed, placed_by}
+use Rattle.step_parts.proofs.Helpers.{Placed, placed}
 
 -- ---- by the kind of the event
 -- the link that it names is there
@@ -122,11 +122,11 @@ module _ {s : State} {kind a b : ℕ} {e : Kind} {place : ℕ} {n : Names} {own 
     abbrev H : Holding
     H = holding_of s.net st
 
-    names_are : n ≡ names_by s.net s.flying K a b x
-    names_are = f.names ∙ ap (λ (e : Kind). names_by s.net s.flying e a b x) f.decodes
+    names-are : n ≡ names_by s.net s.flying K a b x
+    names-are = f.names ∙ ap (λ (e : Kind). names_by s.net s.flying e a b x) f.decodes
 
     places : Placed n
-    places = placed_by s.net s.flying K a b x n names_are
+    places = placed s.net s.flying K a b x n names-are
 
     pub within : me < station_room
     within = places.station
@@ -146,7 +146,7 @@ module _ {s : State} {kind a b : ℕ} {e : Kind} {place : ℕ} {n : Names} {own 
     named-is : named ≡ exists w E
     unfolding exists names_by
     named-is =
-        ap (λ (y : Names). y.there) names_are
+        ap (λ (y : Names). y.there) names-are
         ∙ ap₂ (λ (n : Network) (m : ℕ). exists_as K n m a b) (sym net_is) (sym (M.world_flying s f.sized f.holds))
 
     -- ---- where there is what the event names
@@ -173,7 +173,7 @@ module _ {s : State} {kind a b : ℕ} {e : Kind} {place : ℕ} {n : Names} {own 
       pub me_is : me ≡ concerned w E
       unfolding concerned names_by
       me_is =
-          ap (λ (y : Names). y.station) names_are ∙ ap₂ (λ (n : Network) (l : Letter). in_room (concerned_by K n a l)) (sym net_is) letter_is
+          ap (λ (y : Names). y.station) names-are ∙ ap₂ (λ (n : Network) (l : Letter). in_room (concerned_by K n a l)) (sym net_is) letter_is
           ∙ ap (λ (c : Bool). if c then concerned_by K w.net a (letter_at w a) else 0)
           (lt-ltb (concerned_by K w.net a (letter_at w a)) station_room
           (omega (arith, concerned_real w ok E q, stations_are.0, stations_are.1)))
@@ -195,7 +195,7 @@ module _ {s : State} {kind a b : ℕ} {e : Kind} {place : ℕ} {n : Names} {own 
 
       link_is : T (on_link K) → k ≡ link_of K b x
       unfolding names_by
-      link_is t = ap (λ (y : Names). y.link) names_are ∙ mod-few (link_of K b x) (link-there t)
+      link_is t = ap (λ (y : Names). y.link) names-are ∙ mod-few (link_of K b x) (link-there t)
 
       posted : T (takes_letter K) → Posted w x
       posted t = subst⁻¹ (Posted w) letter_is (meant_posted w ok E q t)
@@ -205,12 +205,12 @@ module _ {s : State} {kind a b : ℕ} {e : Kind} {place : ℕ} {n : Names} {own 
       meant = record {
         link = λ t. omega (arith, link_is t, link-there t, links_are);
         letter = λ t.
-            sym (ap (λ (y : Names). y.link) names_are ∙ ap (λ (c : Bool). (if c then x.link else b) % link_room) (T_is (takes_letter K) t)
+            sym (ap (λ (y : Names). y.link) names-are ∙ ap (λ (c : Bool). (if c then x.link else b) % link_room) (T_is (takes_letter K) t)
             ∙ mod-few x.link (posted t).link);
         subject = λ t. omega (arith, subject-there t, links_are);
         tells = λ t.
             ap (λ (i : ℕ). get_or st.counters i 0)
-            (mod-eq_of_lt places.subject ∙ ap (λ (y : Names). y.subject) names_are ∙ mod-few (subject_of x.body) (subject-there t));
+            (mod-eq_of_lt places.subject ∙ ap (λ (y : Names). y.subject) names-are ∙ mod-few (subject_of x.body) (subject-there t));
       }
         where
           subject-there : T (takes_letter K) → subject_of x.body < length w.net.links

@@ -1,6 +1,5 @@
 pub mod Present
 pub mod Helpers
-pub mod Named
 pub mod Known
 pub mod Made
 pub mod Loops

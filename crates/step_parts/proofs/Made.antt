@@ -2,7 +2,6 @@
 -- in zero room; and its answer where something does.
 use Prim.Native.Nat.{ℕ, zero, suc, ◌+◌, ◌≤◌, ◌<◌, min}
 use mathlib.Core.Bool.{Bool, true, false}
-use mathlib.Core.Logic.{◌⊎◌, inl, inr}
 use mathlib.Core.Path.{◌≡◌, refl, sym, ap, ap₂, ◌∙◌}
 use mathlib.Core.List.{List, [], ◌∷◌, ◌++◌, map, append_assoc, append-nil}
 use native.Mathlib.Decide.{ℕ_discrete, dec_lt}
@@ -317,23 +316,6 @@ module _ {s : State} {kind a b : ℕ} {e : Kind} {place : ℕ} {n : Names} {own 
         (if leaves then no_letter else get_or l place no_letter)) old-letters
         ∙ closed_as w.letters (K.ok f.seen).room leaves a place last (λ t. (K.place_is f.seen named₀, taken-there z₀ t))
         (ap (fewer_by leaves) (sym flying_is))
-
-    -- those that are left, by whether one leaves
-    pub left_cases : ((left_letters ≡ without place w.letters) × ((place < s.flying) × (r.left + 1 ≡ s.flying)))
-        ⊎ ((left_letters ≡ w.letters) × (r.left ≡ s.flying))
-    unfolding left
-    left_cases = go leaves refl
-      where
-        go : (c : Bool) → leaves ≡ c
-            → (((if c then without a w.letters else w.letters) ≡ without place w.letters)
-            × ((place < s.flying) × (r.left + 1 ≡ s.flying)))
-            ⊎ (((if c then without a w.letters else w.letters) ≡ w.letters) × (r.left ≡ s.flying))
-        go true g =
-            let i = K.place_is f.seen named₀ in
-            let j = taken-there z₀ g in
-            let k = stays ∙ ap (λ (c : Bool). fewer_by c s.flying) g in
-            inl (ap (λ (n : ℕ). without n w.letters) (sym i), (omega (arith, i, j, flying_is), omega (arith, j, k, flying_is)))
-        go false g = inr (refl, stays ∙ ap (λ (c : Bool). fewer_by c s.flying) g)
 
     -- a loop that closes up stays within the room
     pub closes_within : (r.from ≤ r.left) × (r.from < r.left → r.left < letter_room)

@@ -1,8 +1,7 @@
 -- What an event names, its plan at the station that it concerns, and what becomes of the list of letters, as the code answers it.
-use Rattle.std.specs.Prelude.{ℕ, ◌+◌, ◌-◌, ◌%◌, min, Bool, ◌&&◌, eqb, ltb, get_or}
-use Rattle.net.specs.Sizes.{station_room, link_room, letter_room}
+use Rattle.std.specs.Prelude.{ℕ, ◌+◌, ◌-◌, ◌%◌, Bool, eqb, ltb, get_or}
+use Rattle.net.specs.Sizes.{link_room, letter_room}
 use Rattle.lists.specs.Lists.{if◌then◌else◌}
-use Rattle.lists.specs.Words.{in_word}
 use Rattle.net.specs.declared.Letter.{Letter}
 use Rattle.net.specs.declared.Net.{Net}
 use Rattle.net.specs.Values.{network_of}
@@ -10,7 +9,7 @@ use Rattle.sets.specs.Rooms.{in_room}
 use Rattle.station.specs.declared.Kind.{Kind}
 use Rattle.station.specs.declared.Station.{Station}
 use Rattle.station.specs.Acts.{subject_of}
-use Rattle.station.specs.Events.{kind_number, takes_letter, link_of}
+use Rattle.station.specs.Events.{takes_letter, link_of}
 use Rattle.station_plan.specs.declared.Plan.{Plan}
 use Rattle.station_plan.specs.Comes.{event_plan, EventPlans}
 use Rattle.world.specs.World.{no_letter, concerned_by, exists_as}
@@ -23,25 +22,6 @@ names_by net flying kind a b x =
     record {
       station = in_room (concerned_by kind (network_of net) a x);
       there = exists_as kind (network_of net) flying a b;
-      link = link_of kind b x % link_room;
-      subject = subject_of x.body % link_room;
-    }
-
--- the same from the few values that the code asks for: low and high, the two ends of the letter's link, and own, the links at the station
--- a as a word. With those of a well-formed state this is names_by: proofs/Named.antt
-abbrev pub concerned_from : Kind → ℕ → Letter → ℕ → ℕ → ℕ
-concerned_from kind a x low high = if takes_letter kind then (if eqb low x.sender then high else low) else a
-
-abbrev pub exists_from : Kind → ℕ → ℕ → ℕ → ℕ → ℕ → Bool
-exists_from kind stations flying a b own =
-    if takes_letter kind then ltb a flying && eqb b 0
-    else (ltb 0 (kind_number kind) && ltb a (min stations station_room) && (if ltb 3 (kind_number kind) then in_word own b else eqb b 0))
-
-unfoldable pub names_from : ℕ → ℕ → Kind → ℕ → ℕ → Letter → ℕ → ℕ → ℕ → Names
-names_from stations flying kind a b x low high own =
-    record {
-      station = in_room (concerned_from kind a x low high);
-      there = exists_from kind stations flying a b own;
       link = link_of kind b x % link_room;
       subject = subject_of x.body % link_room;
     }

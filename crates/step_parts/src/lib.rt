@@ -1,20 +1,20 @@
 // What an event names, what it comes to at the station that it concerns, and what becomes of the list of letters: what a step asks of an
-// event before it changes anything. Each function takes the few values that it asks for, no state and no network. Every public function
-// answers every input.
+// event before it changes anything. Each function takes the few values that it asks for, and no state. Every public function answers every input.
 // Inner doors: the calls are in docs/CALLS.md.
 #![tactic(auto)]
 
 ghost use Rattle.std.specs.Prelude.{◌≡◌, ◌&&◌, min, ◌%◌, ltb, eqb};
 ghost use Rattle.lists.specs.Lists.{if◌then◌else◌};
-ghost use Rattle.lists.specs.Words.{in_word};
-ghost use Rattle.world.specs.World.{no_letter};
-ghost use Rattle.step_parts.specs.Parts.{place_by, fewer_by, number_by, concerned_from, exists_from, names_from, plan_by, PlansAt, room_by};
+ghost use Rattle.world.specs.World.{no_letter, is_link_at, receiver_in, concerned_by, exists_as};
+ghost use Rattle.step_parts.specs.Parts.{place_by, fewer_by, number_by, names_by, plan_by, PlansAt, room_by};
+ghost use Rattle.net.specs.Network.{ends};
 ghost use Rattle.net.specs.Sizes.{station_room, link_room};
+ghost use Rattle.net.specs.Values.{network_of};
 ghost use Rattle.station.specs.Acts.{subject_of};
 ghost use Rattle.station.specs.Events.{takes_letter, link_of};
 ghost use Rattle.sets.specs.Rooms.{in_room};
 
-use net::{Body, LETTER_ROOM, LINK_ROOM, Letter, MOST_LINKS, MOST_STATIONS};
+use net::{Body, LETTER_ROOM, LINK_ROOM, Letter, MOST_LINKS, MOST_STATIONS, Net};
 use station::{Kind, Station};
 use station_plan::Plan;
 
@@ -28,10 +28,42 @@ const LETTER_LINKS: u16 = LINK_ROOM as u16;
 // ---- what the numbers of an event mean: which station it concerns, whether there is what it names, and which link and subject it is
 // about
 
+// A link's two ends.
+#[derive(Clone, Copy)]
+struct Ends {
+    low: u8,
+    high: u8,
+}
+
 fn at_most_32(x: u8) -> u8
     ensures { result ≡ min x station_room }
 {
     if x < MOST_STATIONS { x } else { MOST_STATIONS }
+}
+
+// A link that is not there has the ends 0 and 0.
+fn ends_of(net: Net, k: u32) -> Ends
+    ensures { (result.low ≡ (ends (network_of net) k).low) × (result.high ≡ (ends (network_of net) k).high) }
+{
+    if sets::at_most_64(net.links) as u32 <= k {
+        return Ends { low: 0, high: 0 };
+    }
+    let i = k as usize;
+    Ends {
+        low: net.low[i],
+        high: net.high[i],
+    }
+}
+
+// The end of a letter's link that is not its sender.
+fn receiver(net: Net, letter: Letter) -> u8
+    ensures { result ≡ receiver_in (network_of net) letter }
+{
+    let e = ends_of(net, letter.link as u32);
+    if e.low as u16 == letter.sender {
+        return e.high;
+    }
+    e.low
 }
 
 // Whether an event of this kind takes a letter off the list.
@@ -51,18 +83,16 @@ fn takes_letter(kind: Kind) -> bool
     }
 }
 
-// Whose station an event concerns: a, or the receiver of the letter that it takes off, which is the end of its link that is not its sender.
-// Always below 32, so that it may be read in the room of stations.
-fn concerned(kind: Kind, a: u32, letter: Letter, low: u8, high: u8) -> u8
-    ensures { result ≡ in_room (concerned_from kind a letter low high) }
+// Whose station an event concerns: a, or the receiver of the letter that it takes off. Always below 32, so that it may be read in
+// the room of stations.
+fn concerned(net: Net, kind: Kind, a: u32, letter: Letter) -> u8
+    ensures { result ≡ in_room (concerned_by kind (network_of net) a letter) }
 {
-    if !takes_letter(kind) {
-        return sets::in_room(a);
+    if takes_letter(kind) {
+        let to = receiver(net, letter);
+        return sets::in_room(to as u32);
     }
-    if low as u16 == letter.sender {
-        return sets::in_room(high as u32);
-    }
-    sets::in_room(low as u32)
+    sets::in_room(a)
 }
 
 // The link that an event is about, for a room of 64: that of the letter, or b.
@@ -99,17 +129,28 @@ fn station_named(stations: u8, a: u32, b: u32) -> bool
     b == 0
 }
 
-// Whether a is a station, and b one of its links.
-fn link_named(stations: u8, a: u32, b: u32, own: u64) -> bool
-    ensures { result ≡ (ltb a (min stations station_room) && in_word own b) }
+// Whether b is a link at the station a.
+fn link_at(net: Net, a: u32, b: u32) -> bool
+    ensures { result ≡ is_link_at (network_of net) a b }
 {
-    if at_most_32(stations) as u32 <= a {
+    if sets::at_most_64(net.links) as u32 <= b {
         return false;
     }
-    if EVENT_LINKS <= b {
+    let e = ends_of(net, b);
+    if e.low as u32 == a {
+        return true;
+    }
+    e.high as u32 == a
+}
+
+// Whether a is a station, and b a link there.
+fn link_named(net: Net, a: u32, b: u32) -> bool
+    ensures { result ≡ (ltb a (min net.stations station_room) && is_link_at (network_of net) a b) }
+{
+    if at_most_32(net.stations) as u32 <= a {
         return false;
     }
-    sets::has(own, b as u8)
+    link_at(net, a, b)
 }
 
 // Whether a is a letter in flight, and b is not used.
@@ -124,17 +165,17 @@ fn letter_named(flying: u16, a: u32, b: u32) -> bool
 
 // Whether there is such an event kind, station, link at that station or letter, and an unused number is 0; where not, the
 // event is refused with 6.
-fn there(stations: u8, flying: u16, kind: Kind, a: u32, b: u32, own: u64) -> bool
-    ensures { result ≡ exists_from kind stations flying a b own }
+fn there(net: Net, flying: u16, kind: Kind, a: u32, b: u32) -> bool
+    ensures { result ≡ exists_as kind (network_of net) flying a b }
 {
     match kind {
         Kind::NoSuch => false,
-        Kind::Start => station_named(stations, a, b),
-        Kind::Stop => station_named(stations, a, b),
-        Kind::Recovery => station_named(stations, a, b),
-        Kind::IntervalEnd => link_named(stations, a, b, own),
-        Kind::TimeoutEnd => link_named(stations, a, b, own),
-        Kind::QuietEnd => link_named(stations, a, b, own),
+        Kind::Start => station_named(net.stations, a, b),
+        Kind::Stop => station_named(net.stations, a, b),
+        Kind::Recovery => station_named(net.stations, a, b),
+        Kind::IntervalEnd => link_named(net, a, b),
+        Kind::TimeoutEnd => link_named(net, a, b),
+        Kind::QuietEnd => link_named(net, a, b),
         Kind::Delivery => letter_named(flying, a, b),
         Kind::Loss => letter_named(flying, a, b),
     }
@@ -150,24 +191,13 @@ pub struct Names {
     pub subject: u8,
 }
 
-// low and high: the two ends of the letter's link; own: the links at the station a. A network would be 130 bytes to copy.
-// Promise: equals `Parts.names_from`: the station that the event concerns, whether there is what it names, its link and its letter's
-// subject, by definition; with the values of a well-formed state that is `Parts.names_by` of its network (`Named.names_are`).
-pub fn names_of(
-    stations: u8,
-    flying: u16,
-    kind: Kind,
-    a: u32,
-    b: u32,
-    letter: Letter,
-    low: u8,
-    high: u8,
-    own: u64,
-) -> Names
-    ensures { result ≡ names_from stations flying kind a b letter low high own }
+// Promise: equals `Parts.names_by`: the station that the event concerns, whether there is what it names, its link and its letter's subject,
+// by definition.
+pub fn names_of(net: Net, flying: u16, kind: Kind, a: u32, b: u32, letter: Letter) -> Names
+    ensures { result ≡ names_by net flying kind a b letter }
 {
-    let station = concerned(kind, a, letter, low, high);
-    let named = there(stations, flying, kind, a, b, own);
+    let station = concerned(net, kind, a, letter);
+    let named = there(net, flying, kind, a, b);
     let link = link_of(kind, b, letter);
     let subject = subject_of(letter);
     Names {

@@ -45,21 +45,6 @@ mul-x-3 c = omega (arith, place_within c)
 element-copy-out-x-3 : tie.Need-element-copy-out-x-3 I1 μ1 I2 μ2 I3 μ3 I4 μ4 I5 μ5
 element-copy-out-x-3 c = place_within c
 
-cast-k-2 : tie.Need-overflow-cast-k-2 I1 μ1 I2 μ2 I3 μ3 I4 μ4 I5 μ5
-cast-k-2 c = search rules
-
-element-copy-out-names-of : tie.Need-element-copy-out-names-of I1 μ1 I2 μ2 I3 μ3 I4 μ4 I5 μ5
-element-copy-out-names-of c = search rules
-
-element-copy-out-names-of-2 : tie.Need-element-copy-out-names-of-2 I1 μ1 I2 μ2 I3 μ3 I4 μ4 I5 μ5
-element-copy-out-names-of-2 c = search rules
-
-mul-names-of : tie.Need-overflow-mul-names-of I1 μ1 I2 μ2 I3 μ3 I4 μ4 I5 μ5
-mul-names-of c = omega arith
-
-array-read-names-of : tie.Need-array-read-names-of I1 μ1 I2 μ2 I3 μ3 I4 μ4 I5 μ5
-array-read-names-of c = omega arith
-
 names-of-requires : tie.Need-names-of-requires I1 μ1 I2 μ2 I3 μ3 I4 μ4 I5 μ5
 names-of-requires c κs = search rules
 
@@ -99,8 +84,8 @@ answer-by-requires c κs = search rules
 kept-table-requires : tie.Need-kept-table-requires I1 μ1 I2 μ2 I3 μ3 I4 μ4 I5 μ5
 kept-table-requires c κs = search rules
 
-mul-t126 : tie.Need-overflow-mul-t126 I1 μ1 I2 μ2 I3 μ3 I4 μ4 I5 μ5
-mul-t126 c = omega (arith, (names_within (names_at c.before.before.before)).station)
+mul-t111 : tie.Need-overflow-mul-t111 I1 μ1 I2 μ2 I3 μ3 I4 μ4 I5 μ5
+mul-t111 c = omega (arith, (names_within (names_at c.before.before.before)).station)
 
 element-set-from-s : tie.Need-element-set-from-s I1 μ1 I2 μ2 I3 μ3 I4 μ4 I5 μ5
 element-set-from-s c = (names_within (names_at c.before.before.before)).station
@@ -280,11 +265,6 @@ step_spec =
     place-of-requires
     mul-x-3
     element-copy-out-x-3
-    cast-k-2
-    element-copy-out-names-of
-    element-copy-out-names-of-2
-    mul-names-of
-    array-read-names-of
     names-of-requires
     cast-who
     mul-st-2
@@ -298,7 +278,7 @@ step_spec =
     room-of-requires
     answer-by-requires
     kept-table-requires
-    mul-t126
+    mul-t111
     element-set-from-s
     cast-last
     loop4-holds

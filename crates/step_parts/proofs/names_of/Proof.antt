@@ -1,4 +1,4 @@
-use Rattle.step_parts.specs.Parts.{names_from}
+use Rattle.step_parts.specs.Parts.{names_by}
 use borrow.Author.Rules.{rules}
 use Rattle.step_parts.proofs.names_of.Statement.{statement}
 use Rattle.step_parts.proofs.names_of.Tie as tie
@@ -16,7 +16,7 @@ subject-of-requires : tie.Need-subject-of-requires
 subject-of-requires c κs = search rules
 
 returns : tie.Need-returns
-unfolding names_from
+unfolding names_by
 returns c =
     λ i. record {
       station = c.before.before.before.concerned.ensures i;

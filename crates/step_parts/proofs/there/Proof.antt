@@ -1,6 +1,11 @@
+use Prim.Native.Nat.{ℕ}
+use mathlib.Core.Bool.{◌&&◌}
 use mathlib.Core.Path.{sym, ap, ◌∙◌}
+use lib.Dec.{eqb, ltb}
+use Rattle.net.specs.Values.{network_of}
+use Rattle.net.proofs.ValueLaws.{stations_of}
 use Rattle.station.specs.declared.Kind.{Kind}
-use Rattle.step_parts.specs.Parts.{exists_from}
+use Rattle.world.specs.World.{is_link_at, exists_as}
 use borrow.Author.Rules.{rules}
 use Rattle.step_parts.proofs.there.Statement.{statement}
 use Rattle.step_parts.proofs.there.Tie as tie
@@ -59,54 +64,54 @@ letter-named-requires-2 c κs = search rules
 returns : tie.Need-returns
 returns c =
     let a = c.before.before.args in
-    ap (λ (e : Kind). exists_from e a.stations a.flying a.a a.b a.own) (sym c.enum_told.given.1)
+    ap (λ (e : Kind). exists_as e (network_of a.net) a.flying a.a a.b) (sym c.enum_told.given.1)
 
 returns-2 : tie.Need-returns-2
 returns-2 c =
     let a = c.before.before.before.args in
-    c.station-named.ensures
-    ∙ ap (λ (e : Kind). exists_from e a.stations a.flying a.a a.b a.own) (sym c.before.enum-told2.given.1)
+    c.station-named.ensures ∙ ap (λ (n : ℕ). ltb a.a n && eqb a.b 0) (sym (stations_of a.net))
+    ∙ ap (λ (e : Kind). exists_as e (network_of a.net) a.flying a.a a.b) (sym c.before.enum-told2.given.1)
 
 returns-3 : tie.Need-returns-3
 returns-3 c =
     let a = c.before.before.before.args in
-    c.station-named2.ensures
-    ∙ ap (λ (e : Kind). exists_from e a.stations a.flying a.a a.b a.own) (sym c.before.enum-told3.given.1)
+    c.station-named2.ensures ∙ ap (λ (n : ℕ). ltb a.a n && eqb a.b 0) (sym (stations_of a.net))
+    ∙ ap (λ (e : Kind). exists_as e (network_of a.net) a.flying a.a a.b) (sym c.before.enum-told3.given.1)
 
 returns-4 : tie.Need-returns-4
 returns-4 c =
     let a = c.before.before.before.args in
-    c.station-named3.ensures
-    ∙ ap (λ (e : Kind). exists_from e a.stations a.flying a.a a.b a.own) (sym c.before.enum-told4.given.1)
+    c.station-named3.ensures ∙ ap (λ (n : ℕ). ltb a.a n && eqb a.b 0) (sym (stations_of a.net))
+    ∙ ap (λ (e : Kind). exists_as e (network_of a.net) a.flying a.a a.b) (sym c.before.enum-told4.given.1)
 
 returns-5 : tie.Need-returns-5
 returns-5 c =
     let a = c.before.before.before.args in
-    c.link-named.ensures
-    ∙ ap (λ (e : Kind). exists_from e a.stations a.flying a.a a.b a.own) (sym c.before.enum-told5.given.1)
+    c.link-named.ensures ∙ ap (λ (n : ℕ). ltb a.a n && is_link_at (network_of a.net) a.a a.b) (sym (stations_of a.net))
+    ∙ ap (λ (e : Kind). exists_as e (network_of a.net) a.flying a.a a.b) (sym c.before.enum-told5.given.1)
 
 returns-6 : tie.Need-returns-6
 returns-6 c =
     let a = c.before.before.before.args in
-    c.link-named2.ensures
-    ∙ ap (λ (e : Kind). exists_from e a.stations a.flying a.a a.b a.own) (sym c.before.enum-told6.given.1)
+    c.link-named2.ensures ∙ ap (λ (n : ℕ). ltb a.a n && is_link_at (network_of a.net) a.a a.b) (sym (stations_of a.net))
+    ∙ ap (λ (e : Kind). exists_as e (network_of a.net) a.flying a.a a.b) (sym c.before.enum-told6.given.1)
 
 returns-7 : tie.Need-returns-7
 returns-7 c =
     let a = c.before.before.before.args in
-    c.link-named3.ensures
-    ∙ ap (λ (e : Kind). exists_from e a.stations a.flying a.a a.b a.own) (sym c.before.enum-told7.given.1)
+    c.link-named3.ensures ∙ ap (λ (n : ℕ). ltb a.a n && is_link_at (network_of a.net) a.a a.b) (sym (stations_of a.net))
+    ∙ ap (λ (e : Kind). exists_as e (network_of a.net) a.flying a.a a.b) (sym c.before.enum-told7.given.1)
 
 returns-8 : tie.Need-returns-8
 returns-8 c =
     let a = c.before.before.before.args in
-    c.letter-named.ensures ∙ ap (λ (e : Kind). exists_from e a.stations a.flying a.a a.b a.own)
+    c.letter-named.ensures ∙ ap (λ (e : Kind). exists_as e (network_of a.net) a.flying a.a a.b)
     (sym c.before.enum-told8.given.1)
 
 returns-9 : tie.Need-returns-9
 returns-9 c =
     let a = c.before.before.before.args in
-    c.letter-named2.ensures ∙ ap (λ (e : Kind). exists_from e a.stations a.flying a.a a.b a.own)
+    c.letter-named2.ensures ∙ ap (λ (e : Kind). exists_as e (network_of a.net) a.flying a.a a.b)
     (sym c.before.enum-told9.given.1)
 
 pub there_spec : {M : Type 1} → statement M

@@ -20,7 +20,6 @@ use Rattle.state.proofs.Tested.{Placing, Gathering, Resting, all_seen, seen_size
 use Rattle.step_parts.specs.declared.Names.{Names}
 use Rattle.step_parts.specs.declared.Room.{Room}
 use Rattle.step_parts.proofs.Helpers.{place_few, Placed, placed}
-use Rattle.step_parts.proofs.Named.{names_are}
 use Rattle.step_parts.proofs.Made.{Facts, stored}
 use Rattle.step_parts.proofs.Loops.{with_station, Closing, Putting}
 use Rattle.step.proofs.step.Tie as tie
@@ -48,21 +47,21 @@ abbrev pub μ3 : tie.decreases-loop3
 -- ---- while the later letters close up, and while new letters are put at the end
 abbrev pub I4 : tie.invariant-loop4
 I4 kind a b s₀ flying framed placed used ways ended most least half first second rest carried good
-    place k asker me who plan told send count room answer last i₀ s i =
+    place me who plan told send count room answer last i₀ s i =
     Closing s₀ room.from last s i
 
 abbrev pub μ4 : tie.decreases-loop4
 μ4 kind a b s₀ flying framed placed used ways ended most least half first second rest carried good
-    place k asker me who plan told send count room answer last i₀ s i =
+    place me who plan told send count room answer last i₀ s i =
     last - i
 
 abbrev pub I5 : tie.invariant-loop5
 I5 kind a b s₀ flying framed placed used ways ended most least half first second rest carried good
-    place k asker me who plan told count room answer last free post₀ i₀ s post i = Putting s₀ me told last count post₀ s post i
+    place me who plan told count room answer last free post₀ i₀ s post i = Putting s₀ me told last count post₀ s post i
 
 abbrev pub μ5 : tie.decreases-loop5
 μ5 kind a b s₀ flying framed placed used ways ended most least half first second rest carried good
-    place k asker me who plan told count room answer last free post₀ i₀ s post i = count - i
+    place me who plan told count room answer last free post₀ i₀ s post i = count - i
 
 -- ---- the number that says no
 pub accepted : (good : Bool) (n r : ℕ) → r ≡ (if good then n else 11) → r ≡ 0 → (good ≡ true) × (n ≡ 0)
@@ -114,7 +113,7 @@ pub place_within : (c : tie.After-place-of I1 μ1 I2 μ2 I3 μ3 I4 μ4 I5 μ5) �
 place_within c = place_few (begun (stations_at c.before.before)).args.a c.place_of.result c.place_of.ensures
 
 pub names_within : (c : tie.After-names-of I1 μ1 I2 μ2 I3 μ3 I4 μ4 I5 μ5) → Placed c.names_of.result
-names_within c = placed _ _ _ _ _ _ _ _ _ _ c.names_of.ensures
+names_within c = placed _ _ _ _ _ _ _ c.names_of.ensures
 
 -- ---- the places of the code that have names, from the answer back: the table that is told, the plan, what the event names, the test
 abbrev pub Answered : Type 0
@@ -130,7 +129,7 @@ abbrev pub names_at : Answered → tie.After-names-of I1 μ1 I2 μ2 I3 μ3 I4 μ
 names_at c = (plan_at c).before.before
 
 abbrev place_at : Answered → tie.After-place-of I1 μ1 I2 μ2 I3 μ3 I4 μ4 I5 μ5
-place_at c = (names_at c).before.before.before.before.before
+place_at c = (names_at c).before.before
 
 abbrev pub test_at : Answered → Tested
 test_at c = (place_at c).before.before
@@ -168,8 +167,7 @@ facts c good =
         holds = is_T _ (sym seen.0 ∙ good);
         decodes = (place_at c).before.kind-of.ensures;
         at = (place_at c).place_of.ensures;
-        names = names_are _ seen.1 (is_T _ (sym seen.0 ∙ good)) _ _ refl owns.ensures _ _ _ _ (place_within (place_at c)) _
-            (names_at c).names_of.ensures;
+        names = (names_at c).names_of.ensures;
         mine = ap (λ (w : List ℕ). get_or w (me_of c) 0) owns.ensures ∙ own_word _ (me_of c) (names_within (names_at c)).station;
         plans = (plan_at c).plan-at.ensures.1;
       };

@@ -44,7 +44,7 @@ loop-less c = omega arith
 
 pub loop-again : tie.Need-loop-preserved I1 μ1 I2 μ2 I3 μ3 I4 μ4 I5 μ5
 loop-again c =
-    placing_more _ _ c.before.before.before.before.loop.invariant (omega arith) _ _ c.before.station_place_lem.ensures
+    placing_more _ _ c.before.before.before.before.before.loop.invariant (omega arith) _ _ c.before.station_place_lem.ensures
     c.both.ensures
 
 pub used-places-requires : tie.Need-used-places-requires I1 μ1 I2 μ2 I3 μ3 I4 μ4 I5 μ5
