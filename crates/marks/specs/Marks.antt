@@ -44,9 +44,9 @@ words_with w k m =
     }
 
 -- link k exists and s is an end of it
-abbrev pub field_own : Net → ℕ → ℕ → Bool
-field_own net s k = ltb k (link_count net) && is_end (network_of net) k s
+abbrev pub own_at : Net → ℕ → ℕ → Bool
+own_at net s k = ltb k (link_count net) && is_end (network_of net) k s
 
 -- each station's own links, at its place in the room of stations
 unfoldable pub own_words : Net → List ℕ
-own_words net = map (λ s. word_by (field_own net s)) (below station_room)
+own_words net = map (λ s. word_by (own_at net s)) (below station_room)
