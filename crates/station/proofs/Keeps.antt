@@ -101,8 +101,8 @@ module _ (net : Network) (s : ℕ) where
       own-one : T (every (own_link net s) (k ∷ []))
       own-one = and_i (own_link net s k) _ (own_is net s k l o) tt
 
-      is_live : T (busy (mark h k)) → T (is_live h.condition)
-      is_live t = busy_live h.condition (is_end net k s) (counter h k) (mark h k) slot t
+      is_live_lem : T (busy (mark h k)) → T (is_live h.condition)
+      is_live_lem t = busy_live h.condition (is_end net k s) (counter h k) (mark h k) slot t
 
       -- marks anew, by a rule that was tested at all of them
       remarked : (p : Marks → Bool) (g : Marks → Marks) → T (all_marks (λ m. implies (together m && p m) (together (g m))))
@@ -139,7 +139,7 @@ module _ (net : Network) (s : ℕ) where
           (λ e. kept (marked k (test_ended (mark h k)) h) [] (remarked (λ m. m.testing) test_ended tt v a) tt)
         where
           v : T (is_live h.condition)
-          v = is_live (rule (λ m. m.testing) busy tt (mark h k) a)
+          v = is_live_lem (rule (λ m. m.testing) busy tt (mark h k) a)
 
           c : ℕ
           c = timed_out (counter h k)
@@ -163,7 +163,7 @@ module _ (net : Network) (s : ℕ) where
       unfolding done_by
       spoken_keeps a =
           kept (marked k (set_quiet false (mark h k)) h) []
-          (remarked (λ m. m.quiet) (set_quiet false) tt (is_live (rule (λ m. m.quiet) busy tt (mark h k) a)) a) tt
+          (remarked (λ m. m.quiet) (set_quiet false) tt (is_live_lem (rule (λ m. m.quiet) busy tt (mark h k) a)) a) tt
 
       -- ---- 7. what a letter does at a live station
       module _ (v : T (is_live h.condition)) where
