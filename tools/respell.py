@@ -2,6 +2,7 @@
 """Brings the names of this repository's definitions and lemmas to today's spelling: words in snake case, types and facts in camel case.
 
 usage: python3 tools/respell.py [--list]     at the top of the repository, once, after the kit's port.py; --list changes nothing
+       python3 tools/respell.py --inner FILE..     of these files alone the names that only they know
 
 Renamed are the names that the .antt files of specs/ and proofs/ declare, wherever those files, the clauses of src/, the must-fail edits and
 the pages of docs/ cite them. Goals of a function's proof, and functions, types, fields, strings, inputs and outputs of src/ keep their names.
@@ -200,6 +201,16 @@ def turn_edit(text, names):
     return "\n".join(out)
 
 
+def inner(text):
+    """The names that stand deeper inside a file, as a lemma of a `module _`, and are known in it alone."""
+    here = set(TOKEN.findall(text))
+    found = {}
+    for m in re.finditer(r"(?m)^\s{3,}(?:pub )?([a-z][A-Za-z0-9']*(?:-[A-Za-z0-9']+)+) :", text):
+        new = snake(m.group(1))
+        found[m.group(1)] = new + "_lem" if new in here else new
+    return TOKEN.sub(lambda t: found.get(t.group(0), t.group(0)), text) if found else text
+
+
 def head_of(text):
     """`#![tactic(auto)]` above the first item, below the comment that says what the crate is."""
     if "#![tactic(auto)]" in text:
@@ -213,6 +224,10 @@ def head_of(text):
 
 def main(argv):
     root = "."
+    if argv[:1] == ["--inner"]:
+        for p in argv[1:]:
+            write(p, inner(read(p)))
+        return 0
     names, here, plain = table(root)
     PLAIN.update(plain)
     if "--list" in argv:
@@ -223,7 +238,8 @@ def main(argv):
     for p in texts(root, ".antt"):
         text = read(p)
         mine = set(here[p]) | own_imports(root, text)
-        write(p, turn_antt(text, names, both, mine))
+        text = turn_antt(text, names, both, mine)
+        write(p, text if of_a_function(p) else inner(text))
     for p in texts(root, ".rt"):
         text = turn_source(read(p), names)
         text = text.replace("#[derive(Drop)]", "#[derive(Clone, Copy)]")

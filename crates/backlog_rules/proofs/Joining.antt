@@ -174,12 +174,12 @@ module _ (s : State) (t : Tally) (xs ys : List ℕ) where
 
   -- as in a list of whole events
   pub stopped_whole : (n : ℕ) → length xs ≡ 3 * n → ((calls s t xs).answer ≡ 0 → ⊥) → calls s t (xs ++ ys) ≡ calls s t xs
-  stopped_whole n l z = stopped (at-event (ended s t xs))
+  stopped_whole n l z = stopped (at_event (ended s t xs))
     where
-      at-event : Ended (calls s t xs) (length xs) → 3 * (calls s t xs).taken + 3 ≤ length xs
-      at-event (whole q e) = absurd (z q)
-      at-event (refused q h) = h
-      at-event (over q h k) = omega arith
+      at_event : Ended (calls s t xs) (length xs) → 3 * (calls s t xs).taken + 3 ≤ length xs
+      at_event (whole q e) = absurd (z q)
+      at_event (refused q h) = h
+      at_event (over q h k) = omega arith
 
   -- and so for the call, whatever the state
   pub backlog_stopped : (n : ℕ) → length xs ≡ 3 * n → ((backlog_of s t xs).answer ≡ 0 → ⊥) → backlog_of s t (xs ++ ys) ≡ backlog_of s t xs

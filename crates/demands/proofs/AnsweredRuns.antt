@@ -155,18 +155,18 @@ module _ (before : Tally) (s : State) (events old : List ℕ) (c : RunsAnswered 
     written : said ≡ writes (turns s before events)
     written = run_writes s before events old given.0 given.1
 
-    run-state : c.answer.state ≡ last_state s events
-    run-state = ap (λ (r : Answered). r.state) c.promise ∙ ap (λ (w : Writing). (answered_by w s before events).state) written
+    run_state : c.answer.state ≡ last_state s events
+    run_state = ap (λ (r : Answered). r.state) c.promise ∙ ap (λ (w : Writing). (answered_by w s before events).state) written
 
     run_tally : c.tally ≡ last_tally s before events
     run_tally = c.promise_tally ∙ ap (λ (w : Writing). (answered_by w s before events).tally) written
 
-    run-trace : c.trace ≡ onto (turns s before events) old
-    run-trace = c.promise_trace ∙ ap (λ (w : Writing). writing_output w old) written
+    run_trace : c.trace ≡ onto (turns s before events) old
+    run_trace = c.promise_trace ∙ ap (λ (w : Writing). writing_output w old) written
 
     parts : (take (trace_size events) c.trace ≡ turns s before events)
         × (drop (trace_size events) c.trace ≡ drop (trace_size events) old)
-    parts = first_bytes old c.trace (turns s before events) (trace_size events) run-trace (sym (long s before events old))
+    parts = first_bytes old c.trace (turns s before events) (trace_size events) run_trace (sym (long s before events old))
 
     -- A LONGER TRACE KEEPS ITS TAIL
     pub run_tail : drop (trace_size events) c.trace ≡ drop (trace_size events) old
@@ -179,7 +179,7 @@ module _ (before : Tally) (s : State) (events old : List ℕ) (c : RunsAnswered 
       -- THE CALLS ONE BY ONE, over all events: what they leave in the trace, the state and the tally
       pub run_exact : Answers s before es (take (trace_size events) c.trace) c.answer.state c.tally
       run_exact =
-          transport (λ i. Answers s before es (sym parts.0 i) (sym run-state i) (sym run_tally i)) (answers s before events run_good)
+          transport (λ i. Answers s before es (sym parts.0 i) (sym run_state i) (sym run_tally i)) (answers s before events run_good)
 
       -- a run of calls, all lent the same tally
       pub run_calls : LentCalls s before es c.answer.state c.tally
@@ -200,7 +200,7 @@ module _ (before : Tally) (s : State) (events old : List ℕ) (c : RunsAnswered 
           let is : Answers s before (ds ++ (e ∷ fs)) (turns s before events) (last_state s events) (last_tally s before events)
           = subst (λ (l : List Event). Answers s before l (turns s before events) (last_state s events) (last_tally s before events)) p
           (answers s before events run_good) in
-          ap (λ (l : List ℕ). take 3 (drop (3 * length ds) l)) run-trace
+          ap (λ (l : List ℕ). take 3 (drop (3 * length ds) l)) run_trace
           ∙ answers_told ds fs e (drop (length (turns s before events)) old) is run_good
           ∙ ap (λ (x : Tally). refusal (run w ds) e ∷ length (run w (ds ++ (e ∷ []))).letters ∷ x.settled ∷ [])
           (Tallies.tally_is_history before w (ds ++ (e ∷ [])) f)
@@ -225,7 +225,7 @@ module _ (before : Tally) (s : State) (events old : List ℕ) (c : RunsAnswered 
     run_as_backlog b z =
         let e : _ = good_state s before events given.0 in
         let same = as_backlog s before events (ap (λ (r : Taken). r.answer) (sym (b.promise ∙ e)) ∙ z) in (
-          run-state ∙ same.0 ∙ ap (λ (r : Taken). r.state) (sym (b.promise ∙ e)),
+          run_state ∙ same.0 ∙ ap (λ (r : Taken). r.state) (sym (b.promise ∙ e)),
           run_tally ∙ same.1 ∙ ap (λ (r : Taken). r.tally) (sym e) ∙ sym b.promise_tally,
         )
 
@@ -266,24 +266,24 @@ module _ (before : Tally) (s : State) (xs ys old : List ℕ) (n : ℕ) (l : leng
 
   same_state : b.answer.state ≡ d.answer.state
   same_state =
-      run-state before s (xs ++ ys) old b zero ∙ both.state ∙ ap (λ (u : State). last_state u ys) (sym (run-state before s xs old c q))
-      ∙ sym (run-state c.tally c.answer.state ys (drop (3 * n) c.trace) d p)
+      run_state before s (xs ++ ys) old b zero ∙ both.state ∙ ap (λ (u : State). last_state u ys) (sym (run_state before s xs old c q))
+      ∙ sym (run_state c.tally c.answer.state ys (drop (3 * n) c.trace) d p)
 
   same_tally : b.tally ≡ d.tally
   same_tally =
       run_tally before s (xs ++ ys) old b zero ∙ both.tally
-      ∙ ap₂ (λ (u : State) (v : Tally). last_tally u v ys) (sym (run-state before s xs old c q)) (sym (run_tally before s xs old c q))
+      ∙ ap₂ (λ (u : State) (v : Tally). last_tally u v ys) (sym (run_state before s xs old c q)) (sym (run_tally before s xs old c q))
       ∙ sym (run_tally c.tally c.answer.state ys (drop (3 * n) c.trace) d p)
 
   same_trace : b.trace ≡ take (3 * n) c.trace ++ d.trace
   same_trace =
-      let first = run-trace before s xs old c q in
-      run-trace before s (xs ++ ys) old b zero ∙ ap (λ (k : List ℕ). onto k old) both.trace
+      let first = run_trace before s xs old c q in
+      run_trace before s (xs ++ ys) old b zero ∙ ap (λ (k : List ℕ). onto k old) both.trace
       ∙ sym (onto_more (turns s before xs) (turns (last_state s xs) (last_tally s before xs) ys) old (3 * n) (long s before xs old ∙ size))
-      ∙ (λ i. take (3 * n) (sym first i) ++ onto (turns (sym (run-state before s xs old c q) i) (sym (run_tally before s xs old c q) i) ys)
+      ∙ (λ i. take (3 * n) (sym first i) ++ onto (turns (sym (run_state before s xs old c q) i) (sym (run_tally before s xs old c q) i) ys)
       (drop (3 * n) (sym first i)))
       ∙ ap (λ (k : List ℕ). take (3 * n) c.trace ++ k)
-      (sym (run-trace c.tally c.answer.state ys (drop (3 * n) c.trace) d p))
+      (sym (run_trace c.tally c.answer.state ys (drop (3 * n) c.trace) d p))
 
   pub run_joined : (b.answer ≡ d.answer) × ((b.tally ≡ d.tally) × (b.trace ≡ take (3 * n) c.trace ++ d.trace))
   run_joined =

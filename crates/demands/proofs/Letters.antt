@@ -121,8 +121,8 @@ module _ (net : Network) where
     abbrev a : Bool
     a = ltb k (length net.links)
 
-    range-told : T (values_hold net k s b) → InRange net k s b
-    range-told t =
+    range_told : T (values_hold net k s b) → InRange net k s b
+    range_told t =
         let u = and_l (a && leb s 1) _ t in
         record {
           link_exists = ltb→lt k (length net.links) (and_l a _ u);
@@ -130,8 +130,8 @@ module _ (net : Network) where
           body_is = body_told b (and_r (a && leb s 1) _ t);
         }
 
-    range-when : Small b → InRange net k s b → T (values_hold net k s b)
-    range-when z r =
+    range_when : Small b → InRange net k s b → T (values_hold net k s b)
+    range_when z r =
         and_i (a && leb s 1) _ (and_i a _ (lt→ltb k (length net.links) r.link_exists) (le→leb s 1 r.side_is))
         (body_when b z r.body_is)
 
@@ -143,42 +143,42 @@ module _ (net : Network) where
       (parts_bytes (tag ∷ length v / 256 ∷ length v % 256 ∷ []) v w).1
 
   module _ (bytes : List ℕ) (w : T (are_bytes bytes)) where
-    fault-told : {n : ℕ} (f : Field) → first_field bytes ≡ f → R.Fault net f n → LetterFault net bytes n
-    fault-told f e R.cut_off = W.one (short_ends bytes e)
-    fault-told f e (R.unfit {t} {v} {rest} p q r) =
+    fault_told : {n : ℕ} (f : Field) → first_field bytes ≡ f → R.Fault net f n → LetterFault net bytes n
+    fault_told f e R.cut_off = W.one (short_ends bytes e)
+    fault_told f e (R.unfit {t} {v} {rest} p q r) =
         W.two t v rest (cut_front bytes w e) (field_no 33 2 t v p) (field_no 34 4 t v q) (field_no 35 5 t v r)
-    fault-told f e (R.no_value {t} {v} {rest} b g h) =
+    fault_told f e (R.no_value {t} {v} {rest} b g h) =
         let i = cut_front bytes w e in
         let c = form_told t v b g in
         W.three t v rest (get_or v 0 0) (get_or v 1 0) b i c
         (λ r. no_test (values_hold net (get_or v 0 0) (get_or v 1 0) b) h
-        (range-when (get_or v 0 0) (get_or v 1 0) b ((form_when c).small (value_bytes t v rest bytes w i)) r))
-    fault-told f e (R.trailing {t} {v} {rest} b g h m) =
+        (range_when (get_or v 0 0) (get_or v 1 0) b ((form_when c).small (value_bytes t v rest bytes w i)) r))
+    fault_told f e (R.trailing {t} {v} {rest} b g h m) =
         W.after t v rest (get_or v 0 0) (get_or v 1 0) b (cut_front bytes w e) (form_told t v b g)
-        (range-told (get_or v 0 0) (get_or v 1 0) b (is_T (values_hold net (get_or v 0 0) (get_or v 1 0) b) h))
+        (range_told (get_or v 0 0) (get_or v 1 0) b (is_T (values_hold net (get_or v 0 0) (get_or v 1 0) b) h))
         (λ q. no_test (is_empty rest) m (subst⁻¹ (λ (l : List ℕ). T (is_empty l)) q tt))
 
-    is-empty : (l : List ℕ) → (l ≡ [] → ⊥) → is_empty l ≡ false
-    is-empty [] f = absurd (f refl)
-    is-empty (x ∷ l) f = refl
+    is_empty_lem : (l : List ℕ) → (l ≡ [] → ⊥) → is_empty l ≡ false
+    is_empty_lem [] f = absurd (f refl)
+    is_empty_lem (x ∷ l) f = refl
 
-    fault-when : {n : ℕ} → LetterFault net bytes n → R.Fault net (first_field bytes) n
-    fault-when (W.one e) = subst⁻¹ (λ (f : Field). R.Fault net f 1) (ends_short e) R.cut_off
-    fault-when (W.two t v rest e p q r) =
+    fault_when : {n : ℕ} → LetterFault net bytes n → R.Fault net (first_field bytes) n
+    fault_when (W.one e) = subst⁻¹ (λ (f : Field). R.Fault net f 1) (ends_short e) R.cut_off
+    fault_when (W.two t v rest e p q r) =
         subst⁻¹ (λ (f : Field). R.Fault net f 2) (front_cut e) (R.unfit (no_field 33 2 t v p) (no_field 34 4 t v q) (no_field 35 5 t v r))
-    fault-when (W.three t v rest k s b e c n) =
+    fault_when (W.three t v rest k s b e c n) =
         let f = form_when c in
         subst⁻¹ (λ (f : Field). R.Fault net f 3) (front_cut e)
         (R.no_value b f.form (test_no (values_hold net (get_or v 0 0) (get_or v 1 0) b)
-        (λ t. n (range-told k s b (subst (λ (y : ℕ). T (values_hold net k y b)) f.side
+        (λ t. n (range_told k s b (subst (λ (y : ℕ). T (values_hold net k y b)) f.side
         (subst (λ (x : ℕ). T (values_hold net x (get_or v 1 0) b)) f.link t))))))
-    fault-when (W.after t v rest k s b e c r n) =
+    fault_when (W.after t v rest k s b e c r n) =
         let f = form_when c in
-        let u = range-when k s b (f.small (value_bytes t v rest bytes w e)) r in
+        let u = range_when k s b (f.small (value_bytes t v rest bytes w e)) r in
         subst⁻¹ (λ (f : Field). R.Fault net f 2) (front_cut e)
         (R.trailing b f.form (T_is (values_hold net (get_or v 0 0) (get_or v 1 0) b)
         (subst⁻¹ (λ (x : ℕ). T (values_hold net x (get_or v 1 0) b)) f.link (subst⁻¹ (λ (y : ℕ). T (values_hold net k y b)) f.side u)))
-        (is-empty rest n))
+        (is_empty_lem rest n))
 
 -- ---- the whole letter
 module _ (net : Net) (bytes : List ℕ) (w : T (are_bytes bytes)) where
@@ -195,13 +195,13 @@ module _ (net : Net) (bytes : List ℕ) (w : T (are_bytes bytes)) where
     where
       told : {n : ℕ} → R.Refused net bytes n → LetterRead net bytes n
       told (R.bad_network p) = W.eleven (subst⁻¹ (λ (b : Bool). T (not b)) p tt)
-      told (R.at_field p f) = W.at_field (is_T _ p) (fault-told (network_of net) bytes w (first_field bytes) refl f)
+      told (R.at_field p f) = W.at_field (is_T _ p) (fault_told (network_of net) bytes w (first_field bytes) refl f)
   read_why (L.letter x) e = W.taken (was_good x e) x (read_travels net x bytes e) (read_written net x bytes w e)
 
   why_read : {n : ℕ} → LetterRead net bytes n → letters_number (reading net bytes) ≡ n
   why_read (W.eleven p) = ap letters_number (R.refused_when net bytes 11 (R.bad_network (T_not_is _ p)))
   why_read {n} (W.at_field p f) =
-      ap letters_number (R.refused_when net bytes n (R.at_field (T_is _ p) (fault-when (network_of net) bytes w f)))
+      ap letters_number (R.refused_when net bytes n (R.at_field (T_is _ p) (fault_when (network_of net) bytes w f)))
   why_read (W.taken g x h e) = ap (λ (l : List ℕ). letters_number (reading net l)) e ∙ ap letters_number (written_read net x g h)
 
   -- EACH NUMBER WHEN, AND ONLY WHEN, ITS REASON STANDS: for every answer that the reading's promise allows

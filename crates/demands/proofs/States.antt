@@ -68,9 +68,9 @@ module _ (net : Net) where
         ((λ q. subst (Fresh net) (sym e ∙ q) fresh_why), (λ w. e ∙ why_fresh w))
 
     -- a bad network gives no state: the one beside 11 is not well formed, so that every call refuses it with 11
-    unread-bad : BadNet net → BadState (unread net)
+    unread_bad : BadNet net → BadState (unread net)
     unfolding state_holds unread
-    unread-bad q =
+    unread_bad q =
         bad (ap (λ (b : Bool). (b && leb 0 letter_room) && (stations_hold (unread net) && letters_hold (unread net)))
         (T_not_is (net_holds net) q))
 
@@ -78,7 +78,7 @@ module _ (net : Net) where
     fresh_none h = go fresh_why (λ z. h (ap (λ (b : Begun). b.answer) p ∙ z))
       where
         go : {n : ℕ} → Fresh net n → (n ≡ 0 → ⊥) → BadState r.state
-        go (W.eleven q) h = subst⁻¹ BadState (ap (λ (b : Begun). b.state) (p ∙ begun_bad q)) (unread-bad q)
+        go (W.eleven q) h = subst⁻¹ BadState (ap (λ (b : Begun). b.state) (p ∙ begun_bad q)) (unread_bad q)
         go (W.taken q) h = absurd (h refl)
 
 -- ---- the step
@@ -168,10 +168,10 @@ module _ (s : State) (a : ℕ) where
       ap (λ (x : Asked). x.reached) p ∙ simp c
 
   module _ (old : List ℕ) where
-    report-told : {n : ℕ} → Told.ReportWhy s a old n → Report s a old n
-    report-told (Told.given k h) = W.taken k.good k.station k.live h
-    report-told (Told.ten k h) = W.ten k.good k.station k.live h
-    report-told (Told.refused x p) = go x p
+    report_told : {n : ℕ} → Told.ReportWhy s a old n → Report s a old n
+    report_told (Told.given k h) = W.taken k.good k.station k.live h
+    report_told (Told.ten k h) = W.ten k.good k.station k.live h
+    report_told (Told.refused x p) = go x p
       where
         go : {n : ℕ} → Ask.Why s a n → (n ≡ 0 → ⊥) → Report s a old n
         go (Ask.none k) p = absurd (p refl)
@@ -179,19 +179,19 @@ module _ (s : State) (a : ℕ) where
         go (Ask.six g h) p = W.six g h
         go (Ask.seven g h x) p = W.seven g h x
 
-    told-report : {n : ℕ} → Report s a old n → Told.ReportWhy s a old n
-    told-report (W.eleven x) = Told.refused (Ask.eleven x) (λ z. omega arith)
-    told-report (W.six g h) = Told.refused (Ask.six g h) (λ z. omega arith)
-    told-report (W.seven g h x) = Told.refused (Ask.seven g h x) (λ z. omega arith)
-    told-report (W.ten g h x l) = Told.ten (record { good = g; station = h; live = x }) l
-    told-report (W.taken g h x l) = Told.given (record { good = g; station = h; live = x }) l
+    told_report : {n : ℕ} → Report s a old n → Told.ReportWhy s a old n
+    told_report (W.eleven x) = Told.refused (Ask.eleven x) (λ z. omega arith)
+    told_report (W.six g h) = Told.refused (Ask.six g h) (λ z. omega arith)
+    told_report (W.seven g h x) = Told.refused (Ask.seven g h x) (λ z. omega arith)
+    told_report (W.ten g h x l) = Told.ten (record { good = g; station = h; live = x }) l
+    told_report (W.taken g h x l) = Told.given (record { good = g; station = h; live = x }) l
 
     module _ (r : ℕ) (p : r ≡ answer_of s a old) where
       pub report_numbers : (n : ℕ) → (r ≡ n) ↔ Report s a old n
       report_numbers n = (
-        (λ q. subst (Report s a old) (sym p ∙ q) (report-told (Told.report_why s a old))),
+        (λ q. subst (Report s a old) (sym p ∙ q) (report_told (Told.report_why s a old))),
         (λ w. p
-            ∙ Told.why_report s a old (told-report w)),
+            ∙ Told.why_report s a old (told_report w)),
       )
 
       pub report_keeps : (out : List ℕ) → out ≡ output_of s a old → (r ≡ 0 → ⊥) → out ≡ old

@@ -116,21 +116,21 @@ module _ (net : Net) (old : List ℕ) where
         accepted : GoodNet net × (SheetValues.writing net old ≡ writes sheet_bytes)
         accepted = taken_as ((sheet_write_numbers 0).0 (ap S.wrote_number b)) refl
 
-        sheet-parts : (take n out ≡ sheet_bytes) × (drop n out ≡ drop n old)
-        sheet-parts =
+        sheet_parts : (take n out ≡ sheet_bytes) × (drop n out ≡ drop n old)
+        sheet_parts =
             written_bytes old out (SheetValues.writing net old) sheet_bytes n accepted.1 (sym (ap SheetValues.wrote_numbers b) ∙ p) o
 
         -- WHAT IS WRITTEN, and the old tail
         pub sheet_bytes_lem : take n out ≡ sheet_bytes
-        sheet_bytes_lem = sheet-parts.0
+        sheet_bytes_lem = sheet_parts.0
 
         pub sheet_tail : drop n out ≡ drop n old
-        sheet_tail = sheet-parts.1
+        sheet_tail = sheet_parts.1
 
         -- READ BACK: the first n bytes of the output read to the network that was given
         pub sheet_back : Ends64 net → (q : Reading) → Says q (read_sheet (take n out)) → (q.answer ≡ SheetAnswer.Good) × (q.net ≡ net)
         sheet_back d q w =
-            value_read q net accepted.0 d.low d.high (subst (λ (l : List ℕ). Says q (read_sheet l)) sheet-parts.0 w)
+            value_read q net accepted.0 d.low d.high (subst (λ (l : List ℕ). Says q (read_sheet l)) sheet_parts.0 w)
 
 -- TAKEN: the network beside the answer is a good one, and the bytes are its sheet
 pub sheet_taken : (bytes : List ℕ) → T (are_bytes bytes) → (r : Reading) → Says r (read_sheet bytes) → SheetValues.number_of r.answer ≡ 0
@@ -210,26 +210,26 @@ module _ (net : Net) (x : Letter) (old : List ℕ) where
       letter_write_keeps h = refused_stays old out (LetterValues.writing net x old) o (λ z. h (ap (λ (l : List ℕ). get_or l 0 0) p ∙ z))
 
       module _ (n : ℕ) (b : r ≡ letterWrote.Bytes n) where
-        letter-accepted : GoodNet net × (GoodLetter net x × (LetterValues.writing net x old ≡ writes letter_bytes))
-        letter-accepted = letter_as ((letter_write_numbers 0).0 (ap L.wrote_number b)) refl
+        letter_accepted : GoodNet net × (GoodLetter net x × (LetterValues.writing net x old ≡ writes letter_bytes))
+        letter_accepted = letter_as ((letter_write_numbers 0).0 (ap L.wrote_number b)) refl
 
-        letter-parts : (take n out ≡ letter_bytes) × (drop n out ≡ drop n old)
-        letter-parts =
-            written_bytes old out (LetterValues.writing net x old) letter_bytes n letter-accepted.1.1
+        letter_parts : (take n out ≡ letter_bytes) × (drop n out ≡ drop n old)
+        letter_parts =
+            written_bytes old out (LetterValues.writing net x old) letter_bytes n letter_accepted.1.1
             (sym (ap LetterValues.wrote_numbers b) ∙ p) o
 
         -- WHAT IS WRITTEN, and the old tail
         pub letter_bytes_lem : take n out ≡ letter_bytes
-        letter_bytes_lem = letter-parts.0
+        letter_bytes_lem = letter_parts.0
 
         pub letter_tail : drop n out ≡ drop n old
-        letter_tail = letter-parts.1
+        letter_tail = letter_parts.1
 
         -- READ BACK: the first n bytes of the output read to the letter that was given
         pub letter_back : (q : Answer) → letters_of q ≡ reading net (take n out) → q ≡ answer.Good x
         letter_back q w =
             LetterRefusals.one_answer q (answer.Good x)
-            (w ∙ ap (reading net) letter-parts.0 ∙ written_read net x letter-accepted.0 letter-accepted.1.0)
+            (w ∙ ap (reading net) letter_parts.0 ∙ written_read net x letter_accepted.0 letter_accepted.1.0)
 
 -- TAKEN: it is a letter of that network, and the bytes are its writing
 pub letter_taken : (net : Net) (bytes : List ℕ) → T (are_bytes bytes) → (x : Letter) → letters_of (answer.Good x) ≡ reading net bytes

@@ -134,17 +134,17 @@ module _ {S : Type 0} (world_of : S → World) (Lent : S → Tally → Event →
 
   module _ (Fit : S → Type 0) (promise : (s : S) (x : Tally) (e : Event) (t : S) (y : Tally) → Fit s → Lent s x e t y
       → IsLentStep Fit s x e t y) where
-    lent-after : {s u : S} {x y : Tally} {es : List Event} → Fit s → LentCalls s x es u y → y ≡ tally_after x (world_of s) es
+    lent_after : {s u : S} {x y : Tally} {es : List Event} → Fit s → LentCalls s x es u y → y ≡ tally_after x (world_of s) es
     unfolding tally_after
-    lent-after f none = refl
-    lent-after f (more {s = s} {t = t} {x = x} {y = y} {e = e} {es = es} c r) =
+    lent_after f none = refl
+    lent_after f (more {s = s} {t = t} {x = x} {y = y} {e = e} {es = es} c r) =
         let p = promise s x e t y f c in
-        lent-after p.fit r ∙ ap₂ (λ (z : Tally) (w : World). tally_after z w es) p.tally p.world
+        lent_after p.fit r ∙ ap₂ (λ (z : Tally) (w : World). tally_after z w es) p.tally p.world
 
     -- the tally after the run: the one lent, with the history's counts added, each staying at its largest value
     pub lent_history : {s u : S} {x y : Tally} {es : List Event} → Fit s → Fits x → LentCalls s x es u y
         → y ≡ tallied x (ever_counted (world_of s) es)
-    lent_history {s} {x = x} {es = es} f g r = lent-after f r ∙ tally_is_history x (world_of s) es g
+    lent_history {s} {x = x} {es = es} f g r = lent_after f r ∙ tally_is_history x (world_of s) es g
 
     pub lent_world : {s u : S} {x y : Tally} {es : List Event} → Fit s → LentCalls s x es u y → world_of u ≡ run (world_of s) es
     unfolding run

@@ -116,11 +116,11 @@ module _ (site : Site) (w : World) (f : Fits site w) (a : ℕ) (h : a < length w
     posted : Posted w (letter_at w a)
     posted = at_posted w f.ok a h
 
-    subject-real : j < length w.net.links
-    subject-real = ltb→lt j _ (and_l (ltb j (length w.net.links)) _ (subst (λ (b : Body). T (body_holds w.net b)) q posted.body))
+    subject_real : j < length w.net.links
+    subject_real = ltb→lt j _ (and_l (ltb j (length w.net.links)) _ (subst (λ (b : Body). T (body_holds w.net b)) q posted.body))
 
-    in-holdings : r < length w.holdings
-    in-holdings = subst⁻¹ (λ (n : ℕ). receiver_in w.net (letter_at w a) < n) f.ok.count posted.real
+    in_holdings : r < length w.holdings
+    in_holdings = subst⁻¹ (λ (n : ℕ). receiver_in w.net (letter_at w a) < n) f.ok.count posted.real
 
     -- the notice is taken off, and no holding changes
     gone : (hs : List Holding) → hs ≡ w.holdings
@@ -155,9 +155,9 @@ module _ (site : Site) (w : World) (f : Fits site w) (a : ℕ) (h : a < length w
         was = was;
         now = now d.sent;
         station = subst (λ (n : ℕ). receiver_in w.net (letter_at w a) < n) f.stations posted.real;
-        link = subst (λ (n : ℕ). j < n) f.links subject-real;
+        link = subst (λ (n : ℕ). j < n) f.links subject_real;
         newer = t.newer;
-        takes = ap (λ (g : Holding). counter g j) (get_or-set_same w.holdings r d.holding nobody in-holdings) ∙ t.takes;
+        takes = ap (λ (g : Holding). counter g j) (get_or-set_same w.holdings r d.holding nobody in_holdings) ∙ t.takes;
         others = λ s i z. others s i z (ℕ_discrete s r);
         few = subst⁻¹ (λ (n : ℕ). n ≤ site.weight r) (copies_length w.net j c d.sent sp.alike)
             (le_trans (subst⁻¹ (λ (n : ℕ). length d.sent ≤ n - 1) (neighbours_count w.net f.ok.sheet r) sp.few)
@@ -170,7 +170,7 @@ module _ (site : Site) (w : World) (f : Fits site w) (a : ℕ) (h : a < length w
         others : (s i : ℕ) → ((s ≡ r) × (i ≡ j) → ⊥) → Dec (s ≡ r)
             → counter (get_or (set w.holdings r d.holding) s nobody) i ≡ counter (holding_at w s) i
         others s i z (yes e) =
-            rw e (ap (λ (g : Holding). counter g i) (get_or-set_same w.holdings r d.holding nobody in-holdings)
+            rw e (ap (λ (g : Holding). counter g i) (get_or-set_same w.holdings r d.holding nobody in_holdings)
             ∙ t.others i (λ p. z (e, p)))
         others s i z (no e) = ap (λ (g : Holding). counter g i) (get_or-set_other w.holdings r s d.holding nobody e)
 
@@ -189,7 +189,7 @@ module _ (site : Site) (w : World) (f : Fits site w) (a : ℕ) (h : a < length w
         go true true p u =
             let t = passed (heard (letter_at w a) here) p in
             kept (received w.net r (letter_at w a) here) (and_l (is_live here.condition) _ t)
-            (notice_takes w.net r here (letter_at w a) (f.ok.each r posted.real) j c q subject-real t (passed _ u))
+            (notice_takes w.net r here (letter_at w a) (f.ok.each r posted.real) j c q subject_real t (passed _ u))
             (notice_spreads w.net r here (letter_at w a) posted.link posted.end j c q)
 
     -- the other stations stay as they are
@@ -198,7 +198,7 @@ module _ (site : Site) (w : World) (f : Fits site w) (a : ℕ) (h : a < length w
     conditions d e s = go (ℕ_discrete s r)
       where
         go : Dec (s ≡ r) → (get_or (set w.holdings r d.holding) s nobody).condition ≡ (holding_at w s).condition
-        go (yes p) = rw (p, get_or-set_same w.holdings r d.holding nobody in-holdings) e
+        go (yes p) = rw (p, get_or-set_same w.holdings r d.holding nobody in_holdings) e
         go (no p) = ap (λ (g : Holding). g.condition) (get_or-set_other w.holdings r s d.holding nobody p)
 
 -- ---- an accepted event that takes off a notice

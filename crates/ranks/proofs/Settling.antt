@@ -75,8 +75,8 @@ module _ (site : Site) (top : ℕ → ℕ) where
       }
 
   module _ (F G : Flood) (u : Under site top F) (c : Taken site F G) where
-    it-under : c.it.rank ≤ top c.it.subject
-    it-under = u.notices c.it (rw c.was (in_middle c.it c.before c.after))
+    it_under : c.it.rank ≤ top c.it.subject
+    it_under = u.notices c.it (rw c.was (in_middle c.it c.before c.after))
 
     -- its receiver comes nearer by one at least
     nearer : distance site top G c.it.receiver + 1 ≤ distance site top F c.it.receiver
@@ -85,12 +85,12 @@ module _ (site : Site) (top : ℕ → ℕ) where
         sum_less (λ k. top k - F.rank c.it.receiver k) (λ k. top k - G.rank c.it.receiver k) 1 c.it.subject site.links
         c.link
         (λ j p. omega (arith, taken_rises c c.it.receiver j))
-        (omega (arith, c.takes, c.newer, it-under))
+        (omega (arith, c.takes, c.newer, it_under))
 
     -- so its share falls by its weight, which pays for the copies
-    share-less : share site top G c.it.receiver + site.weight c.it.receiver ≤ share site top F c.it.receiver
+    share_less : share site top G c.it.receiver + site.weight c.it.receiver ≤ share site top F c.it.receiver
     unfolding share
-    share-less =
+    share_less =
         omega (
           arith,
           mul-le-mul_left (site.weight c.it.receiver) nearer,
@@ -98,25 +98,25 @@ module _ (site : Site) (top : ℕ → ℕ) where
           mul-one (site.weight c.it.receiver),
         )
 
-    taken-pays : Pays site top F 1 G
+    taken_pays : Pays site top F 1 G
     unfolding potential
-    taken-pays = record {
+    taken_pays = record {
       paid = omega (
         arith,
         sum_less (share site top F) (share site top G) (site.weight c.it.receiver) c.it.receiver site.stations c.station
-            (λ j p. share_le F G (taken_rises c) j) share-less,
+            (λ j p. share_le F G (taken_rises c) j) share_less,
         c.few,
         taken_flying c,
       );
       rises = taken_rises c;
       under = record {
-        tables = taken_ranks c (λ s k x. s < site.stations → x ≤ top k) (λ p. it-under) u.tables;
+        tables = taken_ranks c (λ s k x. s < site.stations → x ≤ top k) (λ p. it_under) u.tables;
         notices = λ y m. ⊎_elim
             (λ n. u.notices y (rw c.was (was_in y c.it c.before c.after n)))
-            (λ n. let e = c.alike y n in rw (e.0, e.1) it-under)
+            (λ n. let e = c.alike y n in rw (e.0, e.1) it_under)
             (Memᴰ.append_cases (c.before ++ c.after) (rw c.now at m));
       };
     }
 
   pub settling_pays : (F G : Flood) → Under site top F → Settles site F G → Pays site top F 1 G
-  settling_pays F G u c = ⊎_elim (gone_pays F G u) (taken-pays F G u) c
+  settling_pays F G u c = ⊎_elim (gone_pays F G u) (taken_pays F G u) c

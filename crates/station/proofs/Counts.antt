@@ -139,11 +139,11 @@ module _ (net : Network) (s : ℕ) where
           (keep_one_fewer but (λ j. is_end net j s) (λ j t. and_l (is_end net j s) _ (and_l (is_end net j s && not (mark h j).quiet) _ t)) k
           (refuse (is_end net k s && not (mark h k).quiet) (eqb k k) (eqb_refl k)) o (length net.links) l)
 
-      open-less-open : T (every (open_own h) (less k (open_links net s h)))
-      open-less-open = every_keep (open_own h) (λ j. not (eqb j k)) (open_links net s h) open_open
+      open_less_open : T (every (open_own h) (less k (open_links net s h)))
+      open_less_open = every_keep (open_own h) (λ j. not (eqb j k)) (open_links net s h) open_open
 
-      open-less-away : T (every (λ j. not (eqb j k)) (less k (open_links net s h)))
-      open-less-away = every_kept (λ j. not (eqb j k)) (open_links net s h)
+      open_less_away : T (every (λ j. not (eqb j k)) (less k (open_links net s h)))
+      open_less_away = every_kept (λ j. not (eqb j k)) (open_links net s h)
 
   -- ---- alike notices of link j with c that go on: what a notice taken on link k, and a timeout on it, send
   pub record Spreads (k j c : ℕ) (h : Holding) (xs : List Letter) : Type 0 where
@@ -157,8 +157,8 @@ module _ (net : Network) (s : ℕ) where
     pub ways : T (every (λ x. open_own h x.link) xs)
 
   module _ (h : Holding) (k : ℕ) (l : k < length net.links) (o : T (is_end net k s)) where
-    no-letters : (j c : ℕ) → Spreads k j c h []
-    no-letters j c = record { few = zero-le; alike = tt; away = tt; ways = tt }
+    no_letters : (j c : ℕ) → Spreads k j c h []
+    no_letters j c = record { few = zero-le; alike = tt; away = tt; ways = tt }
 
     spread : (j c : ℕ) → Spreads k j c h (on_each s (Notice j c) (less k (open_links net s h)))
     spread j c =
@@ -168,8 +168,8 @@ module _ (net : Network) (s : ℕ) where
           alike =
               on_each_every (λ x. is_notice j c x.body) s (Notice j c) ks
               (every_imp (λ i. true) (λ i. eqb j j && eqb c c) (λ i t. and_i (eqb j j) _ (eqb_refl j) (eqb_refl c)) ks (always ks));
-          away = on_each_every (λ x. not (eqb x.link k)) s (Notice j c) ks (open-less-away h k);
-          ways = on_each_every (λ x. open_own h x.link) s (Notice j c) ks (open-less-open h k);
+          away = on_each_every (λ x. not (eqb x.link k)) s (Notice j c) ks (open_less_away h k);
+          ways = on_each_every (λ x. open_own h x.link) s (Notice j c) ks (open_less_open h k);
         }
 
     -- a notice taken on link k is sent on
@@ -182,7 +182,7 @@ module _ (net : Network) (s : ℕ) where
     unfolding done_by
     timeout_spreads =
         if-elim (λ (a : Act). Spreads k k (counter h k + 1) h (done_by net s h a).sent) (even (counter h k))
-        (λ t. rw (T_is (even (counter h k)) t) (spread k (counter h k + 1))) (λ t. no-letters k (counter h k + 1))
+        (λ t. rw (T_is (even (counter h k)) t) (spread k (counter h k + 1))) (λ t. no_letters k (counter h k + 1))
 
   -- a notice come on an own link: taken and sent on, or nothing
   pub notice_spreads : (h : Holding) (x : Letter) → x.link < length net.links → T (is_end net x.link s) → (j c : ℕ)
@@ -190,7 +190,7 @@ module _ (net : Network) (s : ℕ) where
       → Spreads x.link j c h (received net s x h).sent
   unfolding done_by
   notice_spreads h x l o j c e =
-      let none = no-letters h x.link l o j c in
+      let none = no_letters h x.link l o j c in
       notice_cases s x h (λ (a : Heard). Spreads x.link j c h (heard_on net s x.link h a).sent) j c e (λ t. none) (λ t u. none)
       (λ t u. takes_spreads h x.link l o j c)
 
@@ -241,7 +241,7 @@ module _ (net : Network) (s : ℕ) where
         record {
           few = subst⁻¹ (λ (n : ℕ). n ≤ length (less k (known net h.table)) + 1) (length-append news last)
               (if-elim (λ (xs : List Letter). length xs + 1 ≤ length (less k (known net h.table)) + 1) (odd (counter h k))
-              (λ u. told-few) (λ u. omega arith));
+              (λ u. told_few) (λ u. omega arith));
           back =
               every_joined (λ x. eqb x.link k) news last (told (λ x. eqb x.link k) (λ b. eqb_refl k))
               (and_i (eqb k k) _ (eqb_refl k) tt);
@@ -253,8 +253,8 @@ module _ (net : Network) (s : ℕ) where
         last : List Letter
         last = letter s k (Reply (counter h k)) ∷ []
 
-        told-few : length (tell s (counter h) (less k (known net h.table)) (k ∷ [])) + 1 ≤ length (less k (known net h.table)) + 1
-        told-few = omega (arith, tell_count s (counter h) (less k (known net h.table)) (k ∷ []))
+        told_few : length (tell s (counter h) (less k (known net h.table)) (k ∷ [])) + 1 ≤ length (less k (known net h.table)) + 1
+        told_few = omega (arith, tell_count s (counter h) (less k (known net h.table)) (k ∷ []))
 
         told : (p : Letter → Bool) → ((b : Body) → T (p (letter s k b))) → T (every p news)
         told p f =

@@ -95,11 +95,11 @@ module _ (net : Network) (s : ℕ) where
       slot : T (slot_holds h.condition (is_end net k s) (counter h k) (mark h k))
       slot = f.slots k l
 
-      own-counter : T (is_counter (counter h k))
-      own-counter = slot_counter h.condition (is_end net k s) (counter h k) (mark h k) slot
+      own_counter : T (is_counter (counter h k))
+      own_counter = slot_counter h.condition (is_end net k s) (counter h k) (mark h k) slot
 
-      own-one : T (every (own_link net s) (k ∷ []))
-      own-one = and_i (own_link net s k) _ (own_is net s k l o) tt
+      own_one : T (every (own_link net s) (k ∷ []))
+      own_one = and_i (own_link net s k) _ (own_is net s k l o) tt
 
       is_live_lem : T (busy (mark h k)) → T (is_live h.condition)
       is_live_lem t = busy_live h.condition (is_end net k s) (counter h k) (mark h k) slot t
@@ -110,7 +110,7 @@ module _ (net : Network) (s : ℕ) where
           → Formed net s (marked k (g (mark h k)) h)
       remarked p g t v q =
           marked_formed net s h f k (g (mark h k)) l
-          (own_slot h.condition (is_end net k s) (counter h k) (g (mark h k)) v o own-counter
+          (own_slot h.condition (is_end net k s) (counter h k) (g (mark h k)) v o own_counter
           (rule (λ m. together m && p m) (λ m. together (g m)) t (mark h k)
           (and_i (together (mark h k)) _ (slot_together h.condition (is_end net k s) (counter h k) (mark h k) slot) q)))
 
@@ -129,7 +129,7 @@ module _ (net : Network) (s : ℕ) where
           (remarked (λ m. not m.testing && not m.quiet) interval_marks tt (and_l (is_live h.condition) _ a)
           (and_r (is_live h.condition) _ a))
           (if-elim (λ (y : Sends). T (every (letter_holds net) (sent_of net s h h.table y))) (interval_tests (mark h k))
-          (λ t. on_each_holds net s Request (k ∷ []) tt own-one) (λ t. tt))
+          (λ t. on_each_holds net s Request (k ∷ []) tt own_one) (λ t. tt))
 
       -- ---- 5. Timeout ends
       pub timeout_keeps : T (mark h k).testing → Kept (timeout net s k h)
@@ -145,7 +145,7 @@ module _ (net : Network) (s : ℕ) where
           c = timed_out (counter h k)
 
           fits : T (even (counter h k)) → T (is_counter c)
-          fits e = rw (T_is (even (counter h k)) e) (counter_next (counter h k) own-counter e)
+          fits e = rw (T_is (even (counter h k)) e) (counter_next (counter h k) own_counter e)
 
           raised : Holding
           raised = counted k c (marked k (set_quiet true (test_ended (mark h k))) h)
@@ -167,8 +167,8 @@ module _ (net : Network) (s : ℕ) where
 
       -- ---- 7. what a letter does at a live station
       module _ (v : T (is_live h.condition)) where
-        next-formed : (c : ℕ) → T (is_counter c) → Formed net s (replied net s k c h)
-        next-formed c r = renewed (λ m. true) replied_marks c tt v tt r
+        next_formed : (c : ℕ) → T (is_counter c) → Formed net s (replied net s k c h)
+        next_formed c r = renewed (λ m. true) replied_marks c tt v tt r
 
         pub effect_keeps : (e : Effect) → EffectFits net k h e → Kept (effect_on net s k h e)
         unfolding done_by
@@ -178,20 +178,20 @@ module _ (net : Network) (s : ℕ) where
             (remarked (λ m. true) requested_marks tt v tt)
             (every_joined (letter_holds net) news (letter s k (Reply (counter h k)) ∷ [])
             (if-elim (λ xs. T (every (letter_holds net) xs)) (odd (counter h k))
-            (λ u. tell_holds net s (counter h) (less k (known net h.table)) (k ∷ []) (known_less_tell net s h f k) own-one) (λ u. tt))
-            (on_each_holds net s (Reply (counter h k)) (k ∷ []) own-counter own-one))
+            (λ u. tell_holds net s (counter h) (less k (known net h.table)) (k ∷ []) (known_less_tell net s h f k) own_one) (λ u. tt))
+            (on_each_holds net s (Reply (counter h k)) (k ∷ []) own_counter own_one))
           where
             news : List Letter
             news = if odd (counter h k) then tell s (counter h) (less k (known net h.table)) (k ∷ []) else []
         effect_keeps (Heals c) p =
             let next = replied net s k c h in
             kept (purged net s next) (tell s (counter next) (known net next.table) (open_links net s h))
-            (purged_formed net s next (next-formed c p.range))
+            (purged_formed net s next (next_formed c p.range))
             (tell_holds net s (counter next) (known net next.table) (open_links net s h)
-            (known_tell net s next (next-formed c p.range)) (own_links_own net s h is_open))
+            (known_tell net s next (next_formed c p.range)) (own_links_own net s h is_open))
         effect_keeps (Levels c) p =
             let next = replied net s k c h in
-            kept next (on_each s (Notice k c) (open_links net s h)) (next-formed c p.range)
+            kept next (on_each s (Notice k c) (open_links net s h)) (next_formed c p.range)
             (on_each_holds net s (Notice k c) (open_links net s h) (and_i (ltb k (length net.links)) _ (lt→ltb k _ l) p.range)
             (own_links_own net s h is_open))
         effect_keeps Equal p = kept (marked k (replied_marks (mark h k)) h) [] (remarked (λ m. true) replied_marks tt v tt) tt
@@ -201,12 +201,12 @@ module _ (net : Network) (s : ℕ) where
             (on_each_holds net s (Notice j c) (less k (open_links net s h))
             (and_i (ltb j (length net.links)) _ (lt→ltb j _ p.there) p.range) (open_less_own net s h k))
 
-      heard-keeps : (a : Heard) → HeardFits net k h a → Kept (heard_on net s k h a)
+      heard_keeps : (a : Heard) → HeardFits net k h a → Kept (heard_on net s k h a)
       unfolding done_by
-      heard-keeps Gone p = kept h [] f tt
-      heard-keeps Nothing p = kept h [] f tt
-      heard-keeps Overflows p = kept h [] f tt
-      heard-keeps (Does e) p = effect_keeps (and_l (is_live h.condition) _ p.0) e p.1
+      heard_keeps Gone p = kept h [] f tt
+      heard_keeps Nothing p = kept h [] f tt
+      heard_keeps Overflows p = kept h [] f tt
+      heard_keeps (Does e) p = effect_keeps (and_l (is_live h.condition) _ p.0) e p.1
 
     -- nothing is done
     pub unchanged_keeps : Kept (unchanged h)
@@ -216,4 +216,4 @@ module _ (net : Network) (s : ℕ) where
     pub received_keeps : (x : Letter) → T (letter_holds net x) → T (is_end net x.link s) → Kept (received net s x h)
     received_keeps x t o =
         let l = letter_link net x t in
-        heard-keeps x.link l o (answer s x h) (answer_fits net s x h (own-counter x.link l o) t)
+        heard_keeps x.link l o (answer s x h) (answer_fits net s x h (own_counter x.link l o) t)

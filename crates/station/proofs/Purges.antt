@@ -38,9 +38,9 @@ module _ (net : Network) (s : ℕ) where
     unfolding purge reached kept
     purged_length = length_map_below (kept h.table) (length net.links)
 
-    purged-at : (j : ℕ) → j < length net.links → counter (purged net s h) j ≡ kept h.table j
+    purged_at : (j : ℕ) → j < length net.links → counter (purged net s h) j ≡ kept h.table j
     unfolding purge reached kept
-    purged-at j l = get_or_map_below (kept h.table) (length net.links) j 1 l
+    purged_at j l = get_or_map_below (kept h.table) (length net.links) j 1 l
 
     -- a purge leaves a counter as it is or sets it to 1
     pub purged_lowers : (j : ℕ) → Lowered (counter h j) (counter (purged net s h) j)
@@ -49,7 +49,7 @@ module _ (net : Network) (s : ℕ) where
       where
         go : Dec (j < length net.links) → Lowered (counter h j) (counter (purged net s h) j)
         go (yes l) =
-            subst⁻¹ (Lowered (counter h j)) (purged-at j l)
+            subst⁻¹ (Lowered (counter h j)) (purged_at j l)
             (if-elim (Lowered (counter h j)) (near net (reached h.table) j) (λ t. inl refl) (λ t. inr refl))
         go (no l) = inr (get_or-eq_default (purged net s h).table 1 {n = j} (omega (arith, purged_length)))
 
@@ -57,7 +57,7 @@ module _ (net : Network) (s : ℕ) where
     pub purged_own : (k : ℕ) → s < net.stations → k < length net.links → T (is_end net k s) → counter (purged net s h) k ≡ counter h k
     unfolding reached kept
     purged_own k real l o =
-        purged-at k l ∙ ap (λ (b : Bool). if b then counter h k else 1)
+        purged_at k l ∙ ap (λ (b : Bool). if b then counter h k else 1)
         (T_is (near net (reached h.table) k) (⊎_elim low high (or_cases (eqb (ends net k).low s) _ o)))
       where
         here : T (reached h.table s)

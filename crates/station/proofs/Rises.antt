@@ -125,9 +125,9 @@ module _ (net : Network) (s : ℕ) where
 
     -- with a purge after it
     module _ (real : s < net.stations) (o : T (is_end net k s)) where
-      sets-purged : (c : ℕ) (g : Holding) (xs : List Letter) → g.table ≡ set h.table k c
+      sets_purged : (c : ℕ) (g : Holding) (xs : List Letter) → g.table ≡ set h.table k c
           → Sets k c h (record { holding = purged net s g; sent = xs })
-      sets-purged c g xs e =
+      sets_purged c g xs e =
           record {
             own = purged_own net s g k real l o ∙ ap (λ (t : List ℕ). counter_in t k) e ∙ set_own c;
             others = λ j n.
@@ -138,12 +138,12 @@ module _ (net : Network) (s : ℕ) where
       -- a timeout: an even counter is raised by one, then purge; with an odd one no counter changes
       pub timeout_even : T (even (counter h k)) → Sets k (counter h k + 1) h (timeout net s k h)
       unfolding done_by
-      timeout_even e = rw (T_is (even (counter h k)) e) (sets-purged (counter h k + 1) _ _ refl)
+      timeout_even e = rw (T_is (even (counter h k)) e) (sets_purged (counter h k + 1) _ _ refl)
 
       -- a reply that heals
       pub heals_sets : (c : ℕ) → Sets k c h (effect_on net s k h (Heals c))
       unfolding done_by
-      heals_sets c = sets-purged c _ _ refl
+      heals_sets c = sets_purged c _ _ refl
 
   module _ (h : Holding) (k : ℕ) where
     pub timeout_odd : T (odd (counter h k)) → (timeout net s k h).holding.table ≡ h.table
@@ -222,10 +222,10 @@ module _ (net : Network) (s : ℕ) where
         new = healed (counter h x.link) c
 
         -- by which of the three it is
-        reply-elim : (P : Done → Type 0) → P (effect_on net s x.link h (Heals (healed (counter h x.link) c)))
+        reply_elim : (P : Done → Type 0) → P (effect_on net s x.link h (Heals (healed (counter h x.link) c)))
             → (T (not (odd (counter h x.link) || odd c)) → counter h x.link ≡ c → P (effect_on net s x.link h Equal))
             → P (effect_on net s x.link h (Levels (healed (counter h x.link) c))) → P (received net s x h)
-        reply-elim P heals equal levels =
+        reply_elim P heals equal levels =
             let Q : Heard → Type 0 = λ a. P (heard_on net s x.link h a) in
             subst⁻¹ P (received_is _ (A.reply_tested s x h c e t u v))
             (if-elim Q (odd own || odd c) (λ w. heals) (λ w. if-elim Q (eqb own c) (λ q. equal w (eqb→eq own c q)) (λ q. levels)))
@@ -234,7 +234,7 @@ module _ (net : Network) (s : ℕ) where
         pub reply_sets : s < net.stations → T (holding_holds net s h) → x.link < length net.links → T (is_end net x.link s)
             → Sets x.link (healed (counter h x.link) c) h (received net s x h)
         reply_sets real ok l o =
-            reply-elim (Sets x.link new h) (heals_sets h ok x.link l real o new)
+            reply_elim (Sets x.link new h) (heals_sets h ok x.link l real o new)
             (λ w q. record {
               own =
                   ap (λ (t : List ℕ). counter_in t x.link) (equal_table h x.link)

@@ -97,40 +97,40 @@ module _ (net : Network) (s : ℕ) (real : s < net.stations) (h : Holding) (ok :
   same = risen_same net h h refl
 
   module _ (k : ℕ) (l : k < length net.links) (o : T (is_end net k s)) where
-    sets-raises : (c : ℕ) (d : Done) → Sets net s k c h d → Raises (bit (ltb (counter h k) c)) d
-    sets-raises c d p =
+    sets_raises : (c : ℕ) (d : Done) → Sets net s k c h d → Raises (bit (ltb (counter h k) c)) d
+    sets_raises c d p =
         risen_one net h d.holding k l (λ j n. lowered_le (counter h j) (counter d.holding j) (counter_positive net s h ok j)
         (p.others j n))
         ∙ ap (λ (x : ℕ). bit (ltb (counter h k) x)) p.own
 
-    timeout-raises : Raises (bit (even (counter h k))) (timeout net s k h)
-    timeout-raises = go (even (counter h k)) refl
+    timeout_raises : Raises (bit (even (counter h k))) (timeout net s k h)
+    timeout_raises = go (even (counter h k)) refl
       where
         go : (b : Bool) → even (counter h k) ≡ b → Raises (bit b) (timeout net s k h)
         go true e =
-            sets-raises (counter h k + 1) (timeout net s k h) (timeout_even net s h ok k l real o (subst⁻¹ T e tt))
+            sets_raises (counter h k + 1) (timeout net s k h) (timeout_even net s h ok k l real o (subst⁻¹ T e tt))
             ∙ ap bit (lt-ltb (counter h k) (counter h k + 1) (omega arith))
         go false e = risen_same net h (timeout net s k h).holding (timeout_odd net s h k (subst⁻¹ (λ (b : Bool). T (not b)) e tt))
 
-    effect-raises : (e : Effect) → EffectFits net k h e → Raises (raised_effect (counter h k) e) (effect_on net s k h e)
-    effect-raises Defers p = risen_same net h (effect_on net s k h Defers).holding (defers_table net s h k)
-    effect-raises Answers p = risen_same net h (effect_on net s k h Answers).holding (answers_table net s h k)
-    effect-raises (Heals c) p = sets-raises c (effect_on net s k h (Heals c)) (heals_sets net s h ok k l real o c)
-    effect-raises (Levels c) p = sets-raises c (effect_on net s k h (Levels c)) (levels_sets net s h ok k l c)
-    effect-raises Equal p = risen_same net h (effect_on net s k h Equal).holding (equal_table net s h k)
-    effect-raises (Takes j c) p =
+    effect_raises : (e : Effect) → EffectFits net k h e → Raises (raised_effect (counter h k) e) (effect_on net s k h e)
+    effect_raises Defers p = risen_same net h (effect_on net s k h Defers).holding (defers_table net s h k)
+    effect_raises Answers p = risen_same net h (effect_on net s k h Answers).holding (answers_table net s h k)
+    effect_raises (Heals c) p = sets_raises c (effect_on net s k h (Heals c)) (heals_sets net s h ok k l real o c)
+    effect_raises (Levels c) p = sets_raises c (effect_on net s k h (Levels c)) (levels_sets net s h ok k l c)
+    effect_raises Equal p = risen_same net h (effect_on net s k h Equal).holding (equal_table net s h k)
+    effect_raises (Takes j c) p =
         let t = takes_took net s h ok k j c p.there p.above in
         let d = effect_on net s k h (Takes j c) in
         risen_one net h d.holding j p.there (λ i n. le_of_eq (t.others i n))
         ∙ ap bit (lt-ltb (counter h j) (counter d.holding j) (subst⁻¹ (λ (n : ℕ). counter h j < n) t.takes t.newer))
 
-    heard-raises : (settled : ℕ) (a : Heard) → HeardFits net k h a
+    heard_raises : (settled : ℕ) (a : Heard) → HeardFits net k h a
         → let r = heard_rule settled h.condition k (counter h k) a in Raises r.counts.raised (done_by net s h r.act)
     unfolding done_by
-    heard-raises settled Gone p = same
-    heard-raises settled Nothing p = same
-    heard-raises settled Overflows p = same
-    heard-raises settled (Does e) p = effect-raises e p.1
+    heard_raises settled Gone p = same
+    heard_raises settled Nothing p = same
+    heard_raises settled Overflows p = same
+    heard_raises settled (Does e) p = effect_raises e p.1
 
   received_raises : (settled : ℕ) (x : Letter) → T (letter_holds net x) → T (is_end net x.link s)
       → let r = heard_rule settled h.condition x.link (counter h x.link) (answer s x h) in
@@ -138,7 +138,7 @@ module _ (net : Network) (s : ℕ) (real : s < net.stations) (h : Holding) (ok :
   received_raises settled x t o =
       let k = x.link in
       let l = letter_link net x t in
-      heard-raises k l o settled (answer s x h) (answer_fits net s x h
+      heard_raises k l o settled (answer s x h) (answer_fits net s x h
       (slot_counter h.condition (is_end net k s) (counter h k) (mark h k) ((formed net s h ok).slots k l)) t)
 
   -- what the rule counts as raised is what is higher
@@ -150,7 +150,7 @@ module _ (net : Network) (s : ℕ) (real : s < net.stations) (h : Holding) (ok :
   rule_raises Stop b x n = risen_none net h (stopped net s).holding (stopped_lowers net s h ok)
   rule_raises Recovery b x n = risen_same net h (recovered net s h).holding (recovered_table net s h)
   rule_raises IntervalEnd b x n = risen_same net h (interval net s b h).holding (interval_table net s h b)
-  rule_raises TimeoutEnd b x n = timeout-raises b n.0 n.1
+  rule_raises TimeoutEnd b x n = timeout_raises b n.0 n.1
   rule_raises QuietEnd b x n = risen_same net h (spoken net s b h).holding (spoken_table net s h b)
   rule_raises Delivery b x n = received_raises _ x n.0 n.1
   rule_raises Loss b x n = same

@@ -153,8 +153,8 @@ module _ (net : Net) (s : ℕ) (st : Station) (own : ℕ) (eo : own ≡ word_by 
     abbrev Told : Sends → Type 0
     Told l = letters_of s told (narrow l) ≡ sent_of N s H (table_of net told) l
 
-    nothing-told : Told nothing
-    nothing-told = sent_nothing s told (narrow nothing) refl refl refl
+    nothing_told : Told nothing
+    nothing_told = sent_nothing s told (narrow nothing) refl refl refl
 
     replied : (tells : Bool) (k c : ℕ) → k < link_count net → Told (reply tells k c)
     replied true k c h =
@@ -178,12 +178,12 @@ module _ (net : Net) (s : ℕ) (st : Station) (own : ℕ) (eo : own ≡ word_by 
         (links_are net s st own eo ways f) refl
         ∙ tell_known net told long s (links_of N s H ways)
 
-    sends-are : (t : Tabling) (l : Sends) → told ≡ told_of t → SendsFit t l → Told l
-    sends-are t nothing e f = nothing-told
-    sends-are t (requests ways) e f = requested ways f
-    sends-are t (notices j c ways) e f = noticed j c ways f.0 (ap (λ (x : List ℕ). get_or x j 0) e ∙ f.1) f.2
-    sends-are t (all_known ways) e f = all_told ways f
-    sends-are t (reply tells k c) e f = replied tells k c f
+    sends_are : (t : Tabling) (l : Sends) → told ≡ told_of t → SendsFit t l → Told l
+    sends_are t nothing e f = nothing_told
+    sends_are t (requests ways) e f = requested ways f
+    sends_are t (notices j c ways) e f = noticed j c ways f.0 (ap (λ (x : List ℕ). get_or x j 0) e ∙ f.1) f.2
+    sends_are t (all_known ways) e f = all_told ways f
+    sends_are t (reply tells k c) e f = replied tells k c f
 
   -- the told table, on the holding's side
   told_front : (t : Tabling) (l : Sends) → TablingFits t l
@@ -199,7 +199,7 @@ module _ (net : Net) (s : ℕ) (st : Station) (own : ℕ) (eo : own ≡ word_by 
       → Acts net s st room (done_by N s H d.act) d.counts (plan_of own W d)
   unfolding done_by station_by letters_by
   carried_out d room z f m t =
-      go d.act.table f.table t (sends-are (told_of d.act.table) (told_size d.act.table) d.act.table d.act.sends refl
+      go d.act.table f.table t (sends_are (told_of d.act.table) (told_size d.act.table) d.act.table d.act.sends refl
       f.sends)
     where
       go : (y : Tabling) → TablingFits y d.act.sends → TableRoom room.counters y → Told (told_of y) (told_size y) d.act.sends

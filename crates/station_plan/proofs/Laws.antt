@@ -106,125 +106,125 @@ module _ (net : Net) (s : ℕ) (st : Station) (own : ℕ) (eo : Own own net s) (
     abbrev ruled : Kind → Rule
     ruled e = rule_of s k l X (marks_at W k) c told e
 
-    on-link : (e : Kind) → k < link_count net → ruled e ≡ rule_of s k l H.condition (mark H k) (counter H k) told e
+    on_link_lem : (e : Kind) → k < link_count net → ruled e ≡ rule_of s k l H.condition (mark H k) (counter H k) told e
     unfolding holding_of
-    on-link e h =
+    on_link_lem e h =
         ap₂ (λ (m : Marks) (n : ℕ). rule_of s k l X m n told e) (sym (mark_of net st k h)) (ec ∙ sym (counter_at k h))
 
-    same-rule : (e : Kind) → Meant net st e k l told → ruled e ≡ rule_at s e k l H
+    same_rule : (e : Kind) → Meant net st e k l told → ruled e ≡ rule_at s e k l H
     unfolding holding_of
-    same-rule NoSuch m = refl
-    same-rule Start m = refl
-    same-rule Stop m = refl
-    same-rule Recovery m = refl
-    same-rule IntervalEnd m = on-link IntervalEnd (m.link tt)
-    same-rule TimeoutEnd m = on-link TimeoutEnd (m.link tt)
-    same-rule QuietEnd m = on-link QuietEnd (m.link tt)
-    same-rule Delivery m =
-        on-link Delivery (m.link tt)
+    same_rule NoSuch m = refl
+    same_rule Start m = refl
+    same_rule Stop m = refl
+    same_rule Recovery m = refl
+    same_rule IntervalEnd m = on_link_lem IntervalEnd (m.link tt)
+    same_rule TimeoutEnd m = on_link_lem TimeoutEnd (m.link tt)
+    same_rule QuietEnd m = on_link_lem QuietEnd (m.link tt)
+    same_rule Delivery m =
+        on_link_lem Delivery (m.link tt)
         ∙ ap₂ (λ (i n : ℕ). rule_of s i l H.condition (mark H i) (counter H i) n Delivery) (sym (m.letter tt))
         (m.tells tt ∙ sym (counter_at (subject_of l.body) (m.subject tt)))
-    same-rule Loss m = refl
+    same_rule Loss m = refl
 
     -- ---- the act names what is there
     abbrev Fit_act : Act → Type 0
     Fit_act a = Fits net s st own eo fit size a
 
-    idle-fits : Fit_act (idle X)
-    idle-fits = record { marks = tt; table = tt; sends = tt }
+    idle_fits : Fit_act (idle X)
+    idle_fits = record { marks = tt; table = tt; sends = tt }
 
     -- a counter that is set is the one that is told
     told_set : (j n : ℕ) → j < link_count net → get_or (set st.counters j n) j 0 ≡ n
     told_set j n h = get_or-set_same st.counters j n 0 (omega (arith, size))
 
-    effect-fits : k < link_count net → (e : Effect) → ((j d : ℕ) → e ≡ Takes j d → j < link_count net) → Fit_act (effect_act X k c e)
-    effect-fits h Defers t = record { marks = h; table = tt; sends = tt }
-    effect-fits h Answers t = record { marks = h; table = tt; sends = h }
-    effect-fits h (Heals n) t = record { marks = h; table = h; sends = tt }
-    effect-fits h (Levels n) t = record { marks = h; table = h; sends = (h, told_set k n h, tt) }
-    effect-fits h Equal t = record { marks = h; table = tt; sends = tt }
-    effect-fits h (Takes j n) t = let i = t j n refl in record { marks = tt; table = i; sends = (i, told_set j n i, tt) }
+    effect_fits : k < link_count net → (e : Effect) → ((j d : ℕ) → e ≡ Takes j d → j < link_count net) → Fit_act (effect_act X k c e)
+    effect_fits h Defers t = record { marks = h; table = tt; sends = tt }
+    effect_fits h Answers t = record { marks = h; table = tt; sends = h }
+    effect_fits h (Heals n) t = record { marks = h; table = h; sends = tt }
+    effect_fits h (Levels n) t = record { marks = h; table = h; sends = (h, told_set k n h, tt) }
+    effect_fits h Equal t = record { marks = h; table = tt; sends = tt }
+    effect_fits h (Takes j n) t = let i = t j n refl in record { marks = tt; table = i; sends = (i, told_set j n i, tt) }
 
-    heard-fits : (n : ℕ) → k < link_count net → (a : Heard) → ((j d : ℕ) → a ≡ Does (Takes j d) → j < link_count net)
+    heard_fits : (n : ℕ) → k < link_count net → (a : Heard) → ((j d : ℕ) → a ≡ Does (Takes j d) → j < link_count net)
         → Fit_act (heard_rule n X k c a).act
-    heard-fits n h Gone t = idle-fits
-    heard-fits n h Nothing t = idle-fits
-    heard-fits n h Overflows t = idle-fits
-    heard-fits n h (Does e) t = effect-fits h e (λ j d q. t j d (ap Does q))
+    heard_fits n h Gone t = idle_fits
+    heard_fits n h Nothing t = idle_fits
+    heard_fits n h Overflows t = idle_fits
+    heard_fits n h (Does e) t = effect_fits h e (λ j d q. t j d (ap Does q))
 
-    asks-fit : k < link_count net → (b : Bool) → SendsFit net s st own eo fit size kept (if b then requests (the_link k) else nothing)
-    asks-fit h true = h
-    asks-fit h false = tt
+    asks_fit : k < link_count net → (b : Bool) → SendsFit net s st own eo fit size kept (if b then requests (the_link k) else nothing)
+    asks_fit h true = h
+    asks_fit h false = tt
 
-    act-fits : (e : Kind) → Meant net st e k l told → Fit_act (ruled e).act
-    act-fits NoSuch m = idle-fits
-    act-fits Start m = record { marks = tt; table = tt; sends = tt }
-    act-fits Stop m = record { marks = tt; table = refl; sends = tt }
-    act-fits Recovery m = record { marks = tt; table = tt; sends = tt }
-    act-fits IntervalEnd m = record { marks = m.link tt; table = tt; sends = asks-fit (m.link tt) (interval_tests (marks_at W k)) }
-    act-fits TimeoutEnd m =
+    act_fits : (e : Kind) → Meant net st e k l told → Fit_act (ruled e).act
+    act_fits NoSuch m = idle_fits
+    act_fits Start m = record { marks = tt; table = tt; sends = tt }
+    act_fits Stop m = record { marks = tt; table = refl; sends = tt }
+    act_fits Recovery m = record { marks = tt; table = tt; sends = tt }
+    act_fits IntervalEnd m = record { marks = m.link tt; table = tt; sends = asks_fit (m.link tt) (interval_tests (marks_at W k)) }
+    act_fits TimeoutEnd m =
         let h = m.link tt in
         if-elim Fit_act (even c) (λ t. record { marks = h; table = h; sends = (h, told_set k (timed_out c) h, tt) })
         (λ t. record { marks = h; table = tt; sends = tt })
-    act-fits QuietEnd m = record { marks = m.link tt; table = tt; sends = tt }
-    act-fits Delivery m =
-        heard-fits (bit (is_notice l.body)) (m.link tt) (answer_by s X (marks_at W k) c told l)
+    act_fits QuietEnd m = record { marks = m.link tt; table = tt; sends = tt }
+    act_fits Delivery m =
+        heard_fits (bit (is_notice l.body)) (m.link tt) (answer_by s X (marks_at W k) c told l)
         (λ j d q. subst (λ (n : ℕ). n < link_count net) (takes_subject s X (marks_at W k) c told l j d q) (m.subject tt))
-    act-fits Loss m = idle-fits
+    act_fits Loss m = idle_fits
 
     -- ---- the room under it
     abbrev Roomy : Station → Act → Type 0
     Roomy room a =
         MarksRoom net s st own eo fit size room.marks a.marks × TableRoom net s st own eo fit size room.counters a.table
 
-    effect-room : (e : Effect) → Roomy st (effect_act X k c e)
-    effect-room Defers = (refl, refl)
-    effect-room Answers = (refl, refl)
-    effect-room (Heals n) = (refl, refl)
-    effect-room (Levels n) = (refl, refl)
-    effect-room Equal = (refl, refl)
-    effect-room (Takes j n) = (refl, refl)
+    effect_room : (e : Effect) → Roomy st (effect_act X k c e)
+    effect_room Defers = (refl, refl)
+    effect_room Answers = (refl, refl)
+    effect_room (Heals n) = (refl, refl)
+    effect_room (Levels n) = (refl, refl)
+    effect_room Equal = (refl, refl)
+    effect_room (Takes j n) = (refl, refl)
 
-    heard-room : (n : ℕ) (a : Heard) → Roomy st (heard_rule n X k c a).act
-    heard-room n Gone = (refl, refl)
-    heard-room n Nothing = (refl, refl)
-    heard-room n Overflows = (refl, refl)
-    heard-room n (Does e) = effect-room e
+    heard_room : (n : ℕ) (a : Heard) → Roomy st (heard_rule n X k c a).act
+    heard_room n Gone = (refl, refl)
+    heard_room n Nothing = (refl, refl)
+    heard_room n Overflows = (refl, refl)
+    heard_room n (Does e) = effect_room e
 
-    act-room : (e : Kind) → Roomy (room_of e st) (ruled e).act
+    act_room : (e : Kind) → Roomy (room_of e st) (ruled e).act
     unfolding blank
-    act-room NoSuch = (refl, refl)
-    act-room Start = (λ t h i. no_marks_lem t, refl)
-    act-room Stop = (λ t h i. no_marks_lem t, refl)
-    act-room Recovery = (λ t h i. refl, refl)
-    act-room IntervalEnd = (refl, refl)
-    act-room TimeoutEnd = if-elim (Roomy st) (even c) (λ t. (refl, refl)) (λ t. (refl, refl))
-    act-room QuietEnd = (refl, refl)
-    act-room Delivery = heard-room (bit (is_notice l.body)) (answer_by s X (marks_at W k) c told l)
-    act-room Loss = (refl, refl)
+    act_room NoSuch = (refl, refl)
+    act_room Start = (λ t h i. no_marks_lem t, refl)
+    act_room Stop = (λ t h i. no_marks_lem t, refl)
+    act_room Recovery = (λ t h i. refl, refl)
+    act_room IntervalEnd = (refl, refl)
+    act_room TimeoutEnd = if-elim (Roomy st) (even c) (λ t. (refl, refl)) (λ t. (refl, refl))
+    act_room QuietEnd = (refl, refl)
+    act_room Delivery = heard_room (bit (is_notice l.body)) (answer_by s X (marks_at W k) c told l)
+    act_room Loss = (refl, refl)
 
     -- ---- refused, or done
-    due-plans : (there : Bool) (e : Kind) → (T there → Meant net st e k l told)
+    due_plans : (there : Bool) (e : Kind) → (T there → Meant net st e k l told)
         → Planned net s st (room_of e st) (due_of there (ruled e) X) (plan_of own W (due_of there (ruled e) X))
-    due-plans there e m =
+    due_plans there e m =
         due_elim there (ruled e) X (λ d. Planned net s st (room_of e st) d (plan_of own W d))
         (λ n z. record { answer = refl; counts = refl; done = λ q. absurd (z q); refused = λ q. refl })
         (λ t a o.
         let done = carried_out net s st own eo fit size (record { number = 0; act = (ruled e).act; counts = (ruled e).counts }) (room_of e st)
-        refl (act-fits e (m t)) (act-room e).0 (act-room e).1 in
+        refl (act_fits e (m t)) (act_room e).0 (act_room e).1 in
         record { answer = done.answer; counts = done.counts; done = λ q. done; refused = λ q. absurd (q refl) })
 
-    here-plans : (there : Bool) (e : Kind) → (T there → Meant net st e k l told)
+    here_plans : (there : Bool) (e : Kind) → (T there → Meant net st e k l told)
         → Plans e net s k l st there (event_plan there e own s k l c told X W)
     unfolding event_plan holding_of due_of
-    here-plans true e m =
+    here_plans true e m =
         subst (λ (r : Rule). Planned net s st (room_of e st) (due_of true r X) (plan_of own W (due_of true (ruled e) X)))
-        (same-rule e (m tt)) (due-plans true e m)
-    here-plans false e m = due-plans false e m
+        (same_rule e (m tt)) (due_plans true e m)
+    here_plans false e m = due_plans false e m
 
 pub event_plans : (own s k : ℕ) (l : Letter) (c told : ℕ) (x : Condition) (w : Words) → Fit w → (there : Bool) (e : Kind)
     → EventPlans there e own s k l c told x w (event_plan there e own s k l c told x w)
 event_plans own s k l c told x w fit there e = λ net st like o ec m.
     subst (λ (y : Condition). Plans e net s k l st there (event_plan there e own s k l c told y w)) like.condition
     (subst (λ (v : Words). Plans e net s k l st there (event_plan there e own s k l c told st.condition v)) like.words
-    (here-plans net s st own o (subst⁻¹ Fit like.words fit) like.size k l c told ec there e m))
+    (here_plans net s st own o (subst⁻¹ Fit like.words fit) like.size k l c told ec there e m))

@@ -98,15 +98,15 @@ module _ (net : Net) where
     counter_is : (j : ℕ) → j < link_count net → get_or told j 0 ≡ counter_in table j
     counter_is j h = sym (counter_of_lem net told j size h)
 
-    known-word : word_by (λ j. in_word every_link j && known_in (link_count net) told j) ≡ word_by (known_in (link_count net) told)
-    known-word =
+    known_word : word_by (λ j. in_word every_link j && known_in (link_count net) told j) ≡ word_by (known_in (link_count net) told)
+    known_word =
         by_same (λ j. in_word every_link j && known_in (link_count net) told j) (known_in (link_count net) told)
         (λ t l. ap (λ (b : Bool). b && known_in (link_count net) told t) (all_in t l))
 
     pub known_are : members_of (word_by (λ j. in_word every_link j && known_in (link_count net) told j)) ≡ known N table
     unfolding known
     known_are =
-        ap members_of known-word
+        ap members_of known_word
         ∙ kept_links (λ j. ltb 1 (get_or told j 0)) (λ j. ltb 1 (counter_in table j)) (λ j l. ap (ltb 1) (counter_is j l))
 
     -- but one

@@ -51,24 +51,24 @@ module _ (s : State) (kind a b : ℕ) where
       (if c then refusal (world_of s) e else 11) s) q
 
   module _ (g : Good s) where
-    by-refusal : stepped_of s kind a b ≡ (if eqb (refusal (world_of s) e) 0 then accepting s e else refusing (refusal (world_of s) e) s)
+    by_refusal : stepped_of s kind a b ≡ (if eqb (refusal (world_of s) e) 0 then accepting s e else refusing (refusal (world_of s) e) s)
     unfolding stepped_of number_of
-    by-refusal =
+    by_refusal =
         ap (λ (c : Bool). if eqb (if c then refusal (world_of s) e else 11) 0 then accepting s e else refusing
         (if c then refusal (world_of s) e else 11) s)
         (T_is (state_holds s) g.holds)
 
-    refused-is : (refusal (world_of s) e ≡ 0 → ⊥) → stepped_of s kind a b ≡ refusing (refusal (world_of s) e) s
-    refused-is n =
-        by-refusal ∙ ap (λ (c : Bool). if c then accepting s e else refusing (refusal (world_of s) e) s) (ne_eqb (refusal (world_of s) e) 0 n)
+    refused_is : (refusal (world_of s) e ≡ 0 → ⊥) → stepped_of s kind a b ≡ refusing (refusal (world_of s) e) s
+    refused_is n =
+        by_refusal ∙ ap (λ (c : Bool). if c then accepting s e else refusing (refusal (world_of s) e) s) (ne_eqb (refusal (world_of s) e) 0 n)
 
-    accepted-is : refusal (world_of s) e ≡ 0 → stepped_of s kind a b ≡ accepting s e
-    accepted-is q =
-        by-refusal ∙ ap (λ (c : Bool). if c then accepting s e else refusing (refusal (world_of s) e) s) (eq-eqb (refusal (world_of s) e) 0 q)
+    accepted_is : refusal (world_of s) e ≡ 0 → stepped_of s kind a b ≡ accepting s e
+    accepted_is q =
+        by_refusal ∙ ap (λ (c : Bool). if c then accepting s e else refusing (refusal (world_of s) e) s) (eq-eqb (refusal (world_of s) e) 0 q)
 
     -- ---- refused: the same state, nothing counted
-    refusing-step : (refusal (world_of s) e ≡ 0 → ⊥) → IsStep s e (refusing (refusal (world_of s) e) s)
-    refusing-step n =
+    refusing_step : (refusal (world_of s) e ≡ 0 → ⊥) → IsStep s e (refusing (refusal (world_of s) e) s)
+    refusing_step n =
         record {
           number = refl;
           world = sym (step_refuses (world_of s) e n);
@@ -78,8 +78,8 @@ module _ (s : State) (kind a b : ℕ) where
         }
 
     -- ---- accepted: the world after the event, laid out
-    accepting-step : refusal (world_of s) e ≡ 0 → IsStep s e (accepting s e)
-    accepting-step q =
+    accepting_step : refusal (world_of s) e ≡ 0 → IsStep s e (accepting s e)
+    accepting_step q =
         let n = holds_net s g.sized g.holds in
         let u = world_formed s g.sized g.holds in
         let there = (taken (world_of s) e q).exists in
@@ -102,8 +102,8 @@ module _ (s : State) (kind a b : ℕ) where
     is_step = go (ℕ_discrete (refusal (world_of s) e) 0)
       where
         go : Dec (refusal (world_of s) e ≡ 0) → IsStep s e (stepped_of s kind a b)
-        go (yes q) = subst⁻¹ (IsStep s e) (accepted-is q) (accepting-step q)
-        go (no n) = subst⁻¹ (IsStep s e) (refused-is n) (refusing-step n)
+        go (yes q) = subst⁻¹ (IsStep s e) (accepted_is q) (accepting_step q)
+        go (no n) = subst⁻¹ (IsStep s e) (refused_is n) (refusing_step n)
 
 -- ---- two answers that are allowed for one input are equal
 pub step_unique : (s : State) (kind a b : ℕ) (r t : Stepped) → r ≡ stepped_of s kind a b → t ≡ stepped_of s kind a b → r ≡ t

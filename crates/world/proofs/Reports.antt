@@ -176,19 +176,19 @@ module _ (w : World) (s : ℕ) where
   unfolding reach_at
   lowest_is =
       ⊎_elim
-      (λ p. inl (p.0, λ t h. member t (yes-has t (p.1 t (omega (arith, size))))))
+      (λ p. inl (p.0, λ t h. member t (yes_has t (p.1 t (omega (arith, size))))))
       (λ p. inr (record {
         station = omega (arith, p.under, size);
         missed = λ r. T_not (has members (lowest_of members)) p.passes (in_members (lowest_of members) r);
-        lower = λ t h. member t (yes-has t (p.before t zero-le h));
+        lower = λ t h. member t (yes_has t (p.before t zero-le h));
       }))
       (first_below (λ t. not (has members t)) (length members) 255)
     where
       size : length members ≡ w.net.stations
       size = reach_length w.net (works_in (holding_at w s).table) s
 
-      yes-has : (t : ℕ) → T (not (not (has members t))) → T (has members t)
-      yes-has t u = go (has members t) u
+      yes_has : (t : ℕ) → T (not (not (has members t))) → T (has members t)
+      yes_has t u = go (has members t) u
         where
           go : (b : Bool) → T (not (not b)) → T b
           go true u = tt
