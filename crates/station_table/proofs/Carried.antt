@@ -1,35 +1,18 @@
 -- What the three small steps answer, return by return.
-use Prim.Native.Nat.{ℕ, ◌≤◌, ◌<◌}
+use Prim.Native.Nat.{ℕ, ◌<◌}
 use mathlib.Core.Bool.{Bool, true, false, not, ◌&&◌}
 use mathlib.Core.Path.{◌≡◌, refl, sym, ap, ap₂, ◌∙◌}
 use mathlib.Core.List.{List}
-use lib.ListN.{length, set}
-use lib.Seq.{set_out}
 use Rattle.net.specs.Sizes.{link_room}
 use Rattle.lists.specs.Words.{in_word}
 use Rattle.net.specs.declared.Net.{Net}
-use Rattle.net.specs.Values.{link_count}
 use Rattle.sets.specs.Sets.{word_by}
 use Rattle.sets.proofs.WordLaws.{by_same, in_by}
 use Rattle.station.specs.declared.Sending.{Sending}
-use Rattle.station.specs.Values.{fresh_table}
-use Rattle.station_plan.specs.Carrying.{told_by, purged_in, kept_by, known_in, narrowed}
+use Rattle.station_plan.specs.Carrying.{purged_in, kept_by, known_in, narrowed}
 
 -- ---- the table
-module _ (sets : Bool) (at c : ℕ) (table : List ℕ) where
-  pub told_same : sets ≡ false → table ≡ told_by sets at c table
-  told_same e = sym (ap (λ (b : Bool). told_by b at c table) e)
-
-  pub told_past : sets ≡ true → length table ≤ at → table ≡ told_by sets at c table
-  told_past e h = sym (ap (λ (b : Bool). told_by b at c table) e ∙ set_out table at c h)
-
-  pub told_set : sets ≡ true → set table at c ≡ told_by sets at c table
-  told_set e = sym (ap (λ (b : Bool). told_by b at c table) e)
-
 module _ (net : Net) (s : ℕ) (resets purges : Bool) (table : List ℕ) where
-  pub kept_fresh : resets ≡ true → fresh_table (link_count net) ≡ kept_by net s resets purges table
-  kept_fresh e = sym (ap (λ (b : Bool). kept_by net s b purges table) e)
-
   pub kept_purged : resets ≡ false → purges ≡ true → purged_in net table s ≡ kept_by net s resets purges table
   kept_purged e p = sym (ap₂ (λ (a b : Bool). kept_by net s a b table) e p)
 
@@ -40,9 +23,6 @@ both_bit true false = refl
 both_bit false b = refl
 
 module _ (n : ℕ) (table : List ℕ) (x : Sending) where
-  pub narrow_not : (knows : Bool) → knows ≡ false → x ≡ narrowed knows n table x
-  narrow_not knows e = sym (ap (λ (b : Bool). narrowed b n table x) e)
-
   pub narrow_is : (knows : Bool) (known unknown subjects : ℕ) → knows ≡ true → known ≡ word_by (known_in n table)
       → unknown ≡ word_by (λ t. in_word x.subjects t && not (in_word known t))
       → subjects ≡ word_by (λ t. in_word x.subjects t && not (in_word unknown t))
