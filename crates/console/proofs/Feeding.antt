@@ -1,7 +1,7 @@
 -- The loop over the lines that end in a piece of the input: what holds between its turns, and what it leaves. For any reading, any value
 -- that is held, and lines of at most so many bytes.
 use Prim.Native.Nat.{ℕ, suc, ◌+◌, ◌-◌, ◌*◌, ◌≤◌, ◌<◌}
-use mathlib.Core.Bool.{Bool, true, false}
+use mathlib.Core.Bool.{true, false}
 use mathlib.Core.Path.{◌≡◌, refl, sym, ap, ap₂, ◌∙◌}
 use mathlib.Core.List.{List, [], ◌∷◌, ◌++◌, append_assoc, append-nil}
 use native.Mathlib.Nat.{mul-le-mul_left, mul-add}
@@ -10,8 +10,6 @@ use native.Mathlib.Omega.{arith}
 use lib.ListN.{length, take, drop, length-append, take-append-drop}
 use lib.Seq.{length-take-le, take_at, drop_at, drop-drop}
 use borrow.Author.Tests.{eq-eqb, ne_eqb}
-use Rattle.lists.specs.Lists.{if◌then◌else◌}
-use Rattle.text.specs.Text.{put_at}
 use Rattle.text.proofs.Puts.{put_fits, length_put}
 use Rattle.fields.specs.Fields.{onto}
 use Rattle.console.specs.Outputs.{Counts, Put}
