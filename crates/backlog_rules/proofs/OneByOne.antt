@@ -160,7 +160,7 @@ unfolding run
 takes_accepted {s} [] fs e (more z p) g = sym (is_step s e.kind e.a e.b g).number ∙ z
 takes_accepted {s} (d ∷ ds) fs e (more z p) g =
     let i = is_step s d.kind d.a d.b g in
-    ap (λ (w : World). refusal (run w ds) e) (sym i.world) ∙ takes_accepted ds fs e p i.good
+    ap (λ (w : World). refusal (run w ds) e) (sym i.world) ∙ takes_accepted {s = (stepped_of s d.kind d.a d.b).state} ds fs e p i.good
 
 module _ (s : State) (t : Tally) (xs : List ℕ) (g : Good s) where
   abbrev R : Taken
