@@ -7,4 +7,3 @@ pub mod Same
 pub mod Cases
 pub mod PurgingTables
 pub mod Numbers
-pub mod Links

@@ -11,7 +11,7 @@ use native.Mathlib.Omega.{arith}
 use native.Mathlib.Decide.{dec_lt}
 use lib.Dec.{T, eqb, eqb→eq, eqb_refl}
 use lib.ListN.{length, get_or-eq_default}
-use Rattle.lists.specs.Lists.{any, from}
+use Rattle.lists.specs.Lists.{any}
 use Rattle.lists.proofs.Tests.{and_l, and_r, and_i, or_cases, or_left, or_right}
 use Rattle.lists.proofs.Numbers.{any_out, any_in, get_or_map_below, length_map_below}
 use Rattle.net.specs.Network.{Network, ends, link_numbers}

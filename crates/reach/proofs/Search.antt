@@ -8,9 +8,9 @@ use native.Mathlib.Omega.{arith}
 use lib.Dec.{T, eqb, ltb, eqb→eq, ltb→lt, lt→ltb}
 use lib.ListN.{get_or}
 use lib.Pow.{pow_pos}
-use borrow.Author.Tests.{eqb-true, eqb-false, not-true, lt-ltb, le-ltb}
+use borrow.Author.Tests.{eqb-true, eqb-false, not-true}
 use Rattle.lists.specs.Words.{bit_at, word_of}
-use Rattle.lists.proofs.Tests.{T_is, is_T, and_no, and_l, and_r, or_cases, or_left, or_right, and_i, eq→eqb}
+use Rattle.lists.proofs.Tests.{T_is, is_T, and_l, and_r, or_cases, or_left, or_right, and_i, eq→eqb}
 use Rattle.lists.proofs.Words.{none_in, put_same, put_other, put_fits}
 use Rattle.net.specs.declared.Net.{Net}
 use Rattle.net.specs.Network.{Ends}
@@ -78,19 +78,6 @@ ties_by a b u t (inl p) =
     or_left (eqb a u && eqb b t) (eqb a t && eqb b u) (and_i (eqb a u) (eqb b t) (eq→eqb a u p.0) (eq→eqb b t p.1))
 ties_by a b u t (inr p) =
     or_right (eqb a u && eqb b t) (eqb a t && eqb b u) (and_i (eqb a t) (eqb b u) (eq→eqb a t p.0) (eq→eqb b u p.1))
-
--- the test's parts, in the order in which the code asks them
-pub crosses_idle : (n a b : ℕ) (c : Bool) (w : ℕ) → c ≡ false → false ≡ crosses n a b c w
-crosses_idle n a b c w e = simp e
-
-pub crosses_low : (n a b : ℕ) (c : Bool) (w : ℕ) → n ≤ a → false ≡ crosses n a b c w
-crosses_low n a b c w h = simp (le-ltb a n h, and_no)
-
-pub crosses_high : (n a b : ℕ) (c : Bool) (w : ℕ) → n ≤ b → false ≡ crosses n a b c w
-crosses_high n a b c w h = simp (le-ltb b n h, and_no)
-
-pub crosses_last : (n a b : ℕ) (c : Bool) (w : ℕ) → c ≡ true → a < n → b < n → not (eqb (bit_at w a) (bit_at w b)) ≡ crosses n a b c w
-crosses_last n a b c w e la lb = simp (e, lt-ltb a n la, lt-ltb b n lb)
 
 module _ (net : Net) (works : ℕ → Bool) (s : ℕ) where
   abbrev pub Sound : ℕ → Type 0
