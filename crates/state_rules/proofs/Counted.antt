@@ -140,3 +140,14 @@ module _ {w a b live R : Bool} (q : Asked w a b live R) where
 
     pub all_says : live ≡ false → w ≡ true → a ≡ R
     all_says l n = ap₂ (λ (x y : Bool). x && (y || a)) (sym n) (sym l) ∙ asked
+
+-- the same from what was gathered up to the places where the loops end
+pub asked_of : (links own : ℕ) (st : Station) (r : Bool) → r ≡ every_place (λ t. marks_test st.condition (in_word own t) (marks_at st.marks t))
+    → r ≡ true → (m : ℕ) → m ≡ min links link_room → (k : ℕ) → k ≡ m → (j : ℕ) → j ≡ link_room → (w a b : Bool)
+    → w ≡ counters_hold st.counters m k → a ≡ none_above st.counters m k → b ≡ none_beyond st.counters m j
+    → Asked w a b (is_live st.condition) (station_test links own st)
+asked_of links own st r d q m em k ek j ej w a b ew ea eb =
+    record {
+      by = by_counters links own st r d q m em w a b (ew ∙ ap (counters_hold st.counters m) ek)
+          (ea ∙ ap (none_above st.counters m) ek) (eb ∙ ap (none_beyond st.counters m) ej);
+    }

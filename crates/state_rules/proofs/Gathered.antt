@@ -7,14 +7,14 @@ use native.Mathlib.Decide.{dec_lt}
 use native.Mathlib.Omega.{arith}
 use lib.Bits.{bit_and, and_le_l, and_le_r, bit_or, or_add_and, or_lt, or_shr, or_mod}
 use lib.Dec.{eqb, leb, ltb, eqb→eq, leb→le}
-use borrow.Author.Tests.{eq-eqb, ne_eqb, lt-ltb, le-ltb, le-leb, lt-leb}
+use borrow.Author.Tests.{eq-eqb, ne_eqb, lt-ltb, le-ltb, le-leb}
 use Rattle.lists.specs.Lists.{every, below}
 use Rattle.lists.specs.Words.{bit_at, in_word}
 use Rattle.lists.proofs.Tests.{and_l, and_r, and_i, and_yes, is_T, eq→eqb, same_test, every_append}
 use Rattle.lists.proofs.Numbers.{below_at, at_below, below_snoc}
-use Rattle.lists.proofs.Words.{one_is_in, zero_is_out, bit_zero, and_at}
+use Rattle.lists.proofs.Words.{bit_zero, and_at}
 use Rattle.net.specs.Sizes.{station_room, link_room}
-use Rattle.state_rules.specs.Carried.{in_rooms, gathered_hold}
+use Rattle.state_rules.specs.Carried.{in_rooms}
 
 -- ---- a test that holds so far, and of the next one
 pub gather_more : (p : ℕ → Bool) (k : ℕ) (a b : Bool) → a ≡ every p (below k) → b ≡ (a && p k) → b ≡ every p (below (k + 1))
@@ -119,38 +119,3 @@ least_more a b n =
     (λ t. and_i (leb n a) _ (is_T _ (le-leb n a (omega (arith, leb→le n (min a b) t))))
     (is_T _ (le-leb n b (omega (arith, leb→le n (min a b) t)))))
     (λ t. is_T _ (le-leb n (min a b) (omega (arith, leb→le n a (and_l (leb n a) _ t), leb→le n b (and_r (leb n a) _ t)))))
-
--- ---- the answer by what was gathered, in the order in which the code asks
-module _ (links ways ended most least : ℕ) where
-  pub link_beyond : (ways / 64 % 1024 ≡ 0 → ⊥) → false ≡ gathered_hold links ways ended most least
-  link_beyond n = simp (ne_eqb (ways / 64 % 1024) 0 n)
-
-  module _ (e : ways / 64 % 1024 ≡ 0) where
-    pub sender_beyond : (ways / 2097152 ≡ 0 → ⊥) → false ≡ gathered_hold links ways ended most least
-    sender_beyond n = simp (eq-eqb (ways / 64 % 1024) 0 e, ne_eqb (ways / 2097152) 0 n)
-
-    module _ (d : ways / 2097152 ≡ 0) where
-      in-rooms : in_rooms ways ≡ true
-      in-rooms = simp (eq-eqb (ways / 64 % 1024) 0 e, eq-eqb (ways / 2097152) 0 d)
-
-      pub sender_foreign : ended % 2 ≡ 0 → false ≡ gathered_hold links ways ended most least
-      sender_foreign z =
-          sym (ap₂ (λ (a b : Bool). ((a && b) && leb most links) && leb 1 least) in-rooms
-          (zero_is_out ended 0 (bit_zero ended ∙ z)))
-
-      module _ (n : ended % 2 ≡ 0 → ⊥) where
-        is-ended : in_word ended 0 ≡ true
-        is-ended = one_is_in ended 0 (bit_zero ended ∙ odd n)
-          where
-            odd : (ended % 2 ≡ 0 → ⊥) → ended % 2 ≡ 1
-            odd n = omega arith
-
-        pub told_beyond : links < most → false ≡ gathered_hold links ways ended most least
-        told_beyond h =
-            sym (ap₂ (λ (a b : Bool). ((a && b) && leb most links) && leb 1 least) in-rooms is-ended
-            ∙ ap (λ (b : Bool). b && leb 1 least) (lt-leb most links h))
-
-        pub all_gathered : most ≤ links → leb 1 least ≡ gathered_hold links ways ended most least
-        all_gathered h =
-            sym (ap₂ (λ (a b : Bool). ((a && b) && leb most links) && leb 1 least) in-rooms is-ended
-            ∙ ap (λ (b : Bool). b && leb 1 least) (le-leb most links h))

@@ -18,19 +18,11 @@ use Rattle.net.specs.Letters.{is_counter, letter_holds}
 use Rattle.net.specs.Values.{network_of, link_count, body_test}
 use Rattle.net.specs.Sizes.{station_room, link_room}
 use Rattle.net.proofs.ValueLaws.{links_of_lem}
-use Rattle.net.proofs.Bodies.{counter_is, body_is}
+use Rattle.net.proofs.Bodies.{body_is}
 use Rattle.sets.specs.Sets.{word_by}
 use Rattle.sets.proofs.WordLaws.{in_by}
 use Rattle.marks.specs.Marks.{own_at}
 use Rattle.state_rules.specs.Carried.{past_subject, counter_holds, way_test, letter_test}
-
--- ---- what a letter says
-module _ (b : Body) where
-  pub said_reply : (c : ℕ) → b ≡ Reply c → c < 65536 → leb 1 c ≡ counter_holds b
-  said_reply c e h = counter_is c (omega arith) ∙ sym (ap counter_holds e)
-
-  pub said_notice : (j c : ℕ) → b ≡ Notice j c → c < 65536 → leb 1 c ≡ counter_holds b
-  said_notice j c e h = counter_is c (omega arith) ∙ sym (ap counter_holds e)
 
 past_is : (j n : ℕ) → leb (j + 1) n ≡ ltb j n
 past_is j n = go (dec_lt j n)
