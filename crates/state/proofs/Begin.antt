@@ -1,11 +1,10 @@
 -- The state right after reading a sheet, as the code makes it.
-use Prim.Native.Nat.{ℕ, ◌-◌, ◌≤◌, ◌<◌}
-use mathlib.Core.Bool.{Bool, true, false, not}
+use Prim.Native.Nat.{ℕ, ◌-◌, ◌≤◌}
+use mathlib.Core.Bool.{Bool, true, false}
 use mathlib.Core.Path.{◌≡◌, refl, sym, ap, ap₂, ◌∙◌}
 use mathlib.Core.List.{List, [], ◌∷◌, ◌++◌, map}
 use native.Mathlib.Omega.{arith}
-use lib.Dec.{T}
-use lib.ListN.{length, drop, replicate, length-map}
+use lib.ListN.{length, replicate, length-map}
 use Rattle.lists.specs.Lists.{if◌then◌else◌, below, filled}
 use Rattle.lists.specs.Places.{roomed}
 use Rattle.lists.proofs.Rooms.{drop_replicate}
@@ -23,8 +22,7 @@ use Rattle.station.specs.Holding.{Holding}
 use Rattle.station.specs.Done.{done_by}
 use Rattle.station.proofs.Doing.{stopped}
 use Rattle.station.specs.Values.{laid, blank}
-use Rattle.world.specs.World.{World, no_letter, fresh}
-use Rattle.state.specs.declared.State.{State}
+use Rattle.world.specs.World.{no_letter, fresh}
 use Rattle.state.specs.declared.Begun.{Begun}
 use Rattle.state.specs.State.{state_of}
 use Rattle.state.specs.Beginning.{unread, begun_of}

@@ -1,17 +1,17 @@
 -- A well-formed world laid out in zero room is a well-formed state that means it.
-use Prim.Native.Nat.{ℕ, ◌-◌, ◌≤◌, ◌<◌, min}
-use mathlib.Core.Bool.{Bool, true, false, not, ◌&&◌}
-use mathlib.Core.Path.{◌≡◌, refl, sym, ap, ap₂, ◌∙◌, subst, subst⁻¹}
-use mathlib.Core.List.{List, [], ◌∷◌, map}
+use Prim.Native.Nat.{ℕ, ◌≤◌, ◌<◌, min}
+use mathlib.Core.Bool.{Bool, ◌&&◌}
+use mathlib.Core.Path.{◌≡◌, refl, sym, ap, ◌∙◌, subst, subst⁻¹}
+use mathlib.Core.List.{List, map}
 use native.Mathlib.Decide.{dec_lt}
 use native.Mathlib.Omega.{arith}
 use borrow.Author.Tests.{lt-ltb, le-ltb, le-leb}
-use lib.Dec.{T, ltb, leb}
+use lib.Dec.{T, leb}
 use lib.ListN.{length, get_or, take, length-map, get_or-map}
 use lib.Seq.{ext_get_or}
-use Rattle.lists.specs.Lists.{if◌then◌else◌, every, below}
+use Rattle.lists.specs.Lists.{if◌then◌else◌}
 use Rattle.lists.specs.Places.{roomed}
-use Rattle.lists.proofs.Tests.{and_i, T_is, is_T, every_at}
+use Rattle.lists.proofs.Tests.{and_i, is_T, every_at}
 use Rattle.lists.proofs.Numbers.{at_below}
 use Rattle.lists.proofs.Fill.{get_d_any}
 use Rattle.lists.proofs.Rooms.{length_roomed, take_roomed, roomed_at, roomed_past}
@@ -34,7 +34,7 @@ use Rattle.world.proofs.Keeps.{Formed}
 use Rattle.state.specs.declared.State.{State}
 use Rattle.state.specs.State.{beyond, station_in, letter_in, world_of, state_of, is_blank, is_no_letter, station_place}
 use Rattle.state.specs.State.{letter_place, stations_hold, letters_hold, state_holds, Fits, Ends64, Sized}
-use Rattle.state.proofs.StationRoom.{Spare, spare_formed, fits_laid, laid_spare, holding_laid, is_blank_lem, fits_blank}
+use Rattle.state.proofs.StationRoom.{spare_formed, fits_laid, laid_spare, holding_laid, is_blank_lem, fits_blank}
 
 module _ (net : Net) (w : World) (n : T (net_holds net)) (e : network_of net ≡ w.net) (f : Formed w) where
   abbrev laid_all : List Station

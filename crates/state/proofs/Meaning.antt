@@ -1,20 +1,19 @@
 -- A well-formed state is determined by what it means, and every well-formed world that its network carries is meant by one.
-use Prim.Native.Nat.{ℕ, ◌-◌, ◌≤◌, ◌<◌}
-use mathlib.Core.Bool.{Bool, true, false, not, ◌&&◌}
-use mathlib.Core.Path.{◌≡◌, refl, sym, ap, ap₂, ◌∙◌, subst, subst⁻¹}
+use Prim.Native.Nat.{ℕ, ◌≤◌, ◌<◌}
+use mathlib.Core.Bool.{Bool, ◌&&◌}
+use mathlib.Core.Path.{◌≡◌, refl, sym, ap, ◌∙◌, subst, subst⁻¹}
 use mathlib.Core.List.{List, [], ◌∷◌, map}
-use native.Mathlib.Decide.{dec_lt}
 use native.Mathlib.Omega.{arith}
-use borrow.Author.Tests.{lt-ltb, le-ltb, le-leb}
-use lib.Dec.{T, eqb, ltb, leb, leb→le, eqb→eq}
-use lib.ListN.{length, get_or, take, length-map, length-take, get_or-map}
+use borrow.Author.Tests.{lt-ltb, le-ltb}
+use lib.Dec.{T, leb, leb→le, eqb→eq}
+use lib.ListN.{length, get_or, take, length-map, get_or-map}
 use lib.Seq.{length-take-le, get_or-take, ext_get_or}
-use Rattle.lists.specs.Lists.{if◌then◌else◌, every, below}
+use Rattle.lists.specs.Lists.{if◌then◌else◌}
 use Rattle.lists.specs.Places.{roomed}
-use Rattle.lists.proofs.Tests.{and_l, and_r, and_i, T_is, is_T, at_every, every_at}
-use Rattle.lists.proofs.Numbers.{below_at, at_below}
+use Rattle.lists.proofs.Tests.{and_l, and_r, at_every}
+use Rattle.lists.proofs.Numbers.{below_at}
 use Rattle.lists.proofs.Fill.{get_d_any}
-use Rattle.lists.proofs.Rooms.{length_roomed, take_roomed, roomed_at, roomed_past, roomed_of}
+use Rattle.lists.proofs.Rooms.{roomed_of}
 use Rattle.net.specs.declared.Body.{Body}
 use Rattle.net.specs.declared.Body.TheVariants.{Request, Reply, Notice}
 use Rattle.net.specs.declared.Letter.{Letter}
@@ -22,23 +21,22 @@ use Rattle.net.specs.declared.Net.{Net}
 use Rattle.net.specs.Network.{Network}
 use Rattle.sheet_rules.specs.Rules.{sheet_holds}
 use Rattle.net.specs.Letters.{letter_holds}
-use Rattle.net.specs.Values.{network_of, link_count, is_zero}
+use Rattle.net.specs.Values.{network_of, is_zero}
 use Rattle.sheet_rules.specs.Values.{net_holds}
 use Rattle.sheet_rules.proofs.Good.{few_stations, sheet_good}
 use Rattle.net.specs.Sizes.{station_room, letter_room}
-use Rattle.net.proofs.ValueLaws.{stations_of, links_of_lem}
+use Rattle.net.proofs.ValueLaws.{stations_of}
 use Rattle.station.specs.declared.Station.{Station}
 use Rattle.station.specs.Holding.{Holding, holding_holds}
 use Rattle.station.specs.Values.{holding_of, laid, blank}
-use Rattle.station.proofs.HoldingLaws as Slots
 use Rattle.state_rules.specs.Formed.{station_formed}
-use Rattle.world.specs.World.{World, nobody, no_letter, holding_at, well_formed}
-use Rattle.world.proofs.Keeps.{Formed, formed, well}
+use Rattle.world.specs.World.{nobody, no_letter, holding_at, well_formed}
+use Rattle.world.proofs.Keeps.{Formed, well}
 use Rattle.state.specs.declared.State.{State}
 use Rattle.state.specs.State.{beyond, station_in, letter_in, world_of, state_of, is_blank, is_request, is_no_letter, station_place}
-use Rattle.state.specs.State.{letter_place, stations_hold, letters_hold, state_holds, Fits, Sized}
-use Rattle.state.proofs.StationRoom.{Spare, own_laid, formed_holds, formed_spare, spare_formed, fits_laid}
-use Rattle.state.proofs.StationRoom.{laid_spare, holding_laid, blank_is, is_blank_lem, fits_blank}
+use Rattle.state.specs.State.{letter_place, stations_hold, letters_hold, state_holds, Sized}
+use Rattle.state.proofs.StationRoom.{Spare, own_laid, formed_holds, formed_spare}
+use Rattle.state.proofs.StationRoom.{blank_is}
 
 no_letter_is : (x : Letter) → T (is_no_letter x) → x ≡ no_letter
 no_letter_is x t =

@@ -3,22 +3,20 @@ use Prim.Native.Nat.{ℕ, ◌+◌, ◌-◌, ◌^◌, ◌≤◌, ◌<◌}
 use mathlib.Core.Bool.{Bool, true, false, not, ◌&&◌, ◌||◌}
 use mathlib.Core.Path.{◌≡◌, refl, sym, ap, ap₂, ◌∙◌, subst, subst⁻¹}
 use mathlib.Core.List.{List, [], ◌∷◌, ◌++◌, map}
-use native.Mathlib.Decide.{dec_lt}
 use native.Mathlib.Omega.{arith}
 use lib.Dec.{T, eqb→eq}
 use lib.ListN.{length, get_or, take, drop, replicate, length-append, length-drop, length-map, length-replicate}
-use lib.ListN.{get_or-append, get_or-map, get_or-eq_default, get_or-replicate}
-use lib.Seq.{ext_get_or, get_or-append-add, get_or-drop, take_at, drop_at, length-take-le}
+use lib.ListN.{get_or-append, get_or-map, get_or-replicate}
+use lib.Seq.{ext_get_or, get_or-append-add, get_or-drop, take_at, drop_at}
 use Rattle.lists.specs.Lists.{every, from, below}
 use Rattle.lists.specs.Words.{in_word, word_of}
-use Rattle.lists.proofs.Tests.{and_l, and_r, and_i, every_at, at_every}
+use Rattle.lists.proofs.Tests.{and_l, and_r, and_i, at_every}
 use Rattle.lists.proofs.Numbers.{every_from, from_every, get_or_map_below, length_map_below}
 use Rattle.lists.proofs.Rooms.{drop_replicate}
 use Rattle.lists.proofs.Words.{in_word_of, word_of_lt, none_in, zero_is_out}
 use Rattle.net.specs.declared.Net.{Net}
 use Rattle.net.specs.Values.{network_of, link_count, is_zero}
 use Rattle.net.specs.Sizes.{link_room}
-use Rattle.net.proofs.ValueLaws.{links_of_lem}
 use Rattle.marks.specs.declared.Marks.{Marks}
 use Rattle.marks.specs.declared.Words.{Words}
 use Rattle.marks.specs.Marks.{marks_at}
