@@ -11,22 +11,22 @@ use Rattle.post.proofs.LinkLaws.{some_seen, none_seen}
 
 -- ---- the first letter
 module _ (s c : ℕ) (p : Post) where
-  first_by : (a t : Bool) → some_in p.requests ≡ a → tells p ≡ t → first_by a t s c p ≡ first_left s c p
+  first_by_lem : (a t : Bool) → some_in p.requests ≡ a → tells p ≡ t → first_by a t s c p ≡ first_left s c p
   unfolding first_left
-  first_by a t ea et = ap₂ (λ (x y : Bool). first_by x y s c p) (sym ea) (sym et)
+  first_by_lem a t ea et = ap₂ (λ (x y : Bool). first_by x y s c p) (sym ea) (sym et)
 
   pub first_asks : (request : ℕ) → p.requests < 2 ^ 64 → (p.requests ≡ 0 → ⊥) → request ≡ lowest_in p.requests
       → letter s request Request ≡ first_left s c p
   first_asks request h n e =
-      ap (λ (x : ℕ). letter s x Request) e ∙ first_by true (tells p) (some_seen p.requests h n) refl
+      ap (λ (x : ℕ). letter s x Request) e ∙ first_by_lem true (tells p) (some_seen p.requests h n) refl
 
   pub first_tells : (r : Bool) (way subject : ℕ) → p.requests ≡ 0 → r ≡ tells p → r ≡ true
       → way ≡ lowest_in p.left → subject ≡ lowest_in p.subjects → letter s way (Notice subject c) ≡ first_left s c p
   first_tells r way subject z er et ew ej =
-      ap₂ (λ (x y : ℕ). letter s x (Notice y c)) ew ej ∙ first_by false true (none_seen p.requests z) (sym er ∙ et)
+      ap₂ (λ (x y : ℕ). letter s x (Notice y c)) ew ej ∙ first_by_lem false true (none_seen p.requests z) (sym er ∙ et)
 
   pub first_replies : (r : Bool) → p.requests ≡ 0 → r ≡ tells p → r ≡ false → letter s p.link (Reply p.reply) ≡ first_left s c p
-  first_replies r z er et = first_by false false (none_seen p.requests z) (sym er ∙ et)
+  first_replies r z er et = first_by_lem false false (none_seen p.requests z) (sym er ∙ et)
 
 -- ---- what is left after it
 module _ (p q : Post) where
