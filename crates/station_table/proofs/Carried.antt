@@ -1,4 +1,4 @@
--- What the three small steps answer, return by return.
+-- What two of the small steps answer: the table purged, and what is told where only the known is told of.
 use Prim.Native.Nat.{ℕ, ◌<◌}
 use mathlib.Core.Bool.{Bool, true, false, not, ◌&&◌}
 use mathlib.Core.Path.{◌≡◌, refl, sym, ap, ap₂, ◌∙◌}
