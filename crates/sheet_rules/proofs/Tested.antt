@@ -1,7 +1,7 @@
 -- The sheet rules, as the code tests them.
 use Prim.Native.Nat.{ℕ, ◌+◌, ◌-◌, ◌≤◌, ◌<◌, min}
-use mathlib.Core.Bool.{Bool, true, false, ◌&&◌, ◌||◌}
-use mathlib.Core.Path.{◌≡◌, refl, sym, ap, ap₂, ◌∙◌, subst, subst⁻¹}
+use mathlib.Core.Bool.{Bool, false, ◌&&◌, ◌||◌}
+use mathlib.Core.Path.{◌≡◌, sym, ap, ap₂, ◌∙◌, subst, subst⁻¹}
 use mathlib.Core.Logic.{◌⊎◌, inl, inr}
 use mathlib.Core.List.{List}
 use native.Mathlib.Decide.{dec_lt}
@@ -9,7 +9,7 @@ use native.Mathlib.Omega.{arith}
 use lib.Dec.{T, eqb, ltb}
 use lib.ListN.{length, get_or, drop, length-drop}
 use lib.Seq.{get_or-drop}
-use borrow.Author.Tests.{eq-eqb, ne_eqb, lt-ltb, le-ltb, le-leb, lt-leb}
+use borrow.Author.Tests.{eq-eqb, lt-ltb, le-ltb, le-leb, lt-leb}
 use Rattle.lists.specs.Lists.{if◌then◌else◌, every, below}
 use Rattle.lists.proofs.Tests.{and_no, and_l, and_r, and_i, same_test, every_at, at_every}
 use Rattle.lists.proofs.Numbers.{below_at, at_below}
@@ -21,41 +21,6 @@ use Rattle.sheet_rules.specs.Values.{net_holds}
 use Rattle.sheet_rules.specs.Steps.{follows, place_test}
 use Rattle.net.specs.Sizes.{station_room, link_room}
 use Rattle.net.proofs.ValueLaws.{stations_of, links_of_lem, ends_of}
-
--- ---- one link, in the order in which the code asks
-module _ (n : ℕ) (first : Bool) (a b low high : ℕ) where
-  pub follows_ends : high ≤ low → false ≡ follows n first a b low high
-  follows_ends h = simp (le-ltb low high h)
-
-  pub follows_range : n ≤ high → false ≡ follows n first a b low high
-  follows_range h = simp (le-ltb high n h, and_no)
-
-  pub follows_first : low < high → high < n → first ≡ true → true ≡ follows n first a b low high
-  follows_first p q e = simp (lt-ltb low high p, lt-ltb high n q, e)
-
-  pub follows_above : low < high → high < n → a < low → true ≡ follows n first a b low high
-  follows_above p q h = simp (lt-ltb low high p, lt-ltb high n q, lt-ltb a low h) (sym (or_yes first))
-    where
-      or_yes : (x : Bool) → (x || true) ≡ true
-      or_yes true = refl
-      or_yes false = refl
-
-  pub follows_same : low < high → high < n → first ≡ false → low ≤ a → a ≡ low → ltb b high ≡ follows n first a b low high
-  follows_same p q e l h = simp (lt-ltb low high p, lt-ltb high n q, e, le-ltb a low l, eq-eqb a low h)
-
-  pub follows_below : low < high → high < n → first ≡ false → low ≤ a → (a ≡ low → ⊥) → false ≡ follows n first a b low high
-  follows_below p q e l h = simp (lt-ltb low high p, lt-ltb high n q, e, le-ltb a low l, ne_eqb a low h)
-
--- ---- one place
-module _ (links stations k a b low high : ℕ) where
-  pub place_used : (r : Bool) → k < links → r ≡ follows stations (eqb k 0) a b low high → r ≡ place_test links stations k a b low high
-  place_used r h p = p ∙ simp (lt-ltb k links h)
-
-  pub place_zero : links ≤ k → low ≡ 0 → eqb high 0 ≡ place_test links stations k a b low high
-  place_zero h e = simp (le-ltb k links h, eq-eqb low 0 e)
-
-  pub place_not : links ≤ k → (low ≡ 0 → ⊥) → false ≡ place_test links stations k a b low high
-  place_not h e = simp (le-ltb k links h, ne_eqb low 0 e)
 
 -- ---- the links, one after the other
 -- a and b are the ends of the link before k, if there is one
