@@ -1,0 +1,14 @@
+use Rattle.event_list.proofs.Lines.{Going}
+use Rattle.event_lines.specs.Steps.{start}
+use lib.ListN.{length}
+use mathlib.Core.Bool.{true}
+use mathlib.Core.Path.{◌≡◌}
+use Prim.Native.Nat.{◌-◌}
+use Rattle.event_list.proofs.list_lines.Given as goal
+
+abbrev pub invariant-loop-from : goal.invariant-loop-from
+invariant-loop-from l =
+    Going l.bytes l.initial.list l.initial.reading l.list l.reading l.at l.from × (l.fresh ≡ true → l.reading ≡ start)
+
+abbrev pub decreases-loop-from : goal.decreases-loop-from
+decreases-loop-from l = length l.bytes - l.from
