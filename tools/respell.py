@@ -3,6 +3,7 @@
 
 usage: python3 tools/respell.py [--list]     at the top of the repository, once, after the kit's port.py; --list changes nothing
        python3 tools/respell.py --inner FILE..     of these files alone the names that only they know
+       python3 tools/respell.py --if               only the library's choice by a test in place of the repository's own
 
 Renamed are the names that the .antt files of specs/ and proofs/ declare, wherever those files, the clauses of src/, the must-fail edits and
 the pages of docs/ cite them. Goals of a function's proof, and functions, types, fields, strings, inputs and outputs of src/ keep their names.
@@ -211,6 +212,43 @@ def inner(text):
     return TOKEN.sub(lambda t: found.get(t.group(0), t.group(0)), text) if found else text
 
 
+IF = "if◌then◌else◌"
+OWN_IF = """module _ {ℓ} {A : Type ℓ} where
+  infix 5 if◌then◌else◌
+  abbrev pub if◌then◌else◌ : Bool → A → A → A
+  if true then a else b = a
+  if false then a else b = b
+
+"""
+
+
+def library_if(text):
+    """A choice by a test is the library's: nothing else may stand under its name."""
+    found = False
+
+    def off(m):
+        nonlocal found
+        names = [n.strip() for n in m.group(3).split(",") if n.strip()]
+        if IF not in names:
+            return m.group(0)
+        found = True
+        rest = [n for n in names if n != IF]
+        return f"{m.group(1)}use Rattle.lists.specs.Lists.{{{', '.join(rest)}}}{m.group(4)}\n" if rest else ""
+
+    if OWN_IF in text:
+        text, found = text.replace(OWN_IF, ""), True
+    text = re.sub(r"(?m)^((pub |ghost )?)use Rattle\.lists\.specs\.Lists\.\{([^}]*)\}(;?)\n", off, text)
+    if not found:
+        return text
+    prelude = re.search(r"(?m)^((?:ghost )?use Rattle\.std\.specs\.Prelude\.\{)([^}]*)\}", text)
+    if prelude:
+        names = [n.strip() for n in prelude.group(2).split(",")]
+        return text if IF in names else text[: prelude.end() - 1].rstrip(", \n") + f", {IF}" + text[prelude.end() - 1 :]
+    first = re.search(r"(?m)^(ghost )?use ", text)
+    line = f"{first.group(1) or ''}use Rattle.std.specs.Prelude.{{{IF}}}{';' if first.group(1) else ''}\n"
+    return text[: first.start()] + line + text[first.start() :]
+
+
 def head_of(text):
     """`#![tactic(auto)]` above the first item, below the comment that says what the crate is."""
     if "#![tactic(auto)]" in text:
@@ -224,6 +262,12 @@ def head_of(text):
 
 def main(argv):
     root = "."
+    if argv[:1] == ["--if"]:
+        for p in texts(root, (".antt", ".rt")):
+            new = library_if(read(p))
+            if new != read(p):
+                write(p, new)
+        return 0
     if argv[:1] == ["--inner"]:
         for p in argv[1:]:
             write(p, inner(read(p)))
@@ -239,13 +283,13 @@ def main(argv):
         text = read(p)
         mine = set(here[p]) | own_imports(root, text)
         text = turn_antt(text, names, both, mine)
-        write(p, text if of_a_function(p) else inner(text))
+        write(p, library_if(text if of_a_function(p) else inner(text)))
     for p in texts(root, ".rt"):
         text = turn_source(read(p), names)
         text = text.replace("#[derive(Drop)]", "#[derive(Clone, Copy)]")
         if p.endswith(("src/lib.rt", "src/main.rt")):
             text = head_of(text)
-        write(p, text)
+        write(p, library_if(text))
     for p in texts(root, ".edit"):
         write(p, turn_edit(read(p), names))
     for p in [*texts(root, ".md", "docs"), os.path.join(root, "README.md")]:

@@ -1,12 +1,12 @@
 -- THE BACKLOG PROGRAM: whatever the pieces that standard input comes in, its calls print, in all, exactly what one call over all the lines
 -- of the input comes to.
+use Rattle.std.specs.Prelude.{if◌then◌else◌}
 use Prim.Native.Nat.{ℕ}
 use mathlib.Core.Bool.{Bool}
 use mathlib.Core.Path.{◌≡◌, refl, sym, ap, ◌∙◌}
 use mathlib.Core.List.{List, [], ◌∷◌, ◌++◌, map}
 use lib.Dec.{T}
 use borrow.Author.Tests.{ne_eqb}
-use Rattle.lists.specs.Lists.{if◌then◌else◌}
 use Rattle.event_lines.specs.Events.{event_line}
 use Rattle.event_lines.specs.Split.{lines_of}
 use Rattle.event_lines.specs.Begun.{is_begun}

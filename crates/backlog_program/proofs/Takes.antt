@@ -1,4 +1,5 @@
 -- What each way out of `take_lines` gives.
+use Rattle.std.specs.Prelude.{if◌then◌else◌}
 use Prim.Native.Nat.{ℕ, ◌*◌, ◌≤◌}
 use mathlib.Core.Bool.{Bool, true, false}
 use mathlib.Core.Path.{◌≡◌, refl, sym, ap, ◌∙◌}
@@ -9,7 +10,6 @@ use lib.Dec.{ltb}
 use lib.ListN.{length, take, drop}
 use lib.Seq.{take_at}
 use borrow.Author.Tests.{le-ltb, eq-eqb, ne_eqb}
-use Rattle.lists.specs.Lists.{if◌then◌else◌}
 use Rattle.fields.specs.Output.{Writing, denied, writes, writing_output}
 use Rattle.tally.specs.Sums.{added}
 use Rattle.backlog_rules.specs.declared.Taken.{Taken}

@@ -1,8 +1,7 @@
 -- What the backlog program's calls print, one after the other: `open_sheet`; for a refused sheet `put_refusal`; else `begin`, `take_lines`
 -- for each piece of the input, the last one as `put_piece` ends it, `put_backlog`, and `event_program`'s `put_stations`.
 -- proofs/Program.antt: it is exactly what specs/Backlog.antt says of the file and the whole input.
-use Rattle.std.specs.Prelude.{ℕ, List, [], ◌∷◌, ◌++◌, eqb}
-use Rattle.lists.specs.Lists.{if◌then◌else◌}
+use Rattle.std.specs.Prelude.{ℕ, List, [], ◌∷◌, ◌++◌, eqb, if◌then◌else◌}
 use Rattle.event_lines.specs.Begun.{is_begun}
 use Rattle.backlog_rules.specs.Backlog.{backlog_of}
 use Rattle.console.specs.declared.Opened.{Opened}

@@ -1,7 +1,6 @@
 -- What the code answers for a piece of the input, byte by byte and for every state. proofs/Program.antt: from a fresh state the pieces of
 -- an input give what specs/Backlog.antt says of the whole of it.
-use Rattle.std.specs.Prelude.{ℕ, List, eqb}
-use Rattle.lists.specs.Lists.{if◌then◌else◌}
+use Rattle.std.specs.Prelude.{ℕ, List, eqb, if◌then◌else◌}
 use Rattle.fields.specs.Output.{Writing, denied, writes}
 use Rattle.tally.specs.Sums.{added}
 use Rattle.event_lines.specs.declared.Reading.{Reading}

@@ -1,7 +1,6 @@
 -- A run with answers: the calls of the step one by one, as for a backlog, but a refused event changes nothing and the run goes on. What
 -- each event came to stands in a trace that is lent: three numbers an event, as the event has three.
-use Rattle.std.specs.Prelude.{ℕ, ◌≡◌, List, [], ◌∷◌, ◌++◌}
-use Rattle.lists.specs.Lists.{if◌then◌else◌}
+use Rattle.std.specs.Prelude.{ℕ, ◌≡◌, List, [], ◌∷◌, ◌++◌, if◌then◌else◌}
 use Rattle.fields.specs.Fields.{onto}
 use Rattle.fields.specs.Output.{Writing, denied, writes, fitting}
 use Rattle.tally.specs.declared.Tally.{Tally}

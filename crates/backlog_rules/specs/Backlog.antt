@@ -1,8 +1,7 @@
 -- Document 02, L1: "One call for the morning's backlog." The call over a list of events, three numbers an event, is the calls of the step
 -- one by one, each given the state that the one before it handed back and lent the same tally. It "stops at the first refused event, and
 -- hands back the state after those taken, how many, and the refusal's number".
-use Rattle.std.specs.Prelude.{ℕ, ◌+◌, List, [], ◌∷◌, eqb}
-use Rattle.lists.specs.Lists.{if◌then◌else◌}
+use Rattle.std.specs.Prelude.{ℕ, ◌+◌, List, [], ◌∷◌, eqb, if◌then◌else◌}
 use Rattle.tally.specs.declared.Tally.{Tally}
 use Rattle.state.specs.declared.State.{State}
 use Rattle.state.specs.State.{state_holds}

@@ -6,7 +6,7 @@ use mathlib.Core.List.{List, [], ◌∷◌, ◌++◌}
 use native.Mathlib.Omega.{arith}
 use lib.Dec.{ltb}
 use lib.ListN.{length, get_or}
-use Rattle.lists.proofs.Tests.{if-elim}
+use Rattle.lists.proofs.Tests.{if_elim}
 use Rattle.fields.specs.Fields.{Field, short, field, first_field, is_field, is_empty}
 use Rattle.net.specs.Network.{Ends}
 use Rattle.sheet_rules.specs.Rules.{precedes, ends_hold}
@@ -31,17 +31,17 @@ opens : (f : Field) → Opens (opened f)
 unfolding opened
 opens short = λ e. omega arith
 opens (field t v rest) =
-    if-elim Opens (not (is_field 1 1 t v)) (λ u e. omega arith)
-    (λ u. if-elim Opens (not (stations_hold (get_or v 0 0))) (λ w e. omega arith) (λ w. tt))
+    if_elim Opens (not (is_field 1 1 t v)) (λ u e. omega arith)
+    (λ u. if_elim Opens (not (stations_hold (get_or v 0 0))) (λ w e. omega arith) (λ w. tt))
 
 judges : (n : ℕ) (prev : Ends) (f : Field) → Judges (judged n prev f)
 unfolding judged
 judges n prev short = λ e. omega arith
 judges n prev (field t v rest) =
-    if-elim Judges (is_field 2 2 t v)
-    (λ u. if-elim Judges (not (ends_hold n (link_of v))) (λ w e. omega arith)
-    (λ w. if-elim Judges (not (precedes prev (link_of v))) (λ x e. omega arith) (λ x. tt)))
-    (λ u. if-elim Judges (is_field 15 0 t v && is_empty rest) (λ w. tt) (λ w e. omega arith))
+    if_elim Judges (is_field 2 2 t v)
+    (λ u. if_elim Judges (not (ends_hold n (link_of v))) (λ w e. omega arith)
+    (λ w. if_elim Judges (not (precedes prev (link_of v))) (λ x e. omega arith) (λ x. tt)))
+    (λ u. if_elim Judges (is_field 15 0 t v && is_empty rest) (λ w. tt) (λ w e. omega arith))
 
 counts : (room n : ℕ) (so : List Ends) (v : Verdict) → Judges v → Counts (read_links room n so v)
 unfolding read_links
@@ -62,7 +62,7 @@ sheet_counts bytes = go (opened (first_field bytes)) (opens (first_field bytes))
 
 file_counts : (file : List ℕ) → Counts (file_sheet file)
 unfolding file_sheet
-file_counts file = if-elim Counts (ltb 4096 (length file)) (λ u e. omega arith) (λ u. sheet_counts file)
+file_counts file = if_elim Counts (ltb 4096 (length file)) (λ u e. omega arith) (λ u. sheet_counts file)
 
 pub refusal_counts : (file : List ℕ) (k : ℕ) → file_sheet file ≡ refused k → k ≡ 0 → ⊥
 refusal_counts file k e = subst Counts e (file_counts file)

@@ -1,4 +1,5 @@
 -- The file of a sheet: one that is too long, and one that is read.
+use Rattle.std.specs.Prelude.{if◌then◌else◌}
 use Prim.Native.Nat.{ℕ, ◌≤◌, ◌<◌}
 use mathlib.Core.Bool.{Bool}
 use mathlib.Core.Path.{◌≡◌, refl, sym, ap, ◌∙◌}
@@ -9,7 +10,6 @@ use lib.Dec.{ltb}
 use lib.ListN.{length, take, replicate}
 use lib.Seq.{take_all, length-take-le}
 use borrow.Author.Tests.{lt-ltb, le-ltb}
-use Rattle.lists.specs.Lists.{if◌then◌else◌}
 use Rattle.net.specs.declared.Net.{Net}
 use Rattle.sheet.specs.declared.Reading as Read
 use Rattle.sheet.specs.Sheet.{refused, read_sheet}

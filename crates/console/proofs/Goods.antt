@@ -1,4 +1,5 @@
 -- A file whose sheet is good: the value that it gives is a good network, and means the sheet's.
+use Rattle.std.specs.Prelude.{if◌then◌else◌}
 use Prim.Native.Nat.{ℕ}
 use mathlib.Core.Bool.{Bool, true, false}
 use mathlib.Core.Path.{◌≡◌}
@@ -6,7 +7,6 @@ use mathlib.Core.List.{List}
 use native.Mathlib.Omega.{arith}
 use lib.Dec.{T, ltb}
 use lib.ListN.{length}
-use Rattle.lists.specs.Lists.{if◌then◌else◌}
 use Rattle.net.specs.Network.{Network}
 use Rattle.sheet_rules.specs.Rules.{sheet_holds}
 use Rattle.sheet.specs.Sheet.{refused, sheet, read_sheet}

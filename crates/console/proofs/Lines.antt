@@ -1,12 +1,12 @@
 -- The law of specs/Feeding.antt: whatever the pieces that an input comes in, in all there is printed, and held at the end, what its lines
 -- say, one after the other.
+use Rattle.std.specs.Prelude.{if◌then◌else◌}
 use Prim.Native.Nat.{ℕ}
 use mathlib.Core.Bool.{Bool, true, false}
 use mathlib.Core.Path.{◌≡◌, refl, sym, ap, ap₂, ◌∙◌}
 use mathlib.Core.List.{List, [], ◌∷◌, ◌++◌, map, append_assoc}
 use native.Mathlib.Decide.{ℕ_discrete}
 use borrow.Author.Tests.{eq-eqb, ne_eqb}
-use Rattle.lists.specs.Lists.{if◌then◌else◌}
 use Rattle.lists.specs.Places.{collect}
 use Rattle.event_lines.specs.Split.{lines_of, answers}
 use Rattle.console.specs.Feeding.{held_after, read_after, text_after, printed, held_all, pieces_held, pieces_read, pieces_text, closing}

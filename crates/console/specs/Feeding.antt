@@ -1,7 +1,6 @@
 -- A program that takes its input byte by byte and prints where a line ends. It holds a value of its own beside the reading of the line
 -- under way. proofs/Lines.antt: in all it prints for each line of the input, whatever the pieces that the input comes in.
-use Rattle.std.specs.Prelude.{ℕ, Bool, List, [], ◌∷◌, ◌++◌, eqb, ltb, length, take}
-use Rattle.lists.specs.Lists.{if◌then◌else◌}
+use Rattle.std.specs.Prelude.{ℕ, Bool, List, [], ◌∷◌, ◌++◌, eqb, ltb, length, take, if◌then◌else◌}
 
 -- "the last newline may be missing": where a line is begun at the end of the input, one newline more is fed
 abbrev pub closing_by : Bool → List ℕ

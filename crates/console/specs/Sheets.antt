@@ -1,6 +1,5 @@
 -- The file `network.sheet`, as the programs read it.
-use Rattle.std.specs.Prelude.{ℕ, List, [], ◌∷◌, ◌++◌, ltb, length}
-use Rattle.lists.specs.Lists.{if◌then◌else◌}
+use Rattle.std.specs.Prelude.{ℕ, List, [], ◌∷◌, ◌++◌, ltb, length, if◌then◌else◌}
 use Rattle.text.specs.Text.{digits}
 use Rattle.sheet.specs.Sheet.{Sheet, refused, read_sheet}
 use Rattle.sheet.specs.Values.{sheet_number, sheet_net}

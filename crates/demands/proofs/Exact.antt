@@ -1,5 +1,6 @@
 -- The step is document 01's, for every state value; the fresh state is that of a sheet just read; and a report made after a step shows
 -- what the table says that this step leaves. For every answer that the promises allow.
+use Rattle.std.specs.Prelude.{if◌then◌else◌}
 use Prim.Native.Nat.{ℕ, ◌<◌}
 use mathlib.Core.Bool.{Bool, true, false}
 use mathlib.Core.Path.{◌≡◌, refl, sym, ap, ◌∙◌, subst, subst⁻¹}
@@ -8,7 +9,6 @@ use mathlib.Core.List.{List}
 use native.Mathlib.Omega.{arith}
 use lib.Dec.{T, eqb}
 use lib.ListN.{get_or}
-use Rattle.lists.specs.Lists.{if◌then◌else◌}
 use Rattle.lists.specs.Words.{bit_at}
 use Rattle.lists.proofs.Tests.{T_not_is, is_T}
 use Rattle.net.specs.declared.Net.{Net}

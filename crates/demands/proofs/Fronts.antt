@@ -1,4 +1,5 @@
 -- The field at the front of bytes, as the definitions cut it, is the field in the words of specs/Given.antt.
+use Rattle.std.specs.Prelude.{if◌then◌else◌}
 use Prim.Native.Nat.{ℕ, ◌<◌}
 use mathlib.Core.Bool.{Bool, true, false}
 use mathlib.Core.Path.{◌≡◌, refl, ap, ◌∙◌, subst}
@@ -7,7 +8,6 @@ use native.Mathlib.Omega.{arith}
 use lib.Dec.{T, eqb, ltb, eqb→eq}
 use lib.ListN.{length, take, drop}
 use borrow.Author.Tests.{lt-ltb, ltb-true}
-use Rattle.lists.specs.Lists.{if◌then◌else◌}
 use Rattle.lists.proofs.Tests.{and_l, and_r, and_i, eq→eqb}
 use Rattle.fields.specs.Fields.{short, field, wide, first_field, is_field, are_bytes}
 use Rattle.fields.proofs.Law.{cut_written, written_cut}

@@ -8,7 +8,7 @@ use mathlib.Core.List.{List, [], ◌∷◌, map}
 use native.Mathlib.Omega.{arith}
 use lib.Dec.{T, leb, ltb, ltb→lt, lt→ltb, leb→le, le→leb}
 use lib.ListN.{length, get_or}
-use Rattle.lists.proofs.Tests.{T_is, T_not_is, is_T, and_l, and_r, and_i, if-elim}
+use Rattle.lists.proofs.Tests.{T_is, T_not_is, is_T, and_l, and_r, and_i, if_elim}
 use Rattle.lists.specs.Lists.{below}
 use Rattle.lists.proofs.Fill.{by_places}
 use Rattle.fields.proofs.Seen.{tag_is, size_is}
@@ -47,10 +47,10 @@ module _ (t : ℕ) (v : List ℕ) where
   form_told : (b : Body) → form_of t v ≡ says b → Here t b
   unfolding form_of
   form_told b e =
-      if-elim P (is_field 33 2 t v) (λ h q. subst (Here t) (body q) (of_bytes 33 2 Request h W.request))
-      (λ _. if-elim P (is_field 34 4 t v)
+      if_elim P (is_field 33 2 t v) (λ h q. subst (Here t) (body q) (of_bytes 33 2 Request h W.request))
+      (λ _. if_elim P (is_field 34 4 t v)
       (λ h q. subst (Here t) (body q) (of_bytes 34 4 (Reply (wide (get_or v 2 0) (get_or v 3 0))) h W.reply))
-      (λ _. if-elim P (is_field 35 5 t v)
+      (λ _. if_elim P (is_field 35 5 t v)
       (λ h q. subst (Here t) (body q) (of_bytes 35 5 (Notice (get_or v 2 0) (wide (get_or v 3 0) (get_or v 4 0))) h W.notice))
       (λ _ q. let z : ◌≡◌ {A = ℕ} 0 1 = cc in absurd (omega arith)))) e
     where

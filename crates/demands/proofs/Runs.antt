@@ -1,5 +1,6 @@
 -- What one call counts (specs/Counted.antt); and runs of calls: a run of the step that is lent a tally is a run of the step, after any
 -- first events of a run there is the state that it comes to, and runs from a freshly read sheet.
+use Rattle.std.specs.Prelude.{if◌then◌else◌}
 use Prim.Native.Nat.{ℕ, ◌+◌, ◌*◌, ◌-◌, ◌≤◌, ◌<◌, max}
 use mathlib.Core.Bool.{Bool, true, false, not, ◌&&◌, ◌||◌}
 use mathlib.Core.Path.{◌≡◌, refl, sym, ap, ◌∙◌, subst, subst⁻¹, transport}
@@ -7,10 +8,10 @@ use mathlib.Core.List.{List, [], ◌∷◌, ◌++◌}
 use native.Mathlib.Omega.{arith}
 use lib.Dec.{T}
 use lib.ListN.{length}
-use Rattle.lists.specs.Lists.{if◌then◌else◌, sum_of, below}
+use Rattle.lists.specs.Lists.{sum_of, below}
 use Rattle.lists.specs.Places.{largest_of}
 use Rattle.lists.specs.Words.{bit}
-use Rattle.lists.proofs.Tests.{T_is, T_not_is, eq→eqb, if-elim}
+use Rattle.lists.proofs.Tests.{T_is, T_not_is, eq→eqb, if_elim}
 use Rattle.tally.specs.declared.Tally.{Tally}
 use Rattle.fields.specs.Fields.{are_bytes}
 use Rattle.net.specs.declared.Letter.{Letter}
@@ -196,7 +197,7 @@ lent_accepted {u = u} {y = z} g (C.more {s = s} {t = t} {x = x} {y = y} {e = e} 
     let p = one_lent s x e t y g c in
     let rest : LentCalls t y (accepted_of (next (world_of s) e) es) u z
     = subst (λ (v : World). LentCalls t y (accepted_of v es) u z) p.world (lent_accepted p.fit r) in
-    if-elim (λ (l : List Event). LentCalls s x l u z) (accepted (world_of s) e) (λ a. C.more c rest) (left_out p rest)
+    if_elim (λ (l : List Event). LentCalls s x l u z) (accepted (world_of s) e) (λ a. C.more c rest) (left_out p rest)
   where
     left_out : {fs : List Event} → C.IsLentStep world_of Lent Good s x e t y → LentCalls t y fs u z → T (not (accepted (world_of s) e))
         → LentCalls s x fs u z

@@ -1,5 +1,6 @@
 -- The calls over a state, and the fresh state: each number when, and only when, its reason of specs/StateReasons.antt stands, and a
 -- refusal keeps the state, the tally and the output. For every answer that the promises allow.
+use Rattle.std.specs.Prelude.{if◌then◌else◌}
 use Prim.Native.Nat.{ℕ}
 use mathlib.Core.Bool.{Bool, true, false, not, ◌&&◌}
 use mathlib.Core.Path.{◌≡◌, refl, sym, ap, ◌∙◌, subst, subst⁻¹}
@@ -9,8 +10,7 @@ use native.Mathlib.Omega.{arith}
 use lib.Dec.{T, eqb, leb, eqb→eq}
 use borrow.Author.Tests.{ne_eqb}
 use Rattle.net.specs.Sizes.{letter_room}
-use Rattle.lists.specs.Lists.{if◌then◌else◌}
-use Rattle.lists.proofs.Tests.{T_is, T_not_is, is_T, if-elim}
+use Rattle.lists.proofs.Tests.{T_is, T_not_is, is_T, if_elim}
 use Rattle.net.specs.declared.Net.{Net}
 use Rattle.net.specs.Values.{network_of}
 use Rattle.tally.specs.declared.Tally.{Tally}
@@ -109,7 +109,7 @@ module _ (s : State) (kind a b : ℕ) where
 
   number_why : Step s e (number_of s e)
   unfolding number_of
-  number_why = if-elim (Step s e) (state_holds s) (λ g. told g (Steps.refusal_why (world_of s) e)) W.eleven
+  number_why = if_elim (Step s e) (state_holds s) (λ g. told g (Steps.refusal_why (world_of s) e)) W.eleven
     where
       told : GoodState s → {n : ℕ} → Steps.Why (world_of s) e n → Step s e n
       told g (Steps.none x y z u) = W.taken g x y z u

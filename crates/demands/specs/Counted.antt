@@ -1,7 +1,7 @@
 -- What an accepted step counts, over what the state before it and the state after it mean, in the words of document 01's "The event
 -- program".
-use Rattle.std.specs.Prelude.{Bool, not, ◌&&◌, ◌||◌, ◌≡◌, ltb, ℕ}
-use Rattle.lists.specs.Lists.{if◌then◌else◌, sum_of, below}
+use Rattle.std.specs.Prelude.{Bool, not, ◌&&◌, ◌||◌, ◌≡◌, ltb, ℕ, if◌then◌else◌}
+use Rattle.lists.specs.Lists.{sum_of, below}
 use Rattle.lists.specs.Words.{bit}
 use Rattle.net.specs.declared.Letter.{Letter}
 use Rattle.net.specs.Network.{link_numbers}

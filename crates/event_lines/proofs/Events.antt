@@ -1,4 +1,5 @@
 -- The bytes of a line, one after the other, give what specs/Events.antt says of the whole line.
+use Rattle.std.specs.Prelude.{if◌then◌else◌}
 use Prim.Native.Nat.{ℕ, zero, suc, ◌+◌, ◌-◌, ◌*◌, ◌^◌, ◌≤◌, ◌<◌}
 use mathlib.Core.Bool.{Bool, true, false, ◌&&◌}
 use mathlib.Core.Path.{◌≡◌, refl, sym, ap, ◌∙◌}
@@ -10,8 +11,8 @@ use native.Mathlib.Omega.{arith}
 use lib.Dec.{eqb, leb, eqb→eq}
 use lib.ListN.{length, take}
 use borrow.Author.Tests.{lt-ltb, le-ltb, le-leb, lt-leb, eq-eqb, ne_eqb}
-use Rattle.lists.specs.Lists.{if◌then◌else◌, every}
-use Rattle.lists.proofs.Tests.{and_no, and_yes, if-elim}
+use Rattle.lists.specs.Lists.{every}
+use Rattle.lists.proofs.Tests.{and_no, and_yes, if_elim}
 use Rattle.event_lines.specs.declared.Reading.{Reading}
 use Rattle.event_lines.specs.Events.{is_digit, on_first, pieces, is_number, value_from, value, is_event, event_line}
 use Rattle.event_lines.specs.Steps.{start, spoilt, with_digit, next_number, read_on, line_end, fed}
@@ -23,20 +24,20 @@ Beyond r = 3 ≤ r.place
 spoilt_on : (r : Reading) (b : ℕ) → Beyond r → Beyond (read_on r b)
 unfolding read_on next_number with_digit
 spoilt_on r b h =
-    if-elim Beyond (eqb b 32)
-    (λ t. if-elim Beyond (eqb r.digits 0) (λ u. omega arith)
-    (λ u. if-elim Beyond (eqb r.place 0) (λ w. absurd (omega (arith, eqb→eq r.place 0 w)))
-    (λ w. if-elim Beyond (eqb r.place 1) (λ x. absurd (omega (arith, eqb→eq r.place 1 x))) (λ x. omega arith))))
-    (λ t. if-elim Beyond (is_digit b)
-    (λ u. if-elim Beyond (leb (suc r.digits) 9) (λ w. if-elim Beyond (leb (suc r.value) 100000000) (λ x. h) (λ x. omega arith))
+    if_elim Beyond (eqb b 32)
+    (λ t. if_elim Beyond (eqb r.digits 0) (λ u. omega arith)
+    (λ u. if_elim Beyond (eqb r.place 0) (λ w. absurd (omega (arith, eqb→eq r.place 0 w)))
+    (λ w. if_elim Beyond (eqb r.place 1) (λ x. absurd (omega (arith, eqb→eq r.place 1 x))) (λ x. omega arith))))
+    (λ t. if_elim Beyond (is_digit b)
+    (λ u. if_elim Beyond (leb (suc r.digits) 9) (λ w. if_elim Beyond (leb (suc r.value) 100000000) (λ x. h) (λ x. omega arith))
     (λ w. omega arith))
     (λ u. omega arith))
 
 spoilt_end : (bytes : List ℕ) (r : Reading) → Beyond r → line_end (fed r bytes) ≡ 6 ∷ []
 unfolding line_end
 spoilt_end [] r h =
-    if-elim (λ (x : List ℕ). x ≡ 6 ∷ []) (eqb r.digits 0) (λ t. refl)
-    (λ t. if-elim (λ (x : List ℕ). x ≡ 6 ∷ []) (eqb r.place 2) (λ u. absurd (omega (arith, eqb→eq r.place 2 u))) (λ u. refl))
+    if_elim (λ (x : List ℕ). x ≡ 6 ∷ []) (eqb r.digits 0) (λ t. refl)
+    (λ t. if_elim (λ (x : List ℕ). x ≡ 6 ∷ []) (eqb r.place 2) (λ u. absurd (omega (arith, eqb→eq r.place 2 u))) (λ u. refl))
 spoilt_end (b ∷ bytes) r h = spoilt_end bytes (read_on r b) (spoilt_on r b h)
 
 -- ---- what the line gives, if so many numbers are done, the one under way has k digits that make v, and these pieces are to come:
@@ -102,7 +103,7 @@ on_first_lem b (p ∷ ps) = record { head = b ∷ p; tail = ps; same = refl }
 some : (bytes : List ℕ) → Some (pieces bytes)
 unfolding pieces
 some [] = record { head = []; tail = []; same = refl }
-some (b ∷ bytes) = if-elim Some (eqb b 32) (λ t. record { head = []; tail = pieces bytes; same = refl }) (λ t. on_first_lem b (pieces bytes))
+some (b ∷ bytes) = if_elim Some (eqb b 32) (λ t. record { head = []; tail = pieces bytes; same = refl }) (λ t. on_first_lem b (pieces bytes))
 
 pieces_space : (b : ℕ) (bytes : List ℕ) → b ≡ 32 → pieces (b ∷ bytes) ≡ [] ∷ pieces bytes
 unfolding pieces

@@ -1,6 +1,5 @@
 -- Where a line ends in a piece of the input.
-use Rattle.std.specs.Prelude.{ℕ, suc, ◌+◌, Bool, true, false, List, [], ◌∷◌, eqb, drop}
-use Rattle.lists.specs.Lists.{if◌then◌else◌}
+use Rattle.std.specs.Prelude.{ℕ, suc, ◌+◌, Bool, true, false, List, [], ◌∷◌, eqb, drop, if◌then◌else◌}
 use Rattle.event_lines.specs.declared.End.{End}
 
 -- the line at the front of the bytes to come: how many bytes it has before its newline, or as far as they go

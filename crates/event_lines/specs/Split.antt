@@ -1,7 +1,6 @@
 -- The lines of a text: each ends with a newline, "the last newline may be missing". No bytes are no line; a lone newline is one
 -- empty line. proofs/Split.antt: a reader that takes the bytes one by one answers for each of them.
-use Rattle.std.specs.Prelude.{ℕ, Bool, true, false, List, [], ◌∷◌, eqb}
-use Rattle.lists.specs.Lists.{if◌then◌else◌}
+use Rattle.std.specs.Prelude.{ℕ, Bool, true, false, List, [], ◌∷◌, eqb, if◌then◌else◌}
 
 -- one byte more at the front of the first line
 abbrev pub on_line : ℕ → List (List ℕ) → List (List ℕ)

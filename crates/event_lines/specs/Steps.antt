@@ -1,7 +1,6 @@
 -- What the code answers, byte by byte: a line that is being read as a value of its own, for every such value.
 -- proofs/Events.antt says that the bytes of a line, one after the other, give what specs/Events.antt says of the whole line.
-use Rattle.std.specs.Prelude.{ℕ, ◌+◌, ◌-◌, ◌*◌, List, [], ◌∷◌, eqb, ltb}
-use Rattle.lists.specs.Lists.{if◌then◌else◌}
+use Rattle.std.specs.Prelude.{ℕ, ◌+◌, ◌-◌, ◌*◌, List, [], ◌∷◌, eqb, ltb, if◌then◌else◌}
 use Rattle.event_lines.specs.declared.Reading.{Reading}
 use Rattle.event_lines.specs.declared.Line.{Line}
 use Rattle.event_lines.specs.declared.Line.TheVariants.{Malformed, Event}

@@ -1,4 +1,5 @@
 -- What each way out of `run_lines` gives; and the loop of `put_answers`.
+use Rattle.std.specs.Prelude.{if◌then◌else◌}
 use Prim.Native.Nat.{ℕ, ◌+◌, ◌*◌, ◌/◌, ◌≤◌, ◌<◌}
 use mathlib.Core.Bool.{Bool, true, false}
 use mathlib.Core.Path.{◌≡◌, refl, sym, ap, ap₂, ◌∙◌, subst⁻¹}
@@ -9,7 +10,6 @@ use lib.ListN.{length, get_or, take, drop, length-append, length-drop, take-appe
 use lib.Seq.{take_at, drop_at, drop-drop, length-take-le}
 use borrow.Author.Tests.{le-ltb, lt-ltb}
 use Rattle.tally.specs.declared.Tally.{Tally}
-use Rattle.lists.specs.Lists.{if◌then◌else◌}
 use Rattle.fields.specs.Fields.{onto}
 use Rattle.fields.specs.Output.{Writing, denied, writes, with_room, fitting, writing_output}
 use Rattle.text.proofs.Puts.{put_fits, length_put}

@@ -1,10 +1,10 @@
 -- Between two pieces of the input: the calls, beside the program line by line. They agree in what is held, in the reading of the line under
 -- way and in what is printed, as long as the state is well formed, and it stays so.
+use Rattle.std.specs.Prelude.{if◌then◌else◌}
 use Prim.Native.Nat.{ℕ}
 use mathlib.Core.Bool.{Bool}
 use mathlib.Core.Path.{◌≡◌, refl, sym, ap, ap₂, ◌∙◌, subst⁻¹}
 use mathlib.Core.List.{List, [], ◌∷◌, ◌++◌}
-use Rattle.lists.specs.Lists.{if◌then◌else◌}
 use Rattle.lists.proofs.Tests.{T_is}
 use Rattle.fields.specs.Output.{Writing, denied, writes}
 use Rattle.event_lines.specs.declared.Reading.{Reading}

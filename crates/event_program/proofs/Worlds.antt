@@ -1,5 +1,6 @@
 -- From states to worlds: in a run from a freshly read sheet each state is a world laid out, each line does and prints what document 01 says
 -- of that world, and the stations' lines are those of its tables.
+use Rattle.std.specs.Prelude.{if◌then◌else◌}
 use Prim.Native.Nat.{ℕ, zero, suc, ◌+◌, ◌≤◌, ◌<◌}
 use mathlib.Core.Bool.{Bool, true}
 use mathlib.Core.Path.{◌≡◌, refl, sym, ap, ap₂, ◌∙◌, subst⁻¹}
@@ -9,7 +10,7 @@ use native.Mathlib.Omega.{arith}
 use lib.Dec.{T, eqb}
 use lib.ListN.{length, get_or}
 use borrow.Author.Tests.{ne_eqb}
-use Rattle.lists.specs.Lists.{if◌then◌else◌, below, from}
+use Rattle.lists.specs.Lists.{below, from}
 use Rattle.lists.specs.Places.{collect}
 use Rattle.lists.proofs.Tests.{T_is}
 use Rattle.tally.specs.declared.Tally.{Tally}

@@ -2,8 +2,7 @@
 -- of the input, the last one as `put_piece` ends it, `run_lines` and `put_answers` of its trace (whole, or in parts of whole events, which
 -- is the same: proofs/Sayings.antt, `answers_joined`), and at the end `put_stations`.
 -- proofs/Program.antt: it is exactly what specs/Events.antt says of the file and the whole input.
-use Rattle.std.specs.Prelude.{ℕ, List, [], ◌∷◌, ◌++◌, eqb}
-use Rattle.lists.specs.Lists.{if◌then◌else◌}
+use Rattle.std.specs.Prelude.{ℕ, List, [], ◌∷◌, ◌++◌, eqb, if◌then◌else◌}
 use Rattle.fields.specs.Output.{Writing, denied, writes}
 use Rattle.event_lines.specs.Begun.{is_begun}
 use Rattle.event_list.specs.Lines.{numbers_in}

@@ -1,7 +1,6 @@
 -- What the code answers for a piece of the input, for every state, and what is printed for a trace. proofs/Program.antt: from a fresh state
 -- the pieces of an input give what specs/Events.antt says of the whole of it.
-use Rattle.std.specs.Prelude.{ℕ, ◌*◌, List, [], ◌∷◌, ◌++◌, ltb, length}
-use Rattle.lists.specs.Lists.{if◌then◌else◌}
+use Rattle.std.specs.Prelude.{ℕ, ◌*◌, List, [], ◌∷◌, ◌++◌, ltb, length, if◌then◌else◌}
 use Rattle.fields.specs.Output.{Writing, denied, writes}
 use Rattle.tally.specs.declared.Tally.{Tally}
 use Rattle.event_lines.specs.declared.Reading.{Reading}

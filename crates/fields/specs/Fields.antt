@@ -1,7 +1,7 @@
 -- A field: a one-byte tag, a two-byte length with the high byte first, the value. It is cut off the front of the bytes and
 -- written so for sheets and letters alike; proofs/Law.antt has the one law of both.
-use Rattle.std.specs.Prelude.{ℕ, ◌+◌, ◌*◌, ◌/◌, ◌%◌, Bool, true, false, ◌&&◌, List, [], ◌∷◌, ◌++◌, eqb, ltb, leb, length, take, drop}
-use Rattle.lists.specs.Lists.{if◌then◌else◌, every}
+use Rattle.std.specs.Prelude.{ℕ, ◌+◌, ◌*◌, ◌/◌, ◌%◌, Bool, true, false, ◌&&◌, List, [], ◌∷◌, ◌++◌, eqb, ltb, leb, length, take, drop, if◌then◌else◌}
+use Rattle.lists.specs.Lists.{every}
 use Rattle.fields.specs.declared.Cut.{Cut}
 use Rattle.fields.specs.declared.Cut.TheVariants.{Short, Whole}
 

@@ -1,7 +1,6 @@
 -- What writing to lent output gives: bytes over its front, or 10 where it is too short; for sheets, letters, the report and the programs'
 -- texts alike.
-use Rattle.std.specs.Prelude.{ℕ, List, [], ◌∷◌, eqb, ltb, length}
-use Rattle.lists.specs.Lists.{if◌then◌else◌}
+use Rattle.std.specs.Prelude.{ℕ, List, [], ◌∷◌, eqb, ltb, length, if◌then◌else◌}
 use Rattle.fields.specs.Fields.{onto}
 
 -- the number of a refusal, or the bytes that are written

@@ -1,4 +1,5 @@
 -- The bytes of a hexadecimal line, one after the other, give what specs/Hex.antt says of the whole line.
+use Rattle.std.specs.Prelude.{if◌then◌else◌}
 use Prim.Native.Nat.{ℕ, suc, ◌+◌, ◌*◌, ◌/◌, ◌%◌, ◌≤◌, ◌<◌}
 use mathlib.Core.Bool.{Bool, true, false, ◌&&◌}
 use mathlib.Core.Path.{◌≡◌, refl, sym, ap, ◌∙◌}
@@ -10,8 +11,8 @@ use lib.Dec.{eqb, leb}
 use lib.ListN.{length, take, set, length-set}
 use lib.Seq.{take-suc-set}
 use borrow.Author.Tests.{lt-ltb, le-ltb, le-leb, lt-leb, eq-eqb, ne_eqb, leb-true}
-use Rattle.lists.specs.Lists.{if◌then◌else◌, every}
-use Rattle.lists.proofs.Tests.{and_no, if-elim}
+use Rattle.lists.specs.Lists.{every}
+use Rattle.lists.proofs.Tests.{and_no, if_elim}
 use Rattle.hex_lines.specs.declared.HexReading.{HexReading}
 use Rattle.hex_lines.specs.declared.HexLine.TheVariants.{NotHex, Bytes}
 use Rattle.hex_lines.specs.Hex.{HexText, malformed, octets, hex_value, is_hex, pairs, is_even, hex_line}
@@ -27,7 +28,7 @@ Beyond r = 65 ≤ r.count
 
 beyond_on : (r : HexReading) (b : ℕ) → Beyond r → Beyond (read_hex r b)
 unfolding read_hex
-beyond_on r b h = simp (le-ltb r.count 64 (omega arith)) (if-elim Beyond (is_hex b) (λ t. omega arith) (λ t. omega arith))
+beyond_on r b h = simp (le-ltb r.count 64 (omega arith)) (if_elim Beyond (is_hex b) (λ t. omega arith) (λ t. omega arith))
 
 beyond_end : (bytes : List ℕ) (r : HexReading) → Beyond r → says (fed_hex r bytes) ≡ malformed
 unfolding hex_end

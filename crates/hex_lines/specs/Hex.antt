@@ -1,7 +1,7 @@
 -- Lines of hexadecimal digits: digits of either case, an even number of them, at most 64; the empty line is no bytes. A line is the
 -- list of its bytes, without its newline.
-use Rattle.std.specs.Prelude.{ℕ, ◌+◌, ◌-◌, ◌*◌, ◌%◌, Bool, ◌&&◌, List, [], ◌∷◌, eqb, leb, ltb, length}
-use Rattle.lists.specs.Lists.{if◌then◌else◌, every}
+use Rattle.std.specs.Prelude.{ℕ, ◌+◌, ◌-◌, ◌*◌, ◌%◌, Bool, ◌&&◌, List, [], ◌∷◌, eqb, leb, ltb, length, if◌then◌else◌}
+use Rattle.lists.specs.Lists.{every}
 
 -- what a line says
 pub data HexText : Type 0 where

@@ -1,6 +1,7 @@
 -- P1 to P13 of document 01, and its own sample run, as one table with a single claim: each row has its number, what was got and what
 -- was wanted. From P6 on every world is the line 0-1-2 with link 0 between 0 and 1 and link 1 between 1 and 2. antt computes both
 -- sides.
+use Rattle.std.specs.Prelude.{if◌then◌else◌}
 use Prim.Native.Nat.{ℕ, ◌+◌}
 use mathlib.Core.Bool.{Bool, true, false}
 use mathlib.Core.Path.{◌≡◌, refl, ap₂}
@@ -9,7 +10,7 @@ use lib.Dec.{T}
 use lib.ListN.{length, replicate}
 use Rattle.lists.specs.Words.{bit, word_of}
 use Rattle.lists.specs.Places.{collect}
-use Rattle.lists.specs.Lists.{if◌then◌else◌, below}
+use Rattle.lists.specs.Lists.{below}
 use Rattle.fields.specs.Fields.{first_field}
 use Rattle.sheet.specs.Sheet.{Sheet, refused, sheet, opened, judged, read_links, read_sheet}
 use Rattle.net.specs.declared.Body.{Body}

@@ -1,6 +1,7 @@
 -- A station has as many neighbours, counted as stations, as own links: in a network that keeps the sheet rules each own link joins it
 -- to one station, and no two of them to the same. The pairs of a link and a station that it joins to s are counted by links and by
 -- stations.
+use Rattle.std.specs.Prelude.{if◌then◌else◌}
 use Prim.Native.Nat.{ℕ, ◌+◌, ◌<◌}
 use mathlib.Core.Bool.{Bool, true, false, ◌&&◌, ◌||◌}
 use mathlib.Core.Path.{◌≡◌, refl, sym, ap, ◌∙◌, subst, subst⁻¹}
@@ -9,7 +10,7 @@ use mathlib.Core.List.{List, [], ◌∷◌}
 use native.Mathlib.Omega.{arith}
 use lib.Dec.{T, eqb, eqb→eq, eqb_refl}
 use lib.ListN.{length}
-use Rattle.lists.specs.Lists.{if◌then◌else◌, keep, any, sum_of, below}
+use Rattle.lists.specs.Lists.{keep, any, sum_of, below}
 use Rattle.lists.specs.Words.{bit}
 use Rattle.lists.proofs.Tests.{T_is, and_l, and_r, and_i, or_cases, or_left, or_right, same_test}
 use Rattle.lists.proofs.Numbers.{any_out, any_in}

@@ -1,5 +1,6 @@
 -- The world as a flood over ranks: an accepted delivery or loss of a notice settles one there, and no station changes its
 -- condition. What the receiver does is known by the station's laws alone. The theorem over runs: Demand3.
+use Rattle.std.specs.Prelude.{if◌then◌else◌}
 use Prim.Native.Nat.{ℕ, suc, ◌-◌, ◌≤◌, ◌<◌}
 use mathlib.Core.Bool.{Bool, true, false, not}
 use mathlib.Core.Path.{◌≡◌, refl, ap, ◌∙◌, subst, subst⁻¹}
@@ -11,7 +12,7 @@ use native.Mathlib.Nat.{le_trans}
 use lib.Dec.{T, ltb, ltb→lt}
 use lib.ListN.{length, get_or, set, take, drop}
 use lib.Seq.{get_or-set_same, get_or-set_other, set-get_or}
-use Rattle.lists.specs.Lists.{if◌then◌else◌, every}
+use Rattle.lists.specs.Lists.{every}
 use Rattle.lists.specs.Places.{without, collect}
 use Rattle.lists.proofs.Tests.{and_l, and_r}
 use Rattle.lists.proofs.Places.{collect_at, collect_without}

@@ -1,6 +1,6 @@
 -- Demand 3 in definitions: a run of notices, and the bound on how many are settled in it.
-use Rattle.std.specs.Prelude.{ℕ, ◌+◌, ◌*◌, ◌-◌, max, Bool, true, ◌&&◌, ◌≡◌, List, [], ◌∷◌, ◌++◌, eqb, length}
-use Rattle.lists.specs.Lists.{if◌then◌else◌, keep, any, sum_of, below}
+use Rattle.std.specs.Prelude.{ℕ, ◌+◌, ◌*◌, ◌-◌, max, Bool, true, ◌&&◌, ◌≡◌, List, [], ◌∷◌, ◌++◌, eqb, length, if◌then◌else◌}
+use Rattle.lists.specs.Lists.{keep, any, sum_of, below}
 use Rattle.lists.specs.Places.{largest_of}
 use Rattle.net.specs.declared.Body.{Body}
 use Rattle.net.specs.declared.Body.TheVariants.{Request, Reply, Notice}

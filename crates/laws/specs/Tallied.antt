@@ -1,7 +1,6 @@
 -- The counts of an event and of a history as one record, and the tally lent to each call of a history: an accepted event is added to
 -- it, a refused one leaves it untouched.
-use Rattle.std.specs.Prelude.{Bool, List, [], ◌∷◌}
-use Rattle.lists.specs.Lists.{if◌then◌else◌}
+use Rattle.std.specs.Prelude.{Bool, List, [], ◌∷◌, if◌then◌else◌}
 use Rattle.tally.specs.declared.Tally.{Tally}
 use Rattle.tally.specs.Sums.{tallied}
 use Rattle.station.specs.Events.{counting}

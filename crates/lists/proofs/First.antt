@@ -1,4 +1,5 @@
 -- The first of some numbers that passes a test: it is one of them and none before it passes; or none passes.
+use Rattle.std.specs.Prelude.{if◌then◌else◌}
 use Prim.Native.Nat.{ℕ, zero, suc, ◌+◌, ◌≤◌, ◌<◌}
 use mathlib.Core.Bool.{Bool, true, false, not}
 use mathlib.Core.Path.{◌≡◌, refl, subst, subst⁻¹}
@@ -7,7 +8,7 @@ use native.Mathlib.Decide.{ℕ_discrete}
 use native.Mathlib.Nat.{le_refl}
 use native.Mathlib.Omega.{arith}
 use lib.Dec.{T}
-use Rattle.lists.specs.Lists.{if◌then◌else◌, first_of, from, below}
+use Rattle.lists.specs.Lists.{first_of, from, below}
 
 module _ (p : ℕ → Bool) where
   -- none of i, i + 1, .. below e passes

@@ -1,4 +1,5 @@
 -- What is kept of some numbers, taken apart at the first of them; and how many of a word's numbers there are.
+use Rattle.std.specs.Prelude.{if◌then◌else◌, cond}
 use Prim.Native.Nat.{ℕ, zero, suc, ◌+◌, ◌≤◌, ◌<◌}
 use mathlib.Core.Bool.{Bool, true, false, ◌||◌}
 use mathlib.Core.Path.{◌≡◌, refl, sym, ap, ap₂, ◌∙◌, subst, subst⁻¹}
@@ -7,7 +8,7 @@ use native.Mathlib.Omega.{arith}
 use lib.Dec.{T, eqb}
 use lib.ListN.{length}
 use borrow.Author.Tests.{eq-eqb, ne_eqb}
-use Rattle.lists.specs.Lists.{if◌then◌else◌, keep, any, sum_of, first_of, from, below}
+use Rattle.lists.specs.Lists.{keep, any, sum_of, first_of, from, below}
 use Rattle.lists.specs.Words.{bit_at, in_word}
 use Rattle.lists.proofs.Words.{in_is_one, out_is_zero}
 
@@ -64,7 +65,7 @@ module _ {ℓ} {A : Type ℓ} where
   keep_nothing p [] e = refl
   keep_nothing p (x ∷ xs) e = go (p x) e (keep_nothing p xs)
     where
-      go : (b : Bool) → (b || any p xs) ≡ false → (any p xs ≡ false → keep p xs ≡ []) → (if b then (x ∷ keep p xs) else keep p xs) ≡ []
+      go : (b : Bool) → (b || any p xs) ≡ false → (any p xs ≡ false → keep p xs ≡ []) → cond b (x ∷ keep p xs) (keep p xs) ≡ []
       go true s more = absurd (subst T s tt)
       go false s more = more s
 

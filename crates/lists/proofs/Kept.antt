@@ -1,4 +1,5 @@
 -- Laws of a test over a whole list: how it passes to what is kept, mapped and joined; and how many are kept.
+use Rattle.std.specs.Prelude.{if◌then◌else◌, cond}
 use Prim.Native.Nat.{ℕ, zero, suc, ◌+◌, ◌-◌, ◌≤◌, ◌<◌}
 use mathlib.Core.Bool.{Bool, true, false, not, ◌&&◌}
 use mathlib.Core.Path.{◌≡◌, refl, ap, subst⁻¹}
@@ -10,8 +11,8 @@ use native.Mathlib.Nat.{le_refl}
 use native.Mathlib.Omega.{arith}
 use lib.Dec.{T}
 use lib.ListN.{length}
-use Rattle.lists.specs.Lists.{if◌then◌else◌, keep, every, from, below}
-use Rattle.lists.proofs.Tests.{and_l, and_r, and_i, if-elim, every_append}
+use Rattle.lists.specs.Lists.{keep, every, from, below}
+use Rattle.lists.proofs.Tests.{and_l, and_r, and_i, if_elim, every_append}
 
 module _ {ℓ} {A : Type ℓ} where
   -- a weaker test passes too
@@ -37,19 +38,19 @@ module _ {ℓ} {A : Type ℓ} where
   pub every_keep : (p q : A → Bool) (xs : List A) → T (every p xs) → T (every p (keep q xs))
   every_keep p q [] t = tt
   every_keep p q (x ∷ xs) t =
-      if-elim (λ l. T (every p l)) (q x)
+      if_elim (λ l. T (every p l)) (q x)
       (λ u. and_i (p x) _ (and_l (p x) _ t) (every_keep p q xs (and_r (p x) _ t)))
       (λ u. every_keep p q xs (and_r (p x) _ t))
 
   -- and the test by which it is kept
   pub every_kept : (q : A → Bool) (xs : List A) → T (every q (keep q xs))
   every_kept q [] = tt
-  every_kept q (x ∷ xs) = if-elim (λ l. T (every q l)) (q x) (λ u. and_i (q x) _ u (every_kept q xs)) (λ u. every_kept q xs)
+  every_kept q (x ∷ xs) = if_elim (λ l. T (every q l)) (q x) (λ u. and_i (q x) _ u (every_kept q xs)) (λ u. every_kept q xs)
 
   -- no more are kept than there are
   pub keep_le : (p : A → Bool) (xs : List A) → length (keep p xs) ≤ length xs
   keep_le p [] = le_refl 0
-  keep_le p (x ∷ xs) = if-elim (λ l. length l ≤ suc (length xs)) (p x) (λ u. omega (arith, keep_le p xs)) (λ u. omega (arith, keep_le p xs))
+  keep_le p (x ∷ xs) = if_elim (λ l. length l ≤ suc (length xs)) (p x) (λ u. omega (arith, keep_le p xs)) (λ u. omega (arith, keep_le p xs))
 
   -- nor by a stronger test
   pub keep_fewer : (p q : A → Bool) → ((x : A) → T (p x) → T (q x)) → (xs : List A) → length (keep p xs) ≤ length (keep q xs)
@@ -57,7 +58,7 @@ module _ {ℓ} {A : Type ℓ} where
   keep_fewer p q f (x ∷ xs) = go (p x) (q x) (f x) (keep_fewer p q f xs)
     where
       go : (a b : Bool) → (T a → T b) → length (keep p xs) ≤ length (keep q xs)
-          → length (if a then (x ∷ keep p xs) else keep p xs) ≤ length (if b then (x ∷ keep q xs) else keep q xs)
+          → length (cond a (x ∷ keep p xs) (keep p xs)) ≤ length (cond b (x ∷ keep q xs) (keep q xs))
       go true true g h = omega arith
       go true false g h = absurd (g tt)
       go false true g h = omega arith
@@ -69,9 +70,8 @@ module _ {ℓ} {A : Type ℓ} where
   keep_keep p q (x ∷ xs) = go (p x) (keep_keep p q xs)
     where
       go : (b : Bool) → keep q (keep p xs) ≡ keep (λ y. p y && q y) xs
-          → keep q (if b then (x ∷ keep p xs) else keep p xs) ≡ (if b && q x then (x ∷ keep (λ y. p y && q y) xs) else keep
-          (λ y. p y && q y) xs)
-      go true e = ap (λ (l : List A). if q x then (x ∷ l) else l) e
+          → keep q (cond b (x ∷ keep p xs) (keep p xs)) ≡ cond (b && q x) (x ∷ keep (λ y. p y && q y) xs) (keep (λ y. p y && q y) xs)
+      go true e = ap (λ (l : List A). cond (q x) (x ∷ l) l) e
       go false e = e
 
 module _ {ℓ κ} {A : Type ℓ} {B : Type κ} where

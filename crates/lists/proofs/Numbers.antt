@@ -1,4 +1,5 @@
 -- Laws of the numbers below n: what a loop that counts up knows of `every`, `any`, `map` and `first_of` over them.
+use Rattle.std.specs.Prelude.{if◌then◌else◌}
 use Prim.Native.Nat.{ℕ, zero, suc, ◌+◌, ◌≤◌, ◌<◌}
 use mathlib.Core.Bool.{Bool, true, false}
 use mathlib.Core.Path.{◌≡◌, refl, sym, ap, ◌∙◌, subst, subst⁻¹}
@@ -9,7 +10,7 @@ use native.Mathlib.Nat.{not-suc-le-zero, le_of_suc-le-suc, le_refl, add-zero, ad
 use native.Mathlib.Omega.{arith}
 use lib.Dec.{T}
 use lib.ListN.{length, get_or, length-map}
-use Rattle.lists.specs.Lists.{if◌then◌else◌, every, any, first_of, from, below}
+use Rattle.lists.specs.Lists.{every, any, first_of, from, below}
 use Rattle.lists.proofs.Tests.{and_l, and_r, and_i, or_cases, or_left, or_right, every_append, every_fails}
 
 pub length_from : (i n : ℕ) → length (from i n) ≡ n

@@ -1,5 +1,6 @@
 -- Laws of tests: `&&`, `||`, `if`, and `every`, `any` over a list.
 -- A test that passed is `T b` or `b ≡ true`; T-is and is_T go between.
+use Rattle.std.specs.Prelude.{cond}
 use Prim.Native.Nat.{ℕ, zero, suc, ◌<◌, zero-le, suc-le-suc}
 use mathlib.Core.Bool.{Bool, true, false, not, ◌&&◌, ◌||◌}
 use mathlib.Core.Path.{◌≡◌, refl, ap, ◌∙◌, subst, subst⁻¹}
@@ -8,7 +9,7 @@ use mathlib.Core.List.{List, [], ◌∷◌, ◌++◌}
 use native.Mathlib.Nat.{not-suc-le-zero, le_of_suc-le-suc}
 use lib.Dec.{T, eqb, eqb_refl}
 use lib.ListN.{length, get_or}
-use Rattle.lists.specs.Lists.{if◌then◌else◌, every}
+use Rattle.lists.specs.Lists.{every}
 
 pub T_is : (b : Bool) → T b → b ≡ true
 T_is true t = refl
@@ -68,9 +69,9 @@ same_test false true f g = absurd (g tt)
 same_test false false f g = refl
 
 -- an `if` by its test: what holds of both branches holds of it
-pub if-elim {ℓ κ} : {A : Type ℓ} (P : A → Type κ) (b : Bool) {x y : A} → (T b → P x) → (T (not b) → P y) → P (if b then x else y)
-if-elim P true p q = p tt
-if-elim P false p q = q tt
+pub if_elim {ℓ κ} : {A : Type ℓ} (P : A → Type κ) (b : Bool) {x y : A} → (T b → P x) → (T (not b) → P y) → P (cond b x y)
+if_elim P true p q = p tt
+if_elim P false p q = q tt
 
 module _ {ℓ} {A : Type ℓ} where
   pub every_append : (p : A → Bool) (xs ys : List A) → every p (xs ++ ys) ≡ (every p xs && every p ys)

@@ -1,18 +1,12 @@
 -- A choice by a test, tests on lists, the numbers below n, and a list filled from the front.
 -- Their laws: proofs/Tests.antt, proofs/Numbers.antt, proofs/Fill.antt. `take`, `drop`, `get_or` and `set` are the kit's (lib.ListN).
-use Rattle.std.specs.Prelude.{ℕ, zero, suc, ◌+◌, Bool, true, false, ◌&&◌, ◌||◌, List, [], ◌∷◌, ◌++◌, map, drop}
-
-module _ {ℓ} {A : Type ℓ} where
-  infix 5 if◌then◌else◌
-  abbrev pub if◌then◌else◌ : Bool → A → A → A
-  if true then a else b = a
-  if false then a else b = b
+use Rattle.std.specs.Prelude.{ℕ, zero, suc, ◌+◌, Bool, true, false, ◌&&◌, ◌||◌, List, [], ◌∷◌, ◌++◌, map, drop, cond}
 
 module _ {ℓ} {A : Type ℓ} where
   -- those that pass the test, in order
   abbrev pub keep : (A → Bool) → List A → List A
   keep p [] = []
-  keep p (x ∷ xs) = if p x then (x ∷ keep p xs) else keep p xs
+  keep p (x ∷ xs) = cond (p x) (x ∷ keep p xs) (keep p xs)
 
   -- all pass the test
   abbrev pub every : (A → Bool) → List A → Bool
@@ -32,7 +26,7 @@ module _ {ℓ} {A : Type ℓ} where
   -- the first that passes the test, or d where none does
   abbrev pub first_of : (A → Bool) → List A → A → A
   first_of p [] d = d
-  first_of p (x ∷ xs) d = if p x then x else first_of p xs d
+  first_of p (x ∷ xs) d = cond (p x) x (first_of p xs d)
 
 -- i, i + 1, ..: n numbers
 abbrev pub from : ℕ → ℕ → List ℕ

@@ -1,4 +1,5 @@
 -- Each station's own links, found in one pass over the links: one link puts its number into the words of its two ends.
+use Rattle.std.specs.Prelude.{if◌then◌else◌}
 use Prim.Native.Nat.{ℕ, ◌+◌, ◌*◌, ◌%◌, ◌^◌, ◌≤◌, ◌<◌}
 use mathlib.Core.Bool.{Bool, true, false, ◌&&◌, ◌||◌}
 use mathlib.Core.Path.{◌≡◌, refl, sym, ap, ap₂, ◌∙◌}
@@ -10,7 +11,7 @@ use lib.ListN.{length, get_or, set, length-set}
 use lib.Pow.{pow_pos}
 use lib.Seq.{ext_get_or, get_or-set_same, get_or-set_other}
 use borrow.Author.Tests.{eq-eqb, ne_eqb, lt-ltb, le-ltb}
-use Rattle.lists.specs.Lists.{if◌then◌else◌, below}
+use Rattle.lists.specs.Lists.{below}
 use Rattle.lists.specs.Words.{in_word}
 use Rattle.lists.proofs.Numbers.{get_or_map_below, length_map_below}
 use Rattle.lists.proofs.Tests.{and_yes}

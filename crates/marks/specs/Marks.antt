@@ -1,6 +1,6 @@
 -- The marks of a link in five words, and a station's own links.
-use Rattle.std.specs.Prelude.{ℕ, Bool, ◌&&◌, List, map, eqb, ltb}
-use Rattle.lists.specs.Lists.{if◌then◌else◌, below}
+use Rattle.std.specs.Prelude.{ℕ, Bool, ◌&&◌, List, map, eqb, ltb, if◌then◌else◌}
+use Rattle.lists.specs.Lists.{below}
 use Rattle.lists.specs.Words.{in_word}
 use Rattle.net.specs.declared.Net.{Net}
 use Rattle.net.specs.Network.{is_end}

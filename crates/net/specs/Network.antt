@@ -1,6 +1,6 @@
 -- The network that a sheet gives: stations and links. The crate `sheet_rules` says which networks a sheet may give.
-use Rattle.std.specs.Prelude.{ℕ, Bool, ◌&&◌, ◌||◌, List, eqb, length, get_or}
-use Rattle.lists.specs.Lists.{if◌then◌else◌, below}
+use Rattle.std.specs.Prelude.{ℕ, Bool, ◌&&◌, ◌||◌, List, eqb, length, get_or, if◌then◌else◌}
+use Rattle.lists.specs.Lists.{below}
 
 -- a link's two ends
 pub record Ends : Type 0 where

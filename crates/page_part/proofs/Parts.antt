@@ -1,4 +1,5 @@
 -- A station's part, number by number, from what was put.
+use Rattle.std.specs.Prelude.{if◌then◌else◌}
 use Prim.Native.Nat.{ℕ, zero, suc, ◌+◌, ◌*◌, ◌≤◌, ◌<◌, min}
 use mathlib.Core.Bool.{Bool, true, false}
 use mathlib.Core.Path.{◌≡◌, refl, sym, ap, ap₂, ◌∙◌, subst}
@@ -7,7 +8,7 @@ use native.Mathlib.Omega.{arith}
 use lib.Dec.{eqb}
 use lib.ListN.{length, get_or}
 use borrow.Author.Tests.{eq-eqb, ne_eqb}
-use Rattle.lists.specs.Lists.{if◌then◌else◌, from, below}
+use Rattle.lists.specs.Lists.{from, below}
 use Rattle.lists.specs.Places.{collect}
 use Rattle.text.proofs.Chains.{Chain, chain_none, chain_next}
 use Rattle.net.specs.declared.Net.{Net}

@@ -1,6 +1,5 @@
 -- A station's part of the page as the code writes it, by the reach's number: the numbers that say no are those of the reach.
-use Rattle.std.specs.Prelude.{ℕ, Bool, ◌||◌, List, eqb}
-use Rattle.lists.specs.Lists.{if◌then◌else◌}
+use Rattle.std.specs.Prelude.{ℕ, Bool, ◌||◌, List, eqb, if◌then◌else◌}
 use Rattle.net.specs.declared.Net.{Net}
 use Rattle.net.specs.Values.{network_of}
 use Rattle.fields.specs.Output.{Writing, denied, with_room}

@@ -1,6 +1,6 @@
 -- What the page program prints for a station.
-use Rattle.std.specs.Prelude.{ℕ, ◌+◌, Bool, List, [], ◌∷◌, ◌++◌, eqb, get_or}
-use Rattle.lists.specs.Lists.{if◌then◌else◌, below}
+use Rattle.std.specs.Prelude.{ℕ, ◌+◌, Bool, List, [], ◌∷◌, ◌++◌, eqb, get_or, if◌then◌else◌}
+use Rattle.lists.specs.Lists.{below}
 use Rattle.lists.specs.Places.{collect}
 use Rattle.text.specs.Text.{digits}
 use Rattle.net.specs.Network.{Network, ends, link_numbers}

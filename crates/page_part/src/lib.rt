@@ -3,8 +3,8 @@
 // An inner door: the calls are in docs/CALLS.md.
 #![tactic(auto)]
 
-ghost use Rattle.std.specs.Prelude.{◌≡◌, ◌+◌, ◌*◌, ◌≤◌, length, get_or};
-ghost use Rattle.lists.specs.Lists.{if◌then◌else◌, below};
+ghost use Rattle.std.specs.Prelude.{◌≡◌, ◌+◌, ◌*◌, ◌≤◌, length, get_or, if◌then◌else◌};
+ghost use Rattle.lists.specs.Lists.{below};
 ghost use Rattle.lists.specs.Places.{collect};
 ghost use Rattle.text.specs.Text.{place_after, put_at};
 ghost use Rattle.console.specs.Outputs.{Counts, Put, wrote_by};

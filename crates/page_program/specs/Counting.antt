@@ -1,6 +1,5 @@
 -- How many events were taken and refused, by the trace of their run, and the page's first line.
-use Rattle.std.specs.Prelude.{ℕ, List, [], ◌∷◌, ◌++◌, eqb}
-use Rattle.lists.specs.Lists.{if◌then◌else◌}
+use Rattle.std.specs.Prelude.{ℕ, List, [], ◌∷◌, ◌++◌, eqb, if◌then◌else◌}
 use Rattle.tally.specs.Sums.{added}
 use Rattle.text.specs.Text.{digits}
 use Rattle.page_program.specs.Words.{events_taken, refused_word}

@@ -1,4 +1,5 @@
 -- Why the count of letters is the sizes of its words put together, and why it fits.
+use Rattle.std.specs.Prelude.{if◌then◌else◌}
 use Prim.Native.Nat.{ℕ, ◌+◌, ◌*◌, ◌^◌, ◌≤◌, ◌<◌}
 use mathlib.Core.Bool.{Bool, true, false}
 use mathlib.Core.Path.{◌≡◌, refl, sym, ap₂, ◌∙◌, subst, subst⁻¹}
@@ -7,7 +8,7 @@ use native.Mathlib.Nat.{mul-le-mul, zero-mul, suc-mul, add_comm}
 use native.Mathlib.Omega.{arith}
 use lib.Count.{ones}
 use lib.ListN.{length, get_or, length-append, length-map}
-use Rattle.lists.specs.Lists.{if◌then◌else◌, keep, below}
+use Rattle.lists.specs.Lists.{keep, below}
 use Rattle.lists.specs.Words.{in_word}
 use Rattle.lists.proofs.Numbers.{length_from}
 use Rattle.lists.proofs.Counts.{ones_bits}

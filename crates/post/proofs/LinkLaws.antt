@@ -1,5 +1,6 @@
 -- Laws of a set of links that is gone through from its lowest link on: what its links are, and what a word's trailing zeros
 -- say of them.
+use Rattle.std.specs.Prelude.{if◌then◌else◌}
 use Prim.Native.Nat.{ℕ, ◌+◌, ◌-◌, ◌*◌, ◌%◌, ◌^◌, ◌≤◌, ◌<◌}
 use mathlib.Core.Bool.{Bool, true, false, not}
 use mathlib.Core.Path.{◌≡◌, refl, sym, ap, ◌∙◌, subst}
@@ -11,7 +12,7 @@ use lib.Dec.{T, eqb}
 use lib.Count.{count_trailing_zeros}
 use lib.Pow.{ones_sub-lt}
 use borrow.Author.Tests.{eq-eqb, ne_eqb}
-use Rattle.lists.specs.Lists.{if◌then◌else◌, keep, first_of, below}
+use Rattle.lists.specs.Lists.{keep, first_of, below}
 use Rattle.lists.specs.Words.{in_word}
 use Rattle.lists.proofs.Tests.{is_T}
 use Rattle.lists.proofs.Numbers.{any_in, first_is, first_none}

@@ -1,6 +1,6 @@
 -- A set of links that is gone through from its lowest link on. Their laws: proofs/LinkLaws.antt.
-use Rattle.std.specs.Prelude.{ℕ, Bool, false, eqb}
-use Rattle.lists.specs.Lists.{if◌then◌else◌, any, first_of, below}
+use Rattle.std.specs.Prelude.{ℕ, Bool, false, eqb, if◌then◌else◌}
+use Rattle.lists.specs.Lists.{any, first_of, below}
 use Rattle.lists.specs.Words.{in_word}
 use Rattle.sets.specs.Sets.{word_by}
 

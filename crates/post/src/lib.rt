@@ -5,8 +5,7 @@
 // Inner doors: the calls are in docs/CALLS.md.
 #![tactic(auto)]
 
-ghost use Rattle.std.specs.Prelude.{◌≡◌, ◌&&◌, List, ℕ, length};
-ghost use Rattle.lists.specs.Lists.{if◌then◌else◌};
+ghost use Rattle.std.specs.Prelude.{◌≡◌, ◌&&◌, List, ℕ, length, if◌then◌else◌};
 ghost use Rattle.station.specs.Values.{members_of, letters_of};
 ghost use Rattle.post.specs.Links.{some_in, lowest_in, less_lowest};
 ghost use Rattle.post.specs.Post.{begun_post, changed_post, first_left, rest_left};

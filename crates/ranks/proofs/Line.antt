@@ -1,5 +1,6 @@
 -- The bound is met with equality: three stations in a line, of which the middle one passes on a notice to the last.
 -- So no smaller bound would be true.
+use Rattle.std.specs.Prelude.{if◌then◌else◌}
 use Prim.Native.Nat.{ℕ, ◌≤◌, ◌<◌}
 use mathlib.Core.Bool.{◌&&◌}
 use mathlib.Core.Path.{◌≡◌, refl, ap, subst⁻¹}
@@ -12,7 +13,6 @@ use native.Mathlib.Omega.{arith}
 use borrow.Author.Tests.{ne_eqb}
 use lib.Dec.{eqb, eqb_refl}
 use lib.ListN.{length}
-use Rattle.lists.specs.Lists.{if◌then◌else◌}
 use Rattle.lists.proofs.Tests.{and_no, T_is}
 use Rattle.ranks.specs.Flood.{Notice, Flood, Site, ◌∈◌, Taken, Run, none, more}
 use Rattle.ranks.specs.Bound.{highest, distance, share, potential, bound}

@@ -1,6 +1,6 @@
 -- How many notices a run can settle, and what it does to the ranks.
-use Rattle.std.specs.Prelude.{ℕ, ◌+◌, ◌*◌, ◌-◌, ◌≤◌, ◌<◌, max, eqb, length}
-use Rattle.lists.specs.Lists.{if◌then◌else◌, sum_of, below}
+use Rattle.std.specs.Prelude.{ℕ, ◌+◌, ◌*◌, ◌-◌, ◌≤◌, ◌<◌, max, eqb, length, if◌then◌else◌}
+use Rattle.lists.specs.Lists.{sum_of, below}
 use Rattle.lists.specs.Places.{largest_of}
 use Rattle.ranks.specs.Flood.{Notice, Flood, Site}
 

@@ -1,10 +1,11 @@
 -- Purge, as the code goes through its arrays.
+use Rattle.std.specs.Prelude.{if◌then◌else◌}
 use Prim.Native.Nat.{ℕ, ◌<◌}
 use mathlib.Core.Bool.{Bool, ◌||◌}
 use mathlib.Core.Path.{◌≡◌, sym, ap, ap₂, ◌∙◌}
 use mathlib.Core.List.{List, ◌++◌, map}
 use lib.ListN.{length, get_or, drop}
-use Rattle.lists.specs.Lists.{if◌then◌else◌, below, filled}
+use Rattle.lists.specs.Lists.{below, filled}
 use Rattle.lists.specs.Words.{in_word, word_of}
 use Rattle.lists.proofs.Words.{in_word_of}
 use Rattle.lists.proofs.Fill.{map_below_same}

@@ -1,5 +1,6 @@
 -- Reach, purge and the report depend only on which of the links that are there work: two choices that agree on these give the
 -- same.
+use Rattle.std.specs.Prelude.{if◌then◌else◌}
 use Prim.Native.Nat.{ℕ, zero, suc, ◌<◌}
 use mathlib.Core.Bool.{Bool, ◌&&◌, ◌||◌}
 use mathlib.Core.Path.{◌≡◌, refl, sym, ap, ap₂, ◌∙◌, subst}
@@ -8,7 +9,7 @@ use native.Mathlib.Nat.{zero-add}
 use native.Mathlib.Omega.{arith}
 use lib.Dec.{T, eqb}
 use lib.ListN.{length}
-use Rattle.lists.specs.Lists.{if◌then◌else◌, below, any}
+use Rattle.lists.specs.Lists.{below, any}
 use Rattle.lists.specs.Words.{bit}
 use Rattle.lists.proofs.Tests.{same_test}
 use Rattle.lists.proofs.Numbers.{any_out, any_in}

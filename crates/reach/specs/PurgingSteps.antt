@@ -1,6 +1,5 @@
 -- What the private step of the code answers.
-use Rattle.std.specs.Prelude.{ℕ, ◌||◌}
-use Rattle.lists.specs.Lists.{if◌then◌else◌}
+use Rattle.std.specs.Prelude.{ℕ, ◌||◌, if◌then◌else◌}
 use Rattle.lists.specs.Words.{in_word}
 
 -- a link's counter after a purge, by its ends and the reach word

@@ -1,7 +1,7 @@
 -- Reach, as a list of stations that leads there and as a computed set; purge; the report.
 -- That the two are one: proofs/ReachLaws.antt, `sound` and `complete`. Which links work is a parameter.
-use Rattle.std.specs.Prelude.{ℕ, zero, suc, ◌<◌, Bool, false, not, ◌&&◌, ◌||◌, List, [], ◌∷◌, ◌++◌, map, eqb, T, length, get_or}
-use Rattle.lists.specs.Lists.{if◌then◌else◌, below, any, sum_of, first_of}
+use Rattle.std.specs.Prelude.{ℕ, zero, suc, ◌<◌, Bool, false, not, ◌&&◌, ◌||◌, List, [], ◌∷◌, ◌++◌, map, eqb, T, length, get_or, if◌then◌else◌}
+use Rattle.lists.specs.Lists.{below, any, sum_of, first_of}
 use Rattle.lists.specs.Words.{bit}
 use Rattle.counters.specs.Counters.{even}
 use Rattle.net.specs.Network.{Network, ends, link_numbers, ties}

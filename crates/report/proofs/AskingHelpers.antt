@@ -1,12 +1,12 @@
 -- What the small steps of the code answer, return by return.
+use Rattle.std.specs.Prelude.{if◌then◌else◌}
 use Prim.Native.Nat.{ℕ, ◌≤◌, ◌<◌}
 use mathlib.Core.Bool.{Bool, true, false}
 use mathlib.Core.Path.{◌≡◌, sym, ap, ◌∙◌, subst⁻¹}
 use native.Mathlib.Omega.{arith}
 use lib.Dec.{ltb, ltb→lt}
 use borrow.Author.Tests.{lt-ltb, le-ltb}
-use Rattle.lists.specs.Lists.{if◌then◌else◌}
-use Rattle.lists.proofs.Tests.{if-elim}
+use Rattle.lists.proofs.Tests.{if_elim}
 use Rattle.station.specs.declared.Condition.{Condition}
 use Rattle.station.specs.Holding.{is_live}
 use Rattle.report.specs.Asking.{number_by}
@@ -23,7 +23,7 @@ place_past a h = sym (ap (λ (b : Bool). if b then a else 0) (le-ltb a station_r
 pub place_few : (a r : ℕ) → r ≡ in_room a → r < station_room
 place_few a r e =
     subst⁻¹ (λ (n : ℕ). n < station_room) e
-    (if-elim (λ (n : ℕ). n < station_room) (ltb a station_room) (λ t. ltb→lt a station_room t) (λ t. omega arith))
+    (if_elim (λ (n : ℕ). n < station_room) (ltb a station_room) (λ t. ltb→lt a station_room t) (λ t. omega arith))
 
 -- ---- the number
 module _ (good : Bool) (stations a : ℕ) (x : Condition) where

@@ -1,9 +1,9 @@
 -- What the small step of the code answers, return by return.
+use Rattle.std.specs.Prelude.{if◌then◌else◌}
 use Prim.Native.Nat.{ℕ}
 use mathlib.Core.Bool.{Bool}
 use mathlib.Core.Path.{◌≡◌, sym, ap, ◌∙◌}
 use borrow.Author.Tests.{eq-eqb, ne_eqb}
-use Rattle.lists.specs.Lists.{if◌then◌else◌}
 use Rattle.net.specs.declared.Net.{Net}
 use Rattle.reach.specs.declared.Reached.{Reached}
 use Rattle.reach.specs.ShowingValues.{reached_of}

@@ -1,5 +1,6 @@
 -- What an accepted report shows, over its bytes: a station is shown as working exactly if a path of links with even counters
 -- leads to it in the asker's own table. For every state, station and lent output. The reach word: WordShown.antt.
+use Rattle.std.specs.Prelude.{if◌then◌else◌}
 use Prim.Native.Nat.{ℕ, ◌+◌, ◌≤◌, ◌<◌}
 use mathlib.Core.Bool.{Bool}
 use mathlib.Core.Path.{◌≡◌, sym, ap, ◌∙◌, subst, subst⁻¹}
@@ -10,7 +11,6 @@ use borrow.Author.Tests.{eq-eqb}
 use lib.Dec.{T}
 use lib.ListN.{length, get_or, drop, length-append, length-drop, get_or-append}
 use lib.Seq.{drop_at}
-use Rattle.lists.specs.Lists.{if◌then◌else◌}
 use Rattle.net.specs.Network.{Network, ends}
 use Rattle.net.specs.Values.{network_of}
 use Rattle.counters.specs.Counters.{even, odd}

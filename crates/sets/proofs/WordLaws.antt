@@ -1,4 +1,5 @@
 -- Laws of sets of links as words. Callers read a word by `in_by` and make one by `by_ext`.
+use Rattle.std.specs.Prelude.{if◌then◌else◌}
 use Prim.Native.Nat.{ℕ, ◌+◌, ◌-◌, ◌*◌, ◌%◌, ◌^◌, ◌≤◌, ◌<◌, max}
 use mathlib.Core.Bool.{Bool, true, false, not, ◌&&◌, ◌||◌}
 use mathlib.Core.Path.{◌≡◌, refl, sym, ap, ap₂, ◌∙◌, subst, subst⁻¹}
@@ -10,7 +11,7 @@ use lib.Bits.{bit_and, and_lt, bit_or, or_lt}
 use lib.Dec.{eqb, ltb}
 use lib.Pow.{pow_pos, pow-lt, ones_sub-lt}
 use borrow.Author.Tests.{eq-eqb, ne_eqb, lt-ltb, le-ltb}
-use Rattle.lists.specs.Lists.{if◌then◌else◌, below}
+use Rattle.lists.specs.Lists.{below}
 use Rattle.lists.specs.Words.{bit, bit_at, in_word, word_of}
 use Rattle.lists.proofs.Numbers.{get_or_map_below, length_map_below}
 use Rattle.lists.proofs.Words.{in_is_one, out_is_zero, one_is_in, zero_is_out, beyond, none_in, word_ext, put_same, put_other}

@@ -1,6 +1,5 @@
 -- A station's number that is read in the room of 32.
-use Rattle.std.specs.Prelude.{ℕ, ltb}
-use Rattle.lists.specs.Lists.{if◌then◌else◌}
+use Rattle.std.specs.Prelude.{ℕ, ltb, if◌then◌else◌}
 
 -- one that has a place there; any other becomes 0
 abbrev pub in_room : ℕ → ℕ

@@ -2,8 +2,7 @@
 // Inner doors: the calls are in docs/CALLS.md.
 #![tactic(auto)]
 
-ghost use Rattle.std.specs.Prelude.{◌≡◌, min, not, ◌&&◌, ◌||◌, eqb};
-ghost use Rattle.lists.specs.Lists.{if◌then◌else◌};
+ghost use Rattle.std.specs.Prelude.{◌≡◌, min, not, ◌&&◌, ◌||◌, eqb, if◌then◌else◌};
 ghost use Rattle.lists.specs.Words.{in_word, bit_at};
 ghost use Rattle.sets.specs.Sets.{word_by};
 ghost use Rattle.sets.specs.Rooms.{in_room};

@@ -6,7 +6,7 @@ use mathlib.Core.List.{List, []}
 use native.Mathlib.Omega.{arith}
 use lib.Dec.{T}
 use lib.ListN.{length, get_or}
-use Rattle.lists.proofs.Tests.{and_l, and_r, if-elim}
+use Rattle.lists.proofs.Tests.{and_l, and_r, if_elim}
 use Rattle.lists.proofs.Fill.{by_places}
 use Rattle.fields.specs.Fields.{Field, short, field, is_field, is_empty}
 use Rattle.fields.proofs.Seen.{tag_is, size_is, empty_is}
@@ -31,9 +31,9 @@ pub is_stations : (f : Field) (n : ℕ) (rest : List ℕ) → opened f ≡ stati
 unfolding opened
 is_stations short n rest e = let z : ◌≡◌ {A = ℕ} 0 1 = cc in absurd (omega arith)
 is_stations (field t v r) n rest e =
-    if-elim (λ (x : Opening). x ≡ stations n rest → IsStations (field t v r) n rest) (not (is_field stations_tag 1 t v))
+    if_elim (λ (x : Opening). x ≡ stations n rest → IsStations (field t v r) n rest) (not (is_field stations_tag 1 t v))
     (λ _ q. let z : ◌≡◌ {A = ℕ} 0 1 = cc in absurd (omega arith))
-    (λ p. if-elim (λ (x : Opening). x ≡ stations n rest → IsStations (field t v r) n rest) (not (stations_hold (get_or v 0 0)))
+    (λ p. if_elim (λ (x : Opening). x ≡ stations n rest → IsStations (field t v r) n rest) (not (stations_hold (get_or v 0 0)))
     (λ _ q. let z : ◌≡◌ {A = ℕ} 0 1 = cc in absurd (omega arith))
     (λ s q.
     let h = not_not (is_field stations_tag 1 t v) p in
@@ -56,9 +56,9 @@ pub is_link : (n : ℕ) (prev : Ends) (f : Field) (e : Ends) (rest : List ℕ) �
 unfolding judged
 is_link n prev short e rest p = let z : ◌≡◌ {A = ℕ} 0 1 = cc in absurd (omega arith)
 is_link n prev (field t v r) e rest p =
-    if-elim P (is_field link_tag 2 t v)
-    (λ h. if-elim P (not (ends_hold n (link_of v))) (λ _ q. let z : ◌≡◌ {A = ℕ} 0 1 = cc in absurd (omega arith))
-    (λ a. if-elim P (not (precedes prev (link_of v))) (λ _ q. let z : ◌≡◌ {A = ℕ} 0 1 = cc in absurd (omega arith))
+    if_elim P (is_field link_tag 2 t v)
+    (λ h. if_elim P (not (ends_hold n (link_of v))) (λ _ q. let z : ◌≡◌ {A = ℕ} 0 1 = cc in absurd (omega arith))
+    (λ a. if_elim P (not (precedes prev (link_of v))) (λ _ q. let z : ◌≡◌ {A = ℕ} 0 1 = cc in absurd (omega arith))
     (λ b q.
     let k : link_of v ≡ e = ap link_in q in
     let w : r ≡ rest = cc in
@@ -71,7 +71,7 @@ is_link n prev (field t v r) e rest p =
       good = subst (λ (y : Ends). T (ends_hold n y)) k (not_not (ends_hold n (link_of v)) a);
       after = subst (λ (y : Ends). T (precedes prev y)) k (not_not (precedes prev (link_of v)) b);
     })))
-    (λ _. if-elim P (is_field end_tag 0 t v && is_empty r) (λ _ q. let z : ◌≡◌ {A = ℕ} 0 1 = cc in absurd (omega arith))
+    (λ _. if_elim P (is_field end_tag 0 t v && is_empty r) (λ _ q. let z : ◌≡◌ {A = ℕ} 0 1 = cc in absurd (omega arith))
     (λ _ q. let z : ◌≡◌ {A = ℕ} 0 1 = cc in absurd (omega arith))) p
   where
     P : Verdict → Type 0
@@ -86,11 +86,11 @@ pub is_last : (n : ℕ) (prev : Ends) (f : Field) → judged n prev f ≡ last �
 unfolding judged
 is_last n prev short p = let z : ◌≡◌ {A = ℕ} 0 1 = cc in absurd (omega arith)
 is_last n prev (field t v r) p =
-    if-elim P (is_field link_tag 2 t v)
-    (λ h. if-elim P (not (ends_hold n (link_of v))) (λ _ q. let z : ◌≡◌ {A = ℕ} 0 1 = cc in absurd (omega arith))
-    (λ a. if-elim P (not (precedes prev (link_of v))) (λ _ q. let z : ◌≡◌ {A = ℕ} 0 1 = cc in absurd (omega arith))
+    if_elim P (is_field link_tag 2 t v)
+    (λ h. if_elim P (not (ends_hold n (link_of v))) (λ _ q. let z : ◌≡◌ {A = ℕ} 0 1 = cc in absurd (omega arith))
+    (λ a. if_elim P (not (precedes prev (link_of v))) (λ _ q. let z : ◌≡◌ {A = ℕ} 0 1 = cc in absurd (omega arith))
     (λ b q. let z : ◌≡◌ {A = ℕ} 0 1 = cc in absurd (omega arith))))
-    (λ _. if-elim P (is_field end_tag 0 t v && is_empty r)
+    (λ _. if_elim P (is_field end_tag 0 t v && is_empty r)
     (λ h q.
     let g : t ≡ end_tag = tag_is end_tag 0 t v (and_l (is_field end_tag 0 t v) _ h) in
     let w : v ≡ [] = by_places 0 0 v (size_is end_tag 0 t v (and_l (is_field end_tag 0 t v) _ h)) in

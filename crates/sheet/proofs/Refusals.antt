@@ -1,5 +1,6 @@
 -- A sheet is refused with a number when, and only when, the list of numbers says so: a good beginning, then the field that is
 -- at fault, judged in the order 1, 2, 3, 4, 5.
+use Rattle.std.specs.Prelude.{if◌then◌else◌}
 use Prim.Native.Nat.{ℕ, zero, suc, ◌-◌, ◌≤◌, ◌<◌}
 use mathlib.Core.Bool.{Bool, true, false, not, ◌&&◌}
 use mathlib.Core.Path.{◌≡◌, refl, sym, ap, ap₂, ◌∙◌, subst, subst⁻¹}
@@ -9,7 +10,6 @@ use native.Mathlib.Omega.{arith}
 use lib.Dec.{T, ltb}
 use borrow.Author.Tests.{lt-ltb, ltb-true}
 use lib.ListN.{length, get_or}
-use Rattle.lists.specs.Lists.{if◌then◌else◌}
 use Rattle.lists.proofs.Tests.{and_i}
 use Rattle.fields.specs.Fields.{Field, short, field, first_field, write_field, is_field, is_empty, are_bytes}
 use Rattle.fields.specs.Output.{denied, writes, fitting}

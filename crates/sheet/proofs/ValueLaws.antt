@@ -1,5 +1,6 @@
 -- The network value that reading hands out: it means the network that was read and keeps the rules with its unused room
 -- zero; and a good value is determined by its meaning.
+use Rattle.std.specs.Prelude.{if◌then◌else◌}
 use Prim.Native.Nat.{ℕ, ◌-◌, ◌≤◌, ◌<◌, min}
 use mathlib.Core.Bool.{false}
 use mathlib.Core.Path.{◌≡◌, refl, sym, ap, ◌∙◌, subst, subst⁻¹}
@@ -8,7 +9,7 @@ use native.Mathlib.Omega.{arith}
 use lib.Dec.{T, eqb}
 use lib.ListN.{length, get_or, drop, replicate, length-append, length-map, length-replicate, get_or-replicate, get_or-append, get_or-map}
 use lib.Seq.{ext_get_or, drop_at}
-use Rattle.lists.specs.Lists.{if◌then◌else◌, every, below}
+use Rattle.lists.specs.Lists.{every, below}
 use Rattle.lists.proofs.Tests.{at_every}
 use Rattle.lists.proofs.Numbers.{get_or_map_below, length_map_below}
 use Rattle.net.specs.declared.Net.{Net}

@@ -1,6 +1,5 @@
 -- A sheet's bytes: cut one field off the front, judge it, go on.
-use Rattle.std.specs.Prelude.{ℕ, zero, suc, Bool, not, ◌&&◌, List, [], ◌∷◌, ◌++◌, leb, get_or}
-use Rattle.lists.specs.Lists.{if◌then◌else◌}
+use Rattle.std.specs.Prelude.{ℕ, zero, suc, Bool, not, ◌&&◌, List, [], ◌∷◌, ◌++◌, leb, get_or, if◌then◌else◌}
 use Rattle.lists.specs.Places.{collect}
 use Rattle.fields.specs.Fields.{Field, short, field, first_field, write_field, is_field, is_empty}
 use Rattle.net.specs.Network.{Ends, Network}

@@ -1,6 +1,6 @@
 -- What the private steps of the code answer.
-use Rattle.std.specs.Prelude.{ℕ, not, List, [], map, get_or, drop}
-use Rattle.lists.specs.Lists.{if◌then◌else◌, below}
+use Rattle.std.specs.Prelude.{ℕ, not, List, [], map, get_or, drop, if◌then◌else◌}
+use Rattle.lists.specs.Lists.{below}
 use Rattle.fields.specs.Fields.{first_field}
 use Rattle.net.specs.Network.{Ends}
 use Rattle.net.specs.Sizes.{link_room}

@@ -1,6 +1,5 @@
 -- What the code's answers mean: the paper's number for each case, and the value beside it.
-use Rattle.std.specs.Prelude.{ℕ, ◌-◌, not, ◌≡◌, List, [], ◌∷◌, ◌++◌, map, length, replicate}
-use Rattle.lists.specs.Lists.{if◌then◌else◌}
+use Rattle.std.specs.Prelude.{ℕ, ◌-◌, not, ◌≡◌, List, [], ◌∷◌, ◌++◌, map, length, replicate, if◌then◌else◌}
 use Rattle.fields.specs.Output.{Writing, denied, fitting}
 use Rattle.net.specs.declared.Net.{Net}
 use Rattle.net.specs.Network.{Network}

@@ -1,4 +1,5 @@
 -- The two ends of a link in a network that keeps the sheet rules: they are two stations, and the end that is not s is an end.
+use Rattle.std.specs.Prelude.{if◌then◌else◌}
 use Prim.Native.Nat.{ℕ, ◌<◌}
 use mathlib.Core.Bool.{Bool, true, false, ◌||◌}
 use mathlib.Core.Path.{◌≡◌, refl, subst⁻¹}
@@ -6,8 +7,7 @@ use native.Mathlib.Omega.{arith}
 use borrow.Author.Tests.{ne_eqb}
 use lib.Dec.{T, eqb, eqb→eq, eqb_refl}
 use lib.ListN.{length}
-use Rattle.lists.specs.Lists.{if◌then◌else◌}
-use Rattle.lists.proofs.Tests.{T_is, or_left, or_right, if-elim}
+use Rattle.lists.proofs.Tests.{T_is, or_left, or_right, if_elim}
 use Rattle.net.specs.Network.{Network, ends, is_end, other}
 use Rattle.sheet_rules.specs.Rules.{sheet_holds}
 use Rattle.sheet_rules.proofs.Rules.{lower_first, higher_there, rules_of}
@@ -25,7 +25,7 @@ module _ (net : Network) (ok : T (sheet_holds net)) (k : ℕ) (l : k < length ne
   low_real = omega (arith, ends_rise, high_real)
 
   pub other_real : (s : ℕ) → other net k s < net.stations
-  other_real s = if-elim (λ (r : ℕ). r < net.stations) (eqb (ends net k).low s) (λ t. high_real) (λ t. low_real)
+  other_real s = if_elim (λ (r : ℕ). r < net.stations) (eqb (ends net k).low s) (λ t. high_real) (λ t. low_real)
 
   -- the other end's other end
   pub other_other : (s : ℕ) → T (is_end net k s) → other net k (other net k s) ≡ s
@@ -47,6 +47,6 @@ module _ (net : Network) (ok : T (sheet_holds net)) (k : ℕ) (l : k < length ne
 -- the end that is not s is an end, in any network
 pub other_end : (net : Network) (k s : ℕ) → T (is_end net k (other net k s))
 other_end net k s =
-    if-elim (λ (r : ℕ). T (is_end net k r)) (eqb (ends net k).low s)
+    if_elim (λ (r : ℕ). T (is_end net k r)) (eqb (ends net k).low s)
     (λ t. or_right (eqb (ends net k).low (ends net k).high) _ (eqb_refl (ends net k).high))
     (λ t. or_left (eqb (ends net k).low (ends net k).low) _ (eqb_refl (ends net k).low))

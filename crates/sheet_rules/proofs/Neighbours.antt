@@ -1,5 +1,6 @@
 -- At most one link between two stations: in a network that keeps the sheet rules links with the same ends are one link, and so no
 -- two links of a station lead to the same neighbour.
+use Rattle.std.specs.Prelude.{if◌then◌else◌}
 use Prim.Native.Nat.{ℕ, zero, suc, ◌<◌}
 use mathlib.Core.Bool.{Bool, true, false, ◌||◌}
 use mathlib.Core.Path.{◌≡◌, refl, sym, ◌∙◌, subst⁻¹}
@@ -8,7 +9,6 @@ use native.Mathlib.Decide.{dec_lt, ℕ_discrete}
 use native.Mathlib.Omega.{arith}
 use lib.Dec.{T, eqb, ltb, ltb→lt, eqb→eq}
 use lib.ListN.{length}
-use Rattle.lists.specs.Lists.{if◌then◌else◌}
 use Rattle.lists.proofs.Tests.{and_l, and_r, or_cases}
 use Rattle.net.specs.Network.{Ends, Network, ends, is_end, other}
 use Rattle.sheet_rules.specs.Rules.{precedes, sheet_holds}

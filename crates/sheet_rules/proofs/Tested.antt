@@ -1,4 +1,5 @@
 -- The sheet rules, as the code tests them.
+use Rattle.std.specs.Prelude.{if◌then◌else◌}
 use Prim.Native.Nat.{ℕ, ◌+◌, ◌-◌, ◌≤◌, ◌<◌, min}
 use mathlib.Core.Bool.{Bool, false, ◌&&◌, ◌||◌}
 use mathlib.Core.Path.{◌≡◌, sym, ap, ap₂, ◌∙◌, subst, subst⁻¹}
@@ -10,7 +11,7 @@ use lib.Dec.{T, eqb, ltb}
 use lib.ListN.{length, get_or, drop, length-drop}
 use lib.Seq.{get_or-drop}
 use borrow.Author.Tests.{eq-eqb, lt-ltb, le-ltb, le-leb, lt-leb}
-use Rattle.lists.specs.Lists.{if◌then◌else◌, every, below}
+use Rattle.lists.specs.Lists.{every, below}
 use Rattle.lists.proofs.Tests.{and_no, and_l, and_r, and_i, same_test, every_at, at_every}
 use Rattle.lists.proofs.Numbers.{below_at, at_below}
 use Rattle.net.specs.declared.Net.{Net}

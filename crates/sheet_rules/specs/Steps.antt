@@ -1,6 +1,5 @@
 -- What the private steps of the code answer.
-use Rattle.std.specs.Prelude.{ℕ, Bool, ◌&&◌, ◌||◌, eqb, ltb}
-use Rattle.lists.specs.Lists.{if◌then◌else◌}
+use Rattle.std.specs.Prelude.{ℕ, Bool, ◌&&◌, ◌||◌, eqb, ltb, if◌then◌else◌}
 
 -- good ends that come after the ends a, b of the link before, if there is one
 abbrev pub follows : ℕ → Bool → ℕ → ℕ → ℕ → ℕ → Bool

@@ -1,11 +1,12 @@
 -- The state right after reading a sheet, as the code makes it.
+use Rattle.std.specs.Prelude.{if◌then◌else◌}
 use Prim.Native.Nat.{ℕ, ◌-◌, ◌≤◌}
 use mathlib.Core.Bool.{Bool, true, false}
 use mathlib.Core.Path.{◌≡◌, refl, sym, ap, ap₂, ◌∙◌}
 use mathlib.Core.List.{List, [], ◌∷◌, ◌++◌, map}
 use native.Mathlib.Omega.{arith}
 use lib.ListN.{length, replicate, length-map}
-use Rattle.lists.specs.Lists.{if◌then◌else◌, below, filled}
+use Rattle.lists.specs.Lists.{below, filled}
 use Rattle.lists.specs.Places.{roomed}
 use Rattle.lists.proofs.Rooms.{drop_replicate}
 use Rattle.lists.proofs.Tests.{is_T}

@@ -1,4 +1,5 @@
 -- A well-formed world laid out in zero room is a well-formed state that means it.
+use Rattle.std.specs.Prelude.{if◌then◌else◌}
 use Prim.Native.Nat.{ℕ, ◌≤◌, ◌<◌, min}
 use mathlib.Core.Bool.{Bool, ◌&&◌}
 use mathlib.Core.Path.{◌≡◌, refl, sym, ap, ◌∙◌, subst, subst⁻¹}
@@ -9,7 +10,6 @@ use borrow.Author.Tests.{lt-ltb, le-ltb, le-leb}
 use lib.Dec.{T, leb}
 use lib.ListN.{length, get_or, take, length-map, get_or-map}
 use lib.Seq.{ext_get_or}
-use Rattle.lists.specs.Lists.{if◌then◌else◌}
 use Rattle.lists.specs.Places.{roomed}
 use Rattle.lists.proofs.Tests.{and_i, is_T, every_at}
 use Rattle.lists.proofs.Numbers.{at_below}

@@ -1,4 +1,5 @@
 -- A well-formed state is determined by what it means, and every well-formed world that its network carries is meant by one.
+use Rattle.std.specs.Prelude.{if◌then◌else◌}
 use Prim.Native.Nat.{ℕ, ◌≤◌, ◌<◌}
 use mathlib.Core.Bool.{Bool, ◌&&◌}
 use mathlib.Core.Path.{◌≡◌, refl, sym, ap, ◌∙◌, subst, subst⁻¹}
@@ -8,7 +9,6 @@ use borrow.Author.Tests.{lt-ltb, le-ltb}
 use lib.Dec.{T, leb, leb→le, eqb→eq}
 use lib.ListN.{length, get_or, take, length-map, get_or-map}
 use lib.Seq.{length-take-le, get_or-take, ext_get_or}
-use Rattle.lists.specs.Lists.{if◌then◌else◌}
 use Rattle.lists.specs.Places.{roomed}
 use Rattle.lists.proofs.Tests.{and_l, and_r, at_every}
 use Rattle.lists.proofs.Numbers.{below_at}

@@ -1,4 +1,5 @@
 -- A place of the stations, by the network's links and the station's own; and a letter, by its sender's.
+use Rattle.std.specs.Prelude.{if◌then◌else◌}
 use Prim.Native.Nat.{ℕ, ◌%◌, ◌≤◌, ◌<◌, min}
 use mathlib.Core.Bool.{Bool, true, false, ◌&&◌, ◌||◌}
 use mathlib.Core.Path.{◌≡◌, refl, sym, ap, ap₂, ◌∙◌}
@@ -9,7 +10,7 @@ use native.Mathlib.Omega.{arith}
 use lib.Dec.{T, ltb}
 use lib.ListN.{length, get_or}
 use borrow.Author.Tests.{ne_eqb, le-ltb}
-use Rattle.lists.specs.Lists.{if◌then◌else◌, every, below}
+use Rattle.lists.specs.Lists.{every, below}
 use Rattle.lists.specs.Words.{in_word}
 use Rattle.lists.proofs.Tests.{and_no, same_test, every_at, at_every}
 use Rattle.lists.proofs.Numbers.{below_at, at_below}

@@ -1,5 +1,6 @@
 -- The test of a whole state: what its three loops have seen so far, with a law for the beginning, for one turn and for the end; and that
 -- what they have seen in the end is the definition. Two walks cite them: the test's own and the network's step, which has the same loops.
+use Rattle.std.specs.Prelude.{if◌then◌else◌}
 use Prim.Native.Nat.{ℕ, ◌+◌, ◌-◌, ◌*◌, ◌/◌, ◌%◌, ◌≤◌, ◌<◌, min, max}
 use mathlib.Core.Bool.{Bool, true, false, ◌&&◌, ◌||◌}
 use mathlib.Core.Path.{◌≡◌, refl, sym, ap, ap₂, ◌∙◌, subst, subst⁻¹}
@@ -10,7 +11,7 @@ use lib.Bits.{bit_or}
 use lib.Dec.{T, eqb, ltb, leb, leb→le}
 use lib.ListN.{length, get_or}
 use borrow.Author.Tests.{eq-eqb, ne_eqb, lt-ltb, le-ltb, le-leb}
-use Rattle.lists.specs.Lists.{if◌then◌else◌, every, below}
+use Rattle.lists.specs.Lists.{every, below}
 use Rattle.lists.specs.Words.{in_word}
 use Rattle.lists.proofs.Tests.{and_l, and_r, and_i, and_assoc, is_T, same_test, or_left}
 use Rattle.lists.proofs.Numbers.{below_at, at_below}

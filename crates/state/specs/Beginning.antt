@@ -1,6 +1,5 @@
 -- What `fresh` answers: the state right after reading a sheet, in the world's words.
-use Rattle.std.specs.Prelude.{replicate}
-use Rattle.lists.specs.Lists.{if◌then◌else◌}
+use Rattle.std.specs.Prelude.{replicate, if◌then◌else◌}
 use Rattle.net.specs.declared.Net.{Net}
 use Rattle.net.specs.Values.{network_of}
 use Rattle.net.specs.Sizes.{station_room, letter_room}

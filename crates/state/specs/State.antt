@@ -1,7 +1,7 @@
 -- What a state value means, and which of them are well formed: the used places say what the world is, and unused ones are zero.
 -- That a well-formed one is determined by its meaning: proofs/Meaning.antt.
-use Rattle.std.specs.Prelude.{ℕ, ◌^◌, ◌<◌, Bool, true, false, ◌&&◌, ◌||◌, ◌≡◌, [], map, leb, ltb, length, get_or, take}
-use Rattle.lists.specs.Lists.{if◌then◌else◌, every, below}
+use Rattle.std.specs.Prelude.{ℕ, ◌^◌, ◌<◌, Bool, true, false, ◌&&◌, ◌||◌, ◌≡◌, [], map, leb, ltb, length, get_or, take, if◌then◌else◌}
+use Rattle.lists.specs.Lists.{every, below}
 use Rattle.lists.specs.Places.{roomed}
 use Rattle.net.specs.declared.Body.{Body}
 use Rattle.net.specs.declared.Body.TheVariants.{Request, Reply, Notice}

@@ -2,8 +2,7 @@
 // Inner doors: the calls are in docs/CALLS.md.
 #![tactic(auto)]
 
-ghost use Rattle.std.specs.Prelude.{◌≡◌, true, ◌&&◌, ◌||◌, min, ◌≤◌, leb, eqb};
-ghost use Rattle.lists.specs.Lists.{if◌then◌else◌};
+ghost use Rattle.std.specs.Prelude.{◌≡◌, true, ◌&&◌, ◌||◌, min, ◌≤◌, leb, eqb, if◌then◌else◌};
 ghost use Rattle.sheet_rules.specs.Values.{net_holds};
 ghost use Rattle.state.specs.State.{is_request, is_no_letter, place_test, state_holds, Fits, Sized};
 ghost use Rattle.net.specs.Values.{network_of};

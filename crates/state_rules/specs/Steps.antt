@@ -1,6 +1,6 @@
 -- What the private steps of the code answer.
-use Rattle.std.specs.Prelude.{ℕ, Bool, true, ◌&&◌, ◌||◌, eqb}
-use Rattle.lists.specs.Lists.{if◌then◌else◌, every, below}
+use Rattle.std.specs.Prelude.{ℕ, Bool, true, ◌&&◌, ◌||◌, eqb, if◌then◌else◌}
+use Rattle.lists.specs.Lists.{every, below}
 use Rattle.net.specs.Letters.{is_counter}
 use Rattle.net.specs.Values.{is_zero}
 use Rattle.net.specs.Sizes.{link_room}

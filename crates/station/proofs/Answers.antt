@@ -1,12 +1,12 @@
 -- The receiver's answer to a letter: when it is which, by what the letter carries, and what each answer says of the station and the
 -- letter.
+use Rattle.std.specs.Prelude.{if◌then◌else◌}
 use Prim.Native.Nat.{ℕ, ◌≤◌, ◌<◌}
 use mathlib.Core.Bool.{Bool, true, not, ◌&&◌, ◌||◌}
 use mathlib.Core.Path.{◌≡◌, refl, ap, ◌∙◌, subst⁻¹}
 use lib.Dec.{T, eqb, ltb, ltb→lt}
 use lib.ListN.{length}
-use Rattle.lists.specs.Lists.{if◌then◌else◌}
-use Rattle.lists.proofs.Tests.{T_is, T_not_is, and_l, and_r, if-elim}
+use Rattle.lists.proofs.Tests.{T_is, T_not_is, and_l, and_r, if_elim}
 use Rattle.net.specs.declared.Body.{Body}
 use Rattle.net.specs.declared.Body.TheVariants.{Request, Reply, Notice}
 use Rattle.net.specs.declared.Letter.{Letter}
@@ -50,19 +50,19 @@ module _ (s : ℕ) (x : Letter) (h : Holding) where
   by_hearing : (P : Heard → Type 0) (b : Body) → x.body ≡ b → (T (not (heard x h)) → P Gone) → (T (heard x h) → P (by_body b))
       → P (answer s x h)
   unfolding answer
-  by_hearing P b e gone here = if-elim P (heard x h) (λ t. subst⁻¹ (λ (b : Body). P (by_body b)) e (here t)) gone
+  by_hearing P b e gone here = if_elim P (heard x h) (λ t. subst⁻¹ (λ (b : Body). P (by_body b)) e (here t)) gone
 
   -- ---- a request: of two testers the higher-numbered puts it off
   pub request_cases : (P : Heard → Type 0) → x.body ≡ Request → (T (not (heard x h)) → P Gone)
       → (T (heard x h) → T ((mark h x.link).testing && ltb x.sender s) → P (Does Defers))
       → (T (heard x h) → T (not ((mark h x.link).testing && ltb x.sender s)) → P (Does Answers)) → P (answer s x h)
-  request_cases P e gone defers answers = by_hearing P Request e gone (λ t. if-elim P (tests && ltb x.sender s) (defers t) (answers t))
+  request_cases P e gone defers answers = by_hearing P Request e gone (λ t. if_elim P (tests && ltb x.sender s) (defers t) (answers t))
 
   -- ---- a notice: taken if it is newer
   pub notice_cases : (P : Heard → Type 0) (j c : ℕ) → x.body ≡ Notice j c → (T (not (heard x h)) → P Gone)
       → (T (heard x h) → T (not (newer (counter h j) c)) → P Nothing)
       → (T (heard x h) → T (newer (counter h j) c) → P (Does (Takes j c))) → P (answer s x h)
-  notice_cases P j c e gone old takes = by_hearing P (Notice j c) e gone (λ t. if-elim P (newer (counter h j) c) (takes t) (old t))
+  notice_cases P j c e gone old takes = by_hearing P (Notice j c) e gone (λ t. if_elim P (newer (counter h j) c) (takes t) (old t))
 
   pub notice_taken : (j c : ℕ) → x.body ≡ Notice j c → T (heard x h) → T (newer (counter h j) c) → answer s x h ≡ Does (Takes j c)
   notice_taken j c e t u =
@@ -90,7 +90,7 @@ module _ (s : ℕ) (x : Letter) (h : Holding) where
     unfolding healing
     reply_cases P gone idle too fits =
         by_hearing P (Reply c) e gone
-        (λ t. if-elim P tests (λ u. if-elim (λ (y : Healed). P (replied_by own c y)) over (too t u) (fits t u)) (idle t))
+        (λ t. if_elim P tests (λ u. if_elim (λ (y : Healed). P (replied_by own c y)) over (too t u) (fits t u)) (idle t))
 
     pub reply_idle : T (heard x h) → T (not (mark h x.link).testing) → answer s x h ≡ Nothing
     reply_idle t u =
@@ -168,8 +168,8 @@ module _ (net : Network) (s : ℕ) (x : Letter) (h : Holding) where
   body_fits r Request e p = request_cases s x h Fits e (λ t. tt) (λ t u. (t, and_l (mark h x.link).testing _ u)) (λ t u. (t, tt))
   body_fits r (Reply c) e p =
       reply_cases s x h c e Fits (λ t. tt) (λ t u. tt) (λ t u v. tt)
-      (λ t u v. if-elim Fits (odd (counter h x.link) || odd c) (λ w. (t, replied u v))
-      (λ w. if-elim Fits (eqb (counter h x.link) c) (λ q. (t, u)) (λ q. (t, replied u v))))
+      (λ t u v. if_elim Fits (odd (counter h x.link) || odd c) (λ w. (t, replied u v))
+      (λ w. if_elim Fits (eqb (counter h x.link) c) (λ q. (t, u)) (λ q. (t, replied u v))))
     where
       replied : T (mark h x.link).testing → T (not (ltb 65535 (healed (counter h x.link) c)))
           → Replied x.link (healed (counter h x.link) c) h

@@ -2,6 +2,7 @@
 -- An interval: at most one. A recovery: at most one on each own link. A timeout and a notice taken: alike notices on own links
 -- that aren't quiet, at most one fewer than there are own links, since none goes on the link itself or where the notice came from.
 -- A request: at most a notice of each other link, then the reply. A reply: subjects times open own links.
+use Rattle.std.specs.Prelude.{if◌then◌else◌}
 use Prim.Native.Nat.{ℕ, ◌+◌, ◌-◌, ◌*◌, ◌≤◌, ◌<◌, zero-le}
 use mathlib.Core.Bool.{Bool, true, false, not, ◌&&◌, ◌||◌}
 use mathlib.Core.Path.{◌≡◌, refl, sym, ap₂, ◌∙◌, subst, subst⁻¹}
@@ -10,8 +11,8 @@ use native.Mathlib.Nat.{add_comm, le_trans, mul-le-mul, mul-le-mul_right, zero-m
 use native.Mathlib.Omega.{arith}
 use lib.Dec.{T, eqb, ltb, eqb→eq, eqb_refl}
 use lib.ListN.{length, length-map, length-append}
-use Rattle.lists.specs.Lists.{if◌then◌else◌, keep, every}
-use Rattle.lists.proofs.Tests.{T_is, and_l, and_r, and_i, if-elim}
+use Rattle.lists.specs.Lists.{keep, every}
+use Rattle.lists.proofs.Tests.{T_is, and_l, and_r, and_i, if_elim}
 use Rattle.lists.proofs.Numbers.{length_from}
 use Rattle.lists.proofs.Kept.{every_imp, every_both, every_joined, every_keep, every_kept, every_map, keep_le, keep_fewer, keep_keep}
 use Rattle.lists.proofs.Kept.{keep_one_fewer}
@@ -92,7 +93,7 @@ module _ (net : Network) (s : ℕ) where
   pub interval_few : (k : ℕ) (h : Holding) → length (interval net s k h).sent ≤ 1
   unfolding done_by
   interval_few k h =
-      if-elim (λ (y : Sends). length (sent_of net s h h.table y) ≤ 1) (interval_tests (mark h k)) (λ t. omega arith) (λ t. omega arith)
+      if_elim (λ (y : Sends). length (sent_of net s h h.table y) ≤ 1) (interval_tests (mark h k)) (λ t. omega arith) (λ t. omega arith)
 
   -- ---- a recovery: at most one on each own link
   pub recovered_few : (h : Holding) → length (recovered net s h).sent ≤ length (own net s)
@@ -181,7 +182,7 @@ module _ (net : Network) (s : ℕ) where
     pub timeout_spreads : Spreads k k (counter h k + 1) h (timeout net s k h).sent
     unfolding done_by
     timeout_spreads =
-        if-elim (λ (a : Act). Spreads k k (counter h k + 1) h (done_by net s h a).sent) (even (counter h k))
+        if_elim (λ (a : Act). Spreads k k (counter h k + 1) h (done_by net s h a).sent) (even (counter h k))
         (λ t. rw (T_is (even (counter h k)) t) (spread k (counter h k + 1))) (λ t. no_letters k (counter h k + 1))
 
   -- a notice come on an own link: taken and sent on, or nothing
@@ -240,7 +241,7 @@ module _ (net : Network) (s : ℕ) where
     answers_back =
         record {
           few = subst⁻¹ (λ (n : ℕ). n ≤ length (less k (known net h.table)) + 1) (length-append news last)
-              (if-elim (λ (xs : List Letter). length xs + 1 ≤ length (less k (known net h.table)) + 1) (odd (counter h k))
+              (if_elim (λ (xs : List Letter). length xs + 1 ≤ length (less k (known net h.table)) + 1) (odd (counter h k))
               (λ u. told_few) (λ u. omega arith));
           back =
               every_joined (λ x. eqb x.link k) news last (told (λ x. eqb x.link k) (λ b. eqb_refl k))
@@ -258,7 +259,7 @@ module _ (net : Network) (s : ℕ) where
 
         told : (p : Letter → Bool) → ((b : Body) → T (p (letter s k b))) → T (every p news)
         told p f =
-            if-elim (λ (xs : List Letter). T (every p xs)) (odd (counter h k))
+            if_elim (λ (xs : List Letter). T (every p xs)) (odd (counter h k))
             (λ u. tell_every p s (counter h) (less k (known net h.table)) (k ∷ [])
             (λ j. and_i (p (letter s k (Notice j (counter h j)))) _ (f (Notice j (counter h j))) tt))
             (λ u. tt)
@@ -328,7 +329,7 @@ module _ (net : Network) (s : ℕ) where
       let Few : Heard → Type 0 = λ a. length (heard_on net s x.link h a).sent ≤ length net.links * length (own net s) in
       let new : ℕ = healed (counter h x.link) c in
       reply_cases s x h c e Few (λ t. zero-le) (λ t u. zero-le) (λ t u v. zero-le)
-      (λ t u v. if-elim Few (odd (counter h x.link) || odd c) (λ w. heals_few h x.link new)
-      (λ w. if-elim Few (eqb (counter h x.link) c)
+      (λ t u v. if_elim Few (odd (counter h x.link) || odd c) (λ w. heals_few h x.link new)
+      (λ w. if_elim Few (eqb (counter h x.link) c)
       (λ q. subst⁻¹ (λ (xs : List Letter). length xs ≤ length net.links * length (own net s)) (equal_sends h x.link new) zero-le)
       (λ q. levels_few h x.link new l)))

@@ -1,14 +1,15 @@
 -- Each act keeps what the station holds well formed, and each letter that it sends is good: document 01, "Well formed means".
 -- What the caller shows is what the numbers that say no test: what the event names is there (6), it is allowed (7), no counter would
 -- be 65,536 (8). The sheet rules are not needed here. All eight events together: Rules.
+use Rattle.std.specs.Prelude.{if◌then◌else◌}
 use Prim.Native.Nat.{ℕ, ◌<◌}
 use mathlib.Core.Bool.{Bool, true, false, not, ◌&&◌}
 use mathlib.Core.Path.{subst⁻¹}
 use mathlib.Core.List.{List, [], ◌∷◌, ◌++◌, map}
 use lib.Dec.{T, ltb, lt→ltb}
 use lib.ListN.{length}
-use Rattle.lists.specs.Lists.{if◌then◌else◌, keep, every}
-use Rattle.lists.proofs.Tests.{T_is, and_l, and_r, and_i, if-elim}
+use Rattle.lists.specs.Lists.{keep, every}
+use Rattle.lists.proofs.Tests.{T_is, and_l, and_r, and_i, if_elim}
 use Rattle.lists.proofs.Numbers.{get_or_map_below, length_map_below}
 use Rattle.lists.proofs.Kept.{every_joined}
 use Rattle.net.specs.declared.Body.TheVariants.{Request, Reply, Notice}
@@ -128,14 +129,14 @@ module _ (net : Network) (s : ℕ) where
           (if interval_tests (mark h k) then requests (the_link k) else nothing))
           (remarked (λ m. not m.testing && not m.quiet) interval_marks tt (and_l (is_live h.condition) _ a)
           (and_r (is_live h.condition) _ a))
-          (if-elim (λ (y : Sends). T (every (letter_holds net) (sent_of net s h h.table y))) (interval_tests (mark h k))
+          (if_elim (λ (y : Sends). T (every (letter_holds net) (sent_of net s h h.table y))) (interval_tests (mark h k))
           (λ t. on_each_holds net s Request (k ∷ []) tt own_one) (λ t. tt))
 
       -- ---- 5. Timeout ends
       pub timeout_keeps : T (mark h k).testing → Kept (timeout net s k h)
       unfolding done_by
       timeout_keeps a =
-          if-elim (λ (y : Act). Kept (done_by net s h y)) (even (counter h k)) raises
+          if_elim (λ (y : Act). Kept (done_by net s h y)) (even (counter h k)) raises
           (λ e. kept (marked k (test_ended (mark h k)) h) [] (remarked (λ m. m.testing) test_ended tt v a) tt)
         where
           v : T (is_live h.condition)
@@ -177,7 +178,7 @@ module _ (net : Network) (s : ℕ) where
             kept (marked k (requested_marks (mark h k)) h) (news ++ (letter s k (Reply (counter h k)) ∷ []))
             (remarked (λ m. true) requested_marks tt v tt)
             (every_joined (letter_holds net) news (letter s k (Reply (counter h k)) ∷ [])
-            (if-elim (λ xs. T (every (letter_holds net) xs)) (odd (counter h k))
+            (if_elim (λ xs. T (every (letter_holds net) xs)) (odd (counter h k))
             (λ u. tell_holds net s (counter h) (less k (known net h.table)) (k ∷ []) (known_less_tell net s h f k) own_one) (λ u. tt))
             (on_each_holds net s (Reply (counter h k)) (k ∷ []) own_counter own_one))
           where

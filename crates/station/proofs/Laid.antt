@@ -1,4 +1,5 @@
 -- A station value that was changed at one link is its holding, changed at that link, laid over the old room.
+use Rattle.std.specs.Prelude.{if◌then◌else◌}
 use Prim.Native.Nat.{ℕ, ◌+◌, ◌-◌, ◌^◌, ◌≤◌, ◌<◌}
 use mathlib.Core.Bool.{Bool, true, false}
 use mathlib.Core.Path.{◌≡◌, refl, sym, ap, ap₂, ◌∙◌, subst}
@@ -11,7 +12,7 @@ use lib.ListN.{get_or-append, get_or-map, get_or-eq_default}
 use lib.Seq.{ext_get_or, get_or-append-add, get_or-drop, get_or-set_same, get_or-set_other, take-set-lt, drop-set-lt, set_out}
 use borrow.Author.Tests.{eq-eqb, ne_eqb}
 use Rattle.net.specs.Sizes.{link_room}
-use Rattle.lists.specs.Lists.{if◌then◌else◌, below}
+use Rattle.lists.specs.Lists.{below}
 use Rattle.lists.specs.Words.{in_word, word_of}
 use Rattle.lists.proofs.Numbers.{get_or_map_below, length_map_below}
 use Rattle.net.specs.declared.Net.{Net}

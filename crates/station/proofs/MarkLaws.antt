@@ -1,7 +1,7 @@
 -- One link's marks after an interval, by the test that the code asks first.
+use Rattle.std.specs.Prelude.{if◌then◌else◌}
 use mathlib.Core.Bool.{Bool, true, false}
 use mathlib.Core.Path.{◌≡◌, sym, ap, ◌∙◌}
-use Rattle.lists.specs.Lists.{if◌then◌else◌}
 use Rattle.marks.specs.declared.Marks.{Marks}
 use Rattle.station.specs.Holding.{set_token, set_turn, set_testing}
 use Rattle.station.specs.Acts.{interval_marks}

@@ -1,4 +1,5 @@
 -- A purge at one station: it leaves a counter as it is or sets it to 1, and the counters of own links it leaves.
+use Rattle.std.specs.Prelude.{if◌then◌else◌}
 use Prim.Native.Nat.{ℕ, ◌≤◌, ◌<◌}
 use mathlib.Core.Bool.{Bool}
 use mathlib.Core.Path.{◌≡◌, refl, ap, ◌∙◌, subst⁻¹}
@@ -8,8 +9,7 @@ use native.Mathlib.Decide.{dec_lt}
 use native.Mathlib.Omega.{arith}
 use lib.Dec.{T, eqb, eqb→eq}
 use lib.ListN.{length, get_or-eq_default}
-use Rattle.lists.specs.Lists.{if◌then◌else◌}
-use Rattle.lists.proofs.Tests.{T_is, or_cases, or_left, or_right, if-elim}
+use Rattle.lists.proofs.Tests.{T_is, or_cases, or_left, or_right, if_elim}
 use Rattle.lists.proofs.Numbers.{get_or_map_below, length_map_below}
 use Rattle.net.specs.Network.{Network, ends, is_end}
 use Rattle.reach.specs.Reach.{counter_in, works_in, has, reach, near, purge}
@@ -50,7 +50,7 @@ module _ (net : Network) (s : ℕ) where
         go : Dec (j < length net.links) → Lowered (counter h j) (counter (purged net s h) j)
         go (yes l) =
             subst⁻¹ (Lowered (counter h j)) (purged_at j l)
-            (if-elim (Lowered (counter h j)) (near net (reached h.table) j) (λ t. inl refl) (λ t. inr refl))
+            (if_elim (Lowered (counter h j)) (near net (reached h.table) j) (λ t. inl refl) (λ t. inr refl))
         go (no l) = inr (get_or-eq_default (purged net s h).table 1 {n = j} (omega (arith, purged_length)))
 
     -- s reaches itself: a purge leaves the counters of its own links

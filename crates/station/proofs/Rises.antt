@@ -10,7 +10,7 @@ use native.Mathlib.Omega.{arith}
 use lib.Dec.{T, eqb, ltb, ltb→lt, eqb→eq}
 use lib.ListN.{length, get_or, set, get_or-eq_default}
 use lib.Seq.{get_or-set_same, get_or-set_other, set-get_or}
-use Rattle.lists.proofs.Tests.{T_is, T_not_is, if-elim}
+use Rattle.lists.proofs.Tests.{T_is, T_not_is, if_elim}
 use Rattle.net.specs.declared.Body.TheVariants.{Request, Reply, Notice}
 use Rattle.net.specs.declared.Letter.{Letter}
 use Rattle.net.specs.Network.{Network, is_end, link_numbers}
@@ -228,7 +228,7 @@ module _ (net : Network) (s : ℕ) where
         reply_elim P heals equal levels =
             let Q : Heard → Type 0 = λ a. P (heard_on net s x.link h a) in
             subst⁻¹ P (received_is _ (A.reply_tested s x h c e t u v))
-            (if-elim Q (odd own || odd c) (λ w. heals) (λ w. if-elim Q (eqb own c) (λ q. equal w (eqb→eq own c q)) (λ q. levels)))
+            (if_elim Q (odd own || odd c) (λ w. heals) (λ w. if_elim Q (eqb own c) (λ q. equal w (eqb→eq own c q)) (λ q. levels)))
 
         -- to a test: the counter is set to the larger of the two, or one more
         pub reply_sets : s < net.stations → T (holding_holds net s h) → x.link < length net.links → T (is_end net x.link s)
@@ -258,7 +258,7 @@ module _ (net : Network) (s : ℕ) where
         reply_level w =
             let Q : Heard → Type 0 = λ a. (heard_on net s x.link h a).holding.table ≡ set h.table x.link new in
             subst⁻¹ (λ (d : Done). d.holding.table ≡ set h.table x.link new) (received_is _ (A.reply_even s x h c e t u v w))
-            (if-elim Q (eqb own c)
+            (if_elim Q (eqb own c)
             (λ q. equal_table h x.link ∙ sym (ap (set h.table x.link)
             (healed_equal own c (both_even (even own) (odd c) w) (eqb→eq own c q)) ∙ set-get_or h.table x.link 1))
             (λ q. levels_table h x.link new))

@@ -13,7 +13,7 @@ use lib.Dec.{T, ltb}
 use lib.ListN.{length}
 use Rattle.lists.specs.Lists.{sum_of}
 use Rattle.lists.specs.Words.{bit}
-use Rattle.lists.proofs.Tests.{T_is, T_not_is, if-elim}
+use Rattle.lists.proofs.Tests.{T_is, T_not_is, if_elim}
 use Rattle.lists.proofs.OneSum.{sum_none, sum_only}
 use Rattle.net.specs.declared.Letter.{Letter}
 use Rattle.net.specs.Network.{Network, is_end, link_numbers}
@@ -204,17 +204,17 @@ module _ (there : Bool) (r : Rule) where
       → P (due_of there r x)
   unfolding due_of
   due_elim x P refused taken =
-      if-elim P (not there) (λ p. refused 6 (λ z. omega arith))
-      (λ p. if-elim P (not r.allowed) (λ q. refused 7 (λ z. omega arith))
-      (λ q. if-elim P r.over (λ o. refused 8 (λ z. omega arith)) (taken (not_not there p) (not_not r.allowed q))))
+      if_elim P (not there) (λ p. refused 6 (λ z. omega arith))
+      (λ p. if_elim P (not r.allowed) (λ q. refused 7 (λ z. omega arith))
+      (λ q. if_elim P r.over (λ o. refused 8 (λ z. omega arith)) (taken (not_not there p) (not_not r.allowed q))))
 
   pub due_why : (x : Condition) → Why (due_of there r x).number
   unfolding due_of
   due_why x =
       let For : Due → Type 0 = λ d. Why d.number in
-      if-elim For (not there) six
-      (λ p. let t = not_not there p in if-elim For (not r.allowed) (seven t)
-      (λ q. let a = not_not r.allowed q in if-elim For r.over (eight t a) (none t a)))
+      if_elim For (not there) six
+      (λ p. let t = not_not there p in if_elim For (not r.allowed) (seven t)
+      (λ q. let a = not_not r.allowed q in if_elim For r.over (eight t a) (none t a)))
 
   -- nothing refuses it: the rule's
   pub due_done : (x : Condition) → T there → T r.allowed → T (not r.over)

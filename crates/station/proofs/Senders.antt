@@ -1,11 +1,12 @@
 -- Every letter that an act of the station s sends names s as its sender.
+use Rattle.std.specs.Prelude.{if◌then◌else◌}
 use Prim.Native.Nat.{ℕ}
 use mathlib.Core.Path.{subst⁻¹}
 use mathlib.Core.Bool.{Bool, ◌&&◌}
 use mathlib.Core.List.{List, [], ◌∷◌}
 use lib.Dec.{T, eqb, eqb_refl}
-use Rattle.lists.specs.Lists.{if◌then◌else◌, keep, every}
-use Rattle.lists.proofs.Tests.{and_i, if-elim}
+use Rattle.lists.specs.Lists.{keep, every}
+use Rattle.lists.proofs.Tests.{and_i, if_elim}
 use Rattle.lists.proofs.Kept.{every_joined}
 use Rattle.net.specs.declared.Body.{Body}
 use Rattle.net.specs.declared.Body.TheVariants.{Request, Reply, Notice}
@@ -66,13 +67,13 @@ module _ (net : Network) (s : ℕ) (h : Holding) where
   pub interval_by : (k : ℕ) → By (interval net s k h)
   unfolding done_by
   interval_by k =
-      if-elim (λ (l : Sends). T (sent_by s (sent_of net s h h.table l))) (interval_tests (mark h k)) (λ t. on_each_by s Request (k ∷ []))
+      if_elim (λ (l : Sends). T (sent_by s (sent_of net s h h.table l))) (interval_tests (mark h k)) (λ t. on_each_by s Request (k ∷ []))
       (λ t. tt)
 
   pub timeout_by : (k : ℕ) → By (timeout net s k h)
   unfolding done_by
   timeout_by k =
-      if-elim (λ (a : Act). By (done_by net s h a)) (even (counter h k))
+      if_elim (λ (a : Act). By (done_by net s h a)) (even (counter h k))
       (λ t. on_each_by s (Notice k (timed_out (counter h k))) (less k (open_links net s h))) (λ t. tt)
 
   pub effect_by : (k : ℕ) (e : Effect) → By (effect_on net s k h e)
@@ -81,7 +82,7 @@ module _ (net : Network) (s : ℕ) (h : Holding) where
   effect_by k Answers =
       every_joined (λ x. eqb x.sender s) (if odd (counter h k) then tell s (counter h) (less k (known net h.table)) (k ∷ []) else [])
       (letter s k (Reply (counter h k)) ∷ [])
-      (if-elim (λ (xs : List Letter). T (sent_by s xs)) (odd (counter h k))
+      (if_elim (λ (xs : List Letter). T (sent_by s xs)) (odd (counter h k))
       (λ u. tell_by s (counter h) (less k (known net h.table)) (k ∷ [])) (λ u. tt))
       (on_each_by s (Reply (counter h k)) (k ∷ []))
   effect_by k (Heals c) = let next = replied net s k c h in tell_by s (counter next) (known net next.table) (open_links net s h)

@@ -1,4 +1,5 @@
 -- The letters that a sending means: its words are read as lists of links, rising.
+use Rattle.std.specs.Prelude.{if◌then◌else◌}
 use Prim.Native.Nat.{ℕ, zero, suc, ◌+◌, ◌-◌, ◌≤◌, ◌<◌}
 use mathlib.Core.Bool.{Bool, true, false, ◌&&◌}
 use mathlib.Core.Path.{◌≡◌, refl, sym, ap, ap₂, ◌∙◌}
@@ -9,7 +10,7 @@ use lib.Dec.{eqb}
 use lib.ListN.{get_or}
 use borrow.Author.Tests.{eq-eqb, ne_eqb, lt-ltb, le-ltb}
 use Rattle.net.specs.Sizes.{link_room}
-use Rattle.lists.specs.Lists.{if◌then◌else◌, keep, from, below}
+use Rattle.lists.specs.Lists.{keep, from, below}
 use Rattle.lists.specs.Words.{in_word}
 use Rattle.net.specs.declared.Body.TheVariants.{Request, Reply, Notice}
 use Rattle.net.specs.declared.Letter.{Letter}

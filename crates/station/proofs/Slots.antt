@@ -1,12 +1,12 @@
 -- One link at a station: its condition, whether the link is an own one, the counter and the marks. What of its well-formedness
 -- stays when the counter or the marks are set anew. A rule of marks is tested at all 32 of them by computation.
+use Rattle.std.specs.Prelude.{if◌then◌else◌}
 use Prim.Native.Nat.{ℕ, ◌+◌, ◌%◌, ◌≤◌, max}
 use mathlib.Core.Bool.{Bool, true, false, not, ◌&&◌, ◌||◌}
 use mathlib.Core.Path.{◌≡◌, refl, subst⁻¹}
 use native.Mathlib.Omega.{arith}
 use lib.Dec.{T, T_not, eqb, leb, ltb, leb→le, le→leb, eqb→eq, nltb→le}
-use Rattle.lists.specs.Lists.{if◌then◌else◌}
-use Rattle.lists.proofs.Tests.{T_is, and_l, and_r, and_i, or_left, eq→eqb, if-elim}
+use Rattle.lists.proofs.Tests.{T_is, and_l, and_r, and_i, or_left, eq→eqb, if_elim}
 use Rattle.net.specs.Letters.{is_counter}
 use Rattle.counters.specs.Counters.{even, odd, healed}
 use Rattle.marks.specs.declared.Marks.{Marks}
@@ -149,18 +149,18 @@ pub counter_healed : (o c : ℕ) → T (is_counter o) → T (not (ltb 65535 (hea
 unfolding healed
 counter_healed o c t u =
     range_counter (healed o c)
-    (if-elim (λ (h : ℕ). 1 ≤ h) (even (max o c)) (λ e. omega (arith, counter_range o t)) (λ e. omega arith))
+    (if_elim (λ (h : ℕ). 1 ≤ h) (even (max o c)) (λ e. omega (arith, counter_range o t)) (λ e. omega arith))
     (nltb→le 65535 (healed o c) u)
 
 -- the larger of the two, or one more: above both, and even
 pub healed_above : (o c : ℕ) → (o ≤ healed o c) × (c ≤ healed o c)
 unfolding healed
 healed_above o c =
-    if-elim (λ (m : ℕ). (o ≤ m) × (c ≤ m)) (even (max o c)) (λ e. (omega arith, omega arith)) (λ e. (omega arith, omega arith))
+    if_elim (λ (m : ℕ). (o ≤ m) × (c ≤ m)) (even (max o c)) (λ e. (omega arith, omega arith)) (λ e. (omega arith, omega arith))
 
 pub healed_works : (o c : ℕ) → T (even (healed o c))
 unfolding healed
-healed_works o c = if-elim (λ (m : ℕ). T (even m)) (even (max o c)) (λ e. e) (λ e. above (max o c) e)
+healed_works o c = if_elim (λ (m : ℕ). T (even m)) (even (max o c)) (λ e. e) (λ e. above (max o c) e)
   where
     above : (m : ℕ) → T (odd m) → T (even (m + 1))
     above m e = let n : m % 2 ≡ 0 → ⊥ = (λ q. T_not (even m) e (eq→eqb (m % 2) 0 q)) in eq→eqb ((m + 1) % 2) 0 (omega arith)

@@ -1,12 +1,12 @@
 -- What each event adds to the tally beside raised counters (Rules): a notice that is taken off the list is settled, and a letter that is
 -- lost, or delivered where it is not heard, is dropped. A delivery that is not heard is as a loss in all else too.
+use Rattle.std.specs.Prelude.{if◌then◌else◌}
 use Prim.Native.Nat.{ℕ}
 use mathlib.Core.Bool.{Bool, true, false, not, ◌&&◌, ◌||◌}
 use mathlib.Core.Path.{◌≡◌, refl, sym, ap}
 use lib.Dec.{T, eqb}
-use Rattle.lists.specs.Lists.{if◌then◌else◌}
 use Rattle.lists.specs.Words.{bit}
-use Rattle.lists.proofs.Tests.{T_is, if-elim}
+use Rattle.lists.proofs.Tests.{T_is, if_elim}
 use Rattle.net.specs.declared.Body.{Body}
 use Rattle.net.specs.declared.Body.TheVariants.{Request, Reply, Notice}
 use Rattle.net.specs.declared.Letter.{Letter}
@@ -39,8 +39,8 @@ module _ (s : ℕ) (x : Letter) (h : Holding) where
   gone_body Request e = request_cases s x h Says e deaf (λ t u. hearing t) (λ t u. hearing t)
   gone_body (Reply c) e =
       reply_cases s x h c e Says deaf (λ t u. hearing t) (λ t u v. hearing t)
-      (λ t u v. if-elim Says (odd (counter h x.link) || odd c) (λ y. hearing t)
-      (λ y. if-elim Says (eqb (counter h x.link) c) (λ z. hearing t) (λ z. hearing t)))
+      (λ t u v. if_elim Says (odd (counter h x.link) || odd c) (λ y. hearing t)
+      (λ y. if_elim Says (eqb (counter h x.link) c) (λ z. hearing t) (λ z. hearing t)))
   gone_body (Notice j c) e = notice_cases s x h Says j c e deaf (λ t u. hearing t) (λ t u. hearing t)
 
   pub dropped_unheard : drops (answer s x h) ≡ bit (not (heard x h))

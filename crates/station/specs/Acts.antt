@@ -1,8 +1,7 @@
 -- The rules of document 01, "The eight events" and the three kinds of letter, each said once: what an event does at the one station that
 -- it concerns, as an act. An act is carried out on what a station holds (Done.antt), and the code's plan is the same act in words
 -- (station_plan). Which event does which act, and when it may: Events.antt.
-use Rattle.std.specs.Prelude.{ℕ, Bool, true, false, not, ◌&&◌, ◌||◌, eqb, ltb}
-use Rattle.lists.specs.Lists.{if◌then◌else◌}
+use Rattle.std.specs.Prelude.{ℕ, Bool, true, false, not, ◌&&◌, ◌||◌, eqb, ltb, if◌then◌else◌}
 use Rattle.net.specs.declared.Body.{Body}
 use Rattle.net.specs.declared.Body.TheVariants.{Request, Reply, Notice}
 use Rattle.net.specs.declared.Letter.{Letter}

@@ -1,6 +1,6 @@
 -- An act carried out: what the station holds after it, and the letters that it sends, in order. What the acts are: Acts.antt.
-use Rattle.std.specs.Prelude.{ℕ, Bool, true, false, not, ◌&&◌, List, [], ◌∷◌, ◌++◌, map, eqb, ltb, set}
-use Rattle.lists.specs.Lists.{if◌then◌else◌, keep}
+use Rattle.std.specs.Prelude.{ℕ, Bool, true, false, not, ◌&&◌, List, [], ◌∷◌, ◌++◌, map, eqb, ltb, set, if◌then◌else◌}
+use Rattle.lists.specs.Lists.{keep}
 use Rattle.lists.specs.Places.{collect}
 use Rattle.net.specs.declared.Body.{Body}
 use Rattle.net.specs.declared.Body.TheVariants.{Request, Reply, Notice}

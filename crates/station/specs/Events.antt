@@ -1,7 +1,6 @@
 -- What an event comes to at the one station that it concerns: the number that says no, or the station after it, the letters that it
 -- sends, and what it adds to the tally. Document 01, "The eight events" and the numbers 6, 7 and 8. Which station that is, and 9: world.
-use Rattle.std.specs.Prelude.{ℕ, Bool, true, false, not, ◌||◌, [], ◌∷◌, eqb, ltb, get_or}
-use Rattle.lists.specs.Lists.{if◌then◌else◌}
+use Rattle.std.specs.Prelude.{ℕ, Bool, true, false, not, ◌||◌, [], ◌∷◌, eqb, ltb, get_or, if◌then◌else◌}
 use Rattle.lists.specs.Words.{bit}
 use Rattle.tally.specs.declared.Tally.{Tally}
 use Rattle.net.specs.declared.Body.{Body}

@@ -1,7 +1,7 @@
 -- What the code's values mean.
-use Rattle.std.specs.Prelude.{ℕ, Bool, List, [], ◌∷◌, ◌++◌, map, get_or, drop, replicate}
+use Rattle.std.specs.Prelude.{ℕ, Bool, List, [], ◌∷◌, ◌++◌, map, get_or, drop, replicate, if◌then◌else◌}
 use Rattle.net.specs.Sizes.{link_room}
-use Rattle.lists.specs.Lists.{if◌then◌else◌, keep, below, filled}
+use Rattle.lists.specs.Lists.{keep, below, filled}
 use Rattle.lists.specs.Words.{in_word, word_of}
 use Rattle.net.specs.declared.Body.TheVariants.{Request, Reply}
 use Rattle.net.specs.declared.Letter.{Letter}

@@ -1,11 +1,11 @@
 -- The plans of a letter, part by part and by the answer.
+use Rattle.std.specs.Prelude.{if◌then◌else◌}
 use Prim.Native.Nat.{ℕ}
 use mathlib.Core.Bool.{Bool, true, false, not}
 use mathlib.Core.Path.{◌≡◌, refl, sym, ap, ap₂, ◌∙◌}
 use mathlib.Core.Logic.{◌⊎◌, ⊎_elim}
 use native.Mathlib.Omega.{arith}
 use denote.Enum.Declared.{tag_of}
-use Rattle.lists.specs.Lists.{if◌then◌else◌}
 use Rattle.lists.specs.Words.{bit}
 use Rattle.tally.specs.declared.Tally.{Tally}
 use Rattle.net.specs.declared.Letter.{Letter}

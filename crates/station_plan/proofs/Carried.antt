@@ -1,4 +1,5 @@
 -- An act's plan carried out at a station value is the act carried out on what the station holds: the same station, the same letters.
+use Rattle.std.specs.Prelude.{if◌then◌else◌}
 use Prim.Native.Nat.{ℕ, ◌≤◌, ◌<◌}
 use mathlib.Core.Bool.{Bool, true, false, ◌&&◌}
 use mathlib.Core.Path.{◌≡◌, refl, sym, ap, ap₂, ◌∙◌}
@@ -8,7 +9,7 @@ use lib.Dec.{T}
 use lib.ListN.{length, get_or, drop, set, replicate, length-set}
 use borrow.Author.Tests.{lt-ltb, le-ltb}
 use Rattle.net.specs.Sizes.{link_room}
-use Rattle.lists.specs.Lists.{if◌then◌else◌, below}
+use Rattle.lists.specs.Lists.{below}
 use Rattle.lists.specs.Words.{in_word}
 use Rattle.lists.proofs.Numbers.{get_or_map_below, length_map_below}
 use Rattle.net.specs.declared.Body.TheVariants.{Reply, Notice}

@@ -1,5 +1,6 @@
 -- THE LAW OF THE PLAN: at every station that has what it was made from, the plan of an event is what the event comes to there.
 -- It is one act in both, so what remains is that the rule sees the same on both sides, and that the act names what is there.
+use Rattle.std.specs.Prelude.{if◌then◌else◌}
 use Prim.Native.Nat.{ℕ, ◌≤◌, ◌<◌}
 use mathlib.Core.Bool.{Bool, true, false, not, ◌&&◌, ◌||◌}
 use mathlib.Core.Path.{◌≡◌, refl, sym, ap, ap₂, ◌∙◌, subst, subst⁻¹}
@@ -8,9 +9,8 @@ use lib.Dec.{T, eqb, ltb}
 use lib.ListN.{length, get_or, set}
 use lib.Seq.{get_or-set_same}
 use Rattle.net.specs.Sizes.{link_room}
-use Rattle.lists.specs.Lists.{if◌then◌else◌}
 use Rattle.lists.specs.Words.{bit}
-use Rattle.lists.proofs.Tests.{T_is, if-elim}
+use Rattle.lists.proofs.Tests.{T_is, if_elim}
 use Rattle.net.specs.declared.Body.{Body}
 use Rattle.net.specs.declared.Body.TheVariants.{Request, Reply, Notice}
 use Rattle.net.specs.declared.Letter.{Letter}
@@ -164,7 +164,7 @@ module _ (net : Net) (s : ℕ) (st : Station) (own : ℕ) (eo : Own own net s) (
     act_fits IntervalEnd m = record { marks = m.link tt; table = tt; sends = asks_fit (m.link tt) (interval_tests (marks_at W k)) }
     act_fits TimeoutEnd m =
         let h = m.link tt in
-        if-elim Fit_act (even c) (λ t. record { marks = h; table = h; sends = (h, told_set k (timed_out c) h, tt) })
+        if_elim Fit_act (even c) (λ t. record { marks = h; table = h; sends = (h, told_set k (timed_out c) h, tt) })
         (λ t. record { marks = h; table = tt; sends = tt })
     act_fits QuietEnd m = record { marks = m.link tt; table = tt; sends = tt }
     act_fits Delivery m =
@@ -198,7 +198,7 @@ module _ (net : Net) (s : ℕ) (st : Station) (own : ℕ) (eo : Own own net s) (
     act_room Stop = (λ t h i. no_marks_lem t, refl)
     act_room Recovery = (λ t h i. refl, refl)
     act_room IntervalEnd = (refl, refl)
-    act_room TimeoutEnd = if-elim (Roomy st) (even c) (λ t. (refl, refl)) (λ t. (refl, refl))
+    act_room TimeoutEnd = if_elim (Roomy st) (even c) (λ t. (refl, refl)) (λ t. (refl, refl))
     act_room QuietEnd = (refl, refl)
     act_room Delivery = heard_room (bit (is_notice l.body)) (answer_by s X (marks_at W k) c told l)
     act_room Loss = (refl, refl)

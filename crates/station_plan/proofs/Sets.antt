@@ -1,4 +1,5 @@
 -- Words of links as lists of links: own links with such marks, those but one, one link alone; and the links that are known.
+use Rattle.std.specs.Prelude.{if◌then◌else◌}
 use Prim.Native.Nat.{ℕ, ◌<◌}
 use mathlib.Core.Bool.{Bool, true, false, not, ◌&&◌}
 use mathlib.Core.Path.{◌≡◌, refl, sym, ap, ap₂, ◌∙◌, subst}
@@ -7,7 +8,7 @@ use native.Mathlib.Omega.{arith}
 use lib.Dec.{T, eqb, ltb}
 use lib.ListN.{length, get_or}
 use Rattle.net.specs.Sizes.{link_room}
-use Rattle.lists.specs.Lists.{if◌then◌else◌, keep, below}
+use Rattle.lists.specs.Lists.{keep, below}
 use Rattle.lists.specs.Words.{in_word}
 use Rattle.lists.proofs.Tests.{and_assoc}
 use Rattle.lists.proofs.Kept.{keep_keep}

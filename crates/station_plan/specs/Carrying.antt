@@ -1,6 +1,5 @@
 -- What carrying a plan out makes of a table, and of what is sent.
-use Rattle.std.specs.Prelude.{ℕ, Bool, ◌&&◌, List, ltb, get_or, set}
-use Rattle.lists.specs.Lists.{if◌then◌else◌}
+use Rattle.std.specs.Prelude.{ℕ, Bool, ◌&&◌, List, ltb, get_or, set, if◌then◌else◌}
 use Rattle.lists.specs.Words.{in_word}
 use Rattle.net.specs.declared.Net.{Net}
 use Rattle.net.specs.Values.{link_count}

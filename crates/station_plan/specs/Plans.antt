@@ -1,7 +1,6 @@
 -- A plan: an act of station in words, and what carrying it out makes of a station value: its table, its marks, and the letters that it
 -- sends. That this is what the act does by station's definitions: proofs/Carried.antt.
-use Rattle.std.specs.Prelude.{ℕ, Bool, true, false, ◌&&◌, List, eqb}
-use Rattle.lists.specs.Lists.{if◌then◌else◌}
+use Rattle.std.specs.Prelude.{ℕ, Bool, true, false, ◌&&◌, List, eqb, if◌then◌else◌}
 use Rattle.lists.specs.Words.{in_word}
 use Rattle.tally.specs.declared.Tally.{Tally}
 use Rattle.net.specs.declared.Letter.{Letter}

@@ -5,8 +5,7 @@
 // are `state` and `state_rules`.
 #![tactic(auto)]
 
-ghost use Rattle.std.specs.Prelude.{◌≡◌};
-ghost use Rattle.lists.specs.Lists.{if◌then◌else◌};
+ghost use Rattle.std.specs.Prelude.{◌≡◌, if◌then◌else◌};
 ghost use Rattle.step_rules.specs.Step.{stepped_of};
 
 use net::{MOST_LETTERS, MOST_STATIONS, STATION_ROOM};

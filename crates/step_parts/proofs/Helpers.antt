@@ -1,12 +1,12 @@
 -- What the small functions of the code answer, return by return; and that what they answer is a place of its room.
+use Rattle.std.specs.Prelude.{if◌then◌else◌}
 use Prim.Native.Nat.{ℕ, ◌+◌, ◌-◌, ◌%◌, ◌≤◌, ◌<◌}
 use mathlib.Core.Bool.{Bool, true, false}
 use mathlib.Core.Path.{◌≡◌, sym, ap, ◌∙◌, subst⁻¹}
 use native.Mathlib.Omega.{arith}
 use lib.Dec.{ltb, ltb→lt}
 use borrow.Author.Tests.{eq-eqb, ne_eqb, lt-ltb, le-ltb}
-use Rattle.lists.specs.Lists.{if◌then◌else◌}
-use Rattle.lists.proofs.Tests.{if-elim}
+use Rattle.lists.proofs.Tests.{if_elim}
 use Rattle.net.specs.declared.Letter.{Letter}
 use Rattle.net.specs.Sizes.{station_room, link_room, letter_room}
 use Rattle.station.specs.declared.Kind.{Kind}
@@ -29,12 +29,12 @@ place_past a h = sym (ap (λ (b : Bool). if b then a else 0) (le-ltb a letter_ro
 pub place_few : (a r : ℕ) → r ≡ place_by a → r < letter_room
 place_few a r e =
     subst⁻¹ (λ (n : ℕ). n < letter_room) e
-    (if-elim (λ (n : ℕ). n < letter_room) (ltb a letter_room) (λ t. ltb→lt a letter_room t) (λ t. omega arith))
+    (if_elim (λ (n : ℕ). n < letter_room) (ltb a letter_room) (λ t. ltb→lt a letter_room t) (λ t. omega arith))
 
 pub room_few : (n r : ℕ) → r ≡ in_room n → r < station_room
 room_few n r e =
     subst⁻¹ (λ (n : ℕ). n < station_room) e
-    (if-elim (λ (n : ℕ). n < station_room) (ltb n station_room) (λ t. ltb→lt n station_room t) (λ t. omega arith))
+    (if_elim (λ (n : ℕ). n < station_room) (ltb n station_room) (λ t. ltb→lt n station_room t) (λ t. omega arith))
 
 -- what an event names has its places, whatever the event
 pub record Placed (n : Names) : Type 0 where

@@ -1,5 +1,6 @@
 -- What a step knows before it changes anything (`Seen`): what it looked at is what the event concerns, and the plan that it made is what
 -- the event comes to in the world. Made.antt goes on from there.
+use Rattle.std.specs.Prelude.{if◌then◌else◌}
 use Prim.Native.Nat.{ℕ, ◌%◌, ◌≤◌, ◌<◌}
 use mathlib.Core.Bool.{Bool, true, false, not}
 use mathlib.Core.Path.{◌≡◌, refl, sym, ap, ap₂, ◌∙◌, subst, subst⁻¹}
@@ -10,7 +11,6 @@ use borrow.Author.Tests.{lt-ltb}
 use lib.Dec.{T, ltb, ltb→lt}
 use lib.ListN.{length, get_or, get_or-eq_default}
 use Rattle.net.specs.Sizes.{station_room, link_room, letter_room}
-use Rattle.lists.specs.Lists.{if◌then◌else◌}
 use Rattle.lists.proofs.Tests.{T_is, is_T, and_l}
 use Rattle.net.specs.declared.Body.{Body}
 use Rattle.net.specs.declared.Body.TheVariants.{Request, Reply, Notice}

@@ -1,5 +1,6 @@
 -- What a step that knows what it has to know (`Facts`) makes of the state, once nothing refuses the event: the world after it, laid out
 -- in zero room; and its answer where something does.
+use Rattle.std.specs.Prelude.{if◌then◌else◌}
 use Prim.Native.Nat.{ℕ, zero, suc, ◌+◌, ◌≤◌, ◌<◌, min}
 use mathlib.Core.Bool.{Bool, true, false}
 use mathlib.Core.Path.{◌≡◌, refl, sym, ap, ap₂, ◌∙◌}
@@ -12,7 +13,6 @@ use lib.Dec.{T, eqb, ltb, leb}
 use lib.ListN.{length, get_or, set, take, length-append, length-map}
 use lib.Seq.{set-get_or, take-suc, length-take-le}
 use Rattle.net.specs.Sizes.{station_room, link_room, letter_room}
-use Rattle.lists.specs.Lists.{if◌then◌else◌}
 use Rattle.lists.specs.Places.{without, roomed, closing}
 use Rattle.lists.proofs.Tests.{T_is, is_T}
 use Rattle.lists.proofs.Rooms.{closing_none, roomed_more, roomed_set, roomed_less}

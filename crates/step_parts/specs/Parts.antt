@@ -1,7 +1,6 @@
 -- What an event names, its plan at the station that it concerns, and what becomes of the list of letters, as the code answers it.
-use Rattle.std.specs.Prelude.{ℕ, ◌+◌, ◌-◌, ◌%◌, Bool, eqb, ltb, get_or}
+use Rattle.std.specs.Prelude.{ℕ, ◌+◌, ◌-◌, ◌%◌, Bool, eqb, ltb, get_or, if◌then◌else◌}
 use Rattle.net.specs.Sizes.{link_room, letter_room}
-use Rattle.lists.specs.Lists.{if◌then◌else◌}
 use Rattle.net.specs.declared.Letter.{Letter}
 use Rattle.net.specs.declared.Net.{Net}
 use Rattle.net.specs.Values.{network_of}

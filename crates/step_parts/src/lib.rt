@@ -3,8 +3,7 @@
 // Inner doors: the calls are in docs/CALLS.md.
 #![tactic(auto)]
 
-ghost use Rattle.std.specs.Prelude.{◌≡◌, ◌&&◌, min, ◌%◌, ltb, eqb};
-ghost use Rattle.lists.specs.Lists.{if◌then◌else◌};
+ghost use Rattle.std.specs.Prelude.{◌≡◌, ◌&&◌, min, ◌%◌, ltb, eqb, if◌then◌else◌};
 ghost use Rattle.world.specs.World.{no_letter, is_link_at, receiver_in, concerned_by, exists_as};
 ghost use Rattle.step_parts.specs.Parts.{place_by, fewer_by, number_by, names_by, plan_by, PlansAt, room_by};
 ghost use Rattle.net.specs.Network.{ends};

@@ -1,9 +1,9 @@
 -- What a step's counts do to a tally: where the step says no they are zeros, and the tally is as it was.
+use Rattle.std.specs.Prelude.{if◌then◌else◌}
 use Prim.Native.Nat.{ℕ}
 use mathlib.Core.Path.{◌≡◌, refl, ◌∙◌}
 use mathlib.Core.Bool.{Bool, true, false}
 use lib.Dec.{eqb}
-use Rattle.lists.specs.Lists.{if◌then◌else◌}
 use Rattle.tally.specs.declared.Tally.{Tally}
 use Rattle.tally.specs.Sums.{tallied}
 use Rattle.tally.proofs.Plain.{no_counts}

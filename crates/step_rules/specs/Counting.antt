@@ -1,6 +1,5 @@
 -- The tally after a step that is lent one: an accepted event is added to it, a refused one leaves it untouched.
-use Rattle.std.specs.Prelude.{eqb}
-use Rattle.lists.specs.Lists.{if◌then◌else◌}
+use Rattle.std.specs.Prelude.{eqb, if◌then◌else◌}
 use Rattle.tally.specs.declared.Tally.{Tally}
 use Rattle.tally.specs.Sums.{tallied}
 use Rattle.step_rules.specs.declared.Stepped.{Stepped}

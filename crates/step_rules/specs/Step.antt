@@ -1,6 +1,5 @@
 -- What a step of the network answers: the world's step of what the state means, laid out in zero room.
-use Rattle.std.specs.Prelude.{ℕ, eqb}
-use Rattle.lists.specs.Lists.{if◌then◌else◌}
+use Rattle.std.specs.Prelude.{ℕ, eqb, if◌then◌else◌}
 use Rattle.station.specs.Events.{counting}
 use Rattle.world.specs.World.{Event, comes, fresh, refusal, after}
 use Rattle.state.specs.declared.State.{State}

@@ -1,7 +1,6 @@
 -- Text for lent output: numbers in decimal, a byte in hexadecimal, and what an output holds after a text was put at a place.
 -- Their laws: proofs/Digits.antt, proofs/Puts.antt, proofs/Chains.antt.
-use Rattle.std.specs.Prelude.{ℕ, zero, suc, ◌+◌, ◌/◌, ◌%◌, Bool, List, [], ◌∷◌, ◌++◌, ltb, leb, length, take, drop}
-use Rattle.lists.specs.Lists.{if◌then◌else◌}
+use Rattle.std.specs.Prelude.{ℕ, zero, suc, ◌+◌, ◌/◌, ◌%◌, Bool, List, [], ◌∷◌, ◌++◌, ltb, leb, length, take, drop, if◌then◌else◌}
 pub use Rattle.lists.specs.Digits.{is_digit, value_from}
 
 -- the digits of n, the highest first; `room` only bounds the recursion, and n itself is always enough

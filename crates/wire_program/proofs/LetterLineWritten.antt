@@ -1,4 +1,5 @@
 -- A letter written back into a room that is long enough for every one of them.
+use Rattle.std.specs.Prelude.{if◌then◌else◌}
 use Prim.Native.Nat.{ℕ, ◌≤◌}
 use mathlib.Core.Bool.{Bool, true, false, not}
 use mathlib.Core.Path.{◌≡◌, refl, ◌∙◌}
@@ -6,7 +7,6 @@ use mathlib.Core.List.{List}
 use native.Mathlib.Omega.{arith}
 use lib.Dec.{T}
 use lib.ListN.{length, get_or}
-use Rattle.lists.specs.Lists.{if◌then◌else◌}
 use Rattle.lists.proofs.Tests.{T_is, is_T}
 use Rattle.fields.specs.Output.{writing_numbers, writing_output}
 use Rattle.fields.proofs.Seen.{length_field}

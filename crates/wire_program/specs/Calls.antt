@@ -1,8 +1,7 @@
 -- What the wire program's calls print, one after the other: `put_sheet`; `open_sheet`, and for a good sheet `run_letters` for each piece of
 -- the input, with one newline more where the last line has none. proofs/Program.antt: it is exactly what specs/Wire.antt says of the file
 -- and the whole input.
-use Rattle.std.specs.Prelude.{ℕ, List, [], ◌++◌, eqb}
-use Rattle.lists.specs.Lists.{if◌then◌else◌}
+use Rattle.std.specs.Prelude.{ℕ, List, [], ◌++◌, eqb, if◌then◌else◌}
 use Rattle.hex_lines.specs.HexSteps.{hex_start, read_hex}
 use Rattle.console.specs.declared.Opened.{Opened}
 use Rattle.console.specs.Sheets.{file_sheet, opened_by}

@@ -1,4 +1,5 @@
 -- Each accepted step keeps the world well formed, and the world of a freshly read sheet is well formed.
+use Rattle.std.specs.Prelude.{if◌then◌else◌}
 use Prim.Native.Nat.{ℕ, ◌≤◌, ◌<◌, zero-le}
 use mathlib.Core.Bool.{Bool, true, false, ◌&&◌}
 use mathlib.Core.Path.{◌≡◌, refl, ◌∙◌, subst⁻¹}
@@ -8,8 +9,8 @@ use lib.Dec.{T, eqb, leb, ltb, leb→le, le→leb, ltb→lt, eqb→eq}
 use lib.ListN.{length, get_or, set, length-set}
 use lib.Seq.{get_or-set_same, get_or-set_other}
 use Rattle.net.specs.Sizes.{letter_room}
-use Rattle.lists.specs.Lists.{if◌then◌else◌, every, below}
-use Rattle.lists.proofs.Tests.{and_l, and_r, and_i, eq→eqb, every_at, if-elim}
+use Rattle.lists.specs.Lists.{every, below}
+use Rattle.lists.proofs.Tests.{and_l, and_r, and_i, eq→eqb, every_at, if_elim}
 use Rattle.lists.proofs.Numbers.{below_at, at_below, get_or_map_below, length_map_below}
 use Rattle.lists.proofs.Kept.{every_joined}
 use Rattle.lists.proofs.Without.{every_without}
@@ -118,7 +119,7 @@ module _ (w : World) (f : Formed w) (e : Event) (x : T (exists w e)) where
   pub concerned_real : concerned w e < w.net.stations
   unfolding concerned
   concerned_real =
-      if-elim (λ (s : ℕ). s < w.net.stations) (takes_letter (kind_of e.kind)) (λ t. (meant_posted t).real) (λ t. station_there w e t x)
+      if_elim (λ (s : ℕ). s < w.net.stations) (takes_letter (kind_of e.kind)) (λ t. (meant_posted t).real) (λ t. station_there w e t x)
 
   pub concerned_holds : T (holding_holds w.net (concerned w e) (holding_at w (concerned w e)))
   concerned_holds = f.each (concerned w e) concerned_real
@@ -152,7 +153,7 @@ module _ (w : World) (f : Formed w) where
   left_holds : (e : Event) → T (every (letter_holds w.net) (left w e))
   unfolding left
   left_holds e =
-      if-elim (λ (xs : List Letter). T (every (letter_holds w.net) xs)) (takes_letter (kind_of e.kind))
+      if_elim (λ (xs : List Letter). T (every (letter_holds w.net) xs)) (takes_letter (kind_of e.kind))
       (λ t. every_without (letter_holds w.net) e.a w.letters f.posted) (λ t. f.posted)
 
   -- a station stored

@@ -1,12 +1,12 @@
 -- Conservation: in any run from a freshly read sheet, letters ever sent, counted from the events, equal those delivered, lost
 -- and in flight. Also how counts over a history add up.
+use Rattle.std.specs.Prelude.{if◌then◌else◌}
 use Prim.Native.Nat.{ℕ, ◌+◌}
 use mathlib.Core.Bool.{Bool, true, false}
 use mathlib.Core.Path.{◌≡◌, refl, ap}
 use mathlib.Core.List.{List, [], ◌∷◌, ◌++◌}
 use native.Mathlib.Omega.{arith}
 use lib.ListN.{length, length-append}
-use Rattle.lists.specs.Lists.{if◌then◌else◌}
 use Rattle.lists.specs.Words.{bit}
 use Rattle.lists.proofs.Counts.{sum_append}
 use Rattle.tally.specs.declared.Tally.{Tally}

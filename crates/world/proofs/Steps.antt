@@ -1,4 +1,5 @@
 -- The step: each number that says no, when and only when document 01's list says, in its order; and what an accepted one did.
+use Rattle.std.specs.Prelude.{if◌then◌else◌}
 use Prim.Native.Nat.{ℕ, ◌+◌, ◌≤◌}
 use mathlib.Core.Bool.{Bool, true, false, not}
 use mathlib.Core.Path.{◌≡◌, refl, sym, ap, ◌∙◌, subst⁻¹}
@@ -8,8 +9,7 @@ use mir.Facts.{T_not-not}
 use lib.Dec.{T, eqb, ltb, leb, leb→le, eqb→eq}
 use lib.ListN.{length, length-append}
 use Rattle.net.specs.Sizes.{letter_room}
-use Rattle.lists.specs.Lists.{if◌then◌else◌}
-use Rattle.lists.proofs.Tests.{T_is, T_not_is, if-elim}
+use Rattle.lists.proofs.Tests.{T_is, T_not_is, if_elim}
 use Rattle.station.specs.declared.Condition.{Condition}
 use Rattle.station.specs.Holding.{is_live}
 use Rattle.station.specs.declared.Kind.TheVariants.{Delivery}
@@ -39,7 +39,7 @@ module _ (w : World) (e : Event) where
   numbered n = if eqb n 0 then (if fits w e then 0 else 9) else n
 
   why_by : {n : ℕ} → R.Why (exists w e) (rule w e) n → Why (numbered n)
-  why_by (R.none p q o) = if-elim Why (fits w e) (none p q o) (nine p q o)
+  why_by (R.none p q o) = if_elim Why (fits w e) (none p q o) (nine p q o)
   why_by (R.six p) = six p
   why_by (R.seven p q) = seven p q
   why_by (R.eight p q o) = eight p q o
@@ -203,7 +203,7 @@ module _ (w : World) (s : ℕ) where
   pub ask_why : AskWhy (ask_refusal w s)
   unfolding ask_refusal
   ask_why =
-      if-elim AskWhy (not real) six (λ x. let p = T_not-not real x in if-elim AskWhy (not live) (seven p) (λ y. none p (T_not-not live y)))
+      if_elim AskWhy (not real) six (λ x. let p = T_not-not real x in if_elim AskWhy (not live) (seven p) (λ y. none p (T_not-not live y)))
 
   pub why_ask : {n : ℕ} → AskWhy n → ask_refusal w s ≡ n
   unfolding ask_refusal

@@ -1,5 +1,6 @@
 -- What there must be for an event (6), by its kind: the letter that it takes off the list, or its station, and its link at that station.
 -- What is left of the letters, and the notices among them that are settled.
+use Rattle.std.specs.Prelude.{if◌then◌else◌}
 use Prim.Native.Nat.{ℕ, ◌+◌, ◌<◌}
 use mathlib.Core.Bool.{Bool, true, false, not, ◌&&◌}
 use mathlib.Core.Path.{◌≡◌, refl, ap}
@@ -7,7 +8,6 @@ use mathlib.Core.List.{List}
 use native.Mathlib.Omega.{arith}
 use lib.Dec.{T, ltb, ltb→lt}
 use lib.ListN.{length, get_or}
-use Rattle.lists.specs.Lists.{if◌then◌else◌}
 use Rattle.lists.specs.Words.{bit}
 use Rattle.lists.specs.Places.{without}
 use Rattle.lists.proofs.Tests.{T_is, T_not_is, and_l, and_r}

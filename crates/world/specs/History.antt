@@ -1,7 +1,6 @@
 -- A history: a world and the events that come to it, one after the other. A refused event changes nothing and counts nothing.
 -- Every count over a history is the same fold.
-use Rattle.std.specs.Prelude.{ℕ, ◌+◌, List, [], ◌∷◌, length}
-use Rattle.lists.specs.Lists.{if◌then◌else◌}
+use Rattle.std.specs.Prelude.{ℕ, ◌+◌, List, [], ◌∷◌, length, if◌then◌else◌}
 use Rattle.lists.specs.Words.{bit}
 use Rattle.station.specs.Events.{kind_of, delivers, loses}
 use Rattle.world.specs.World.{World, Event, done, accepted, next, settled}

@@ -1,9 +1,9 @@
 -- The whole network, one event at a time: which station an event concerns, what it comes to there (station's Events), and the world that
 -- it leaves. Document 01, "The eight events" and "The numbers that say no". Here lists have exactly the used length: that unused room is
 -- zero (11) is said where values are read as worlds. A run of events: History.antt.
-use Rattle.std.specs.Prelude.{ℕ, Bool, not, ◌&&◌, List, [], ◌++◌, map, eqb, ltb, leb, length, get_or, set}
+use Rattle.std.specs.Prelude.{ℕ, Bool, not, ◌&&◌, List, [], ◌++◌, map, eqb, ltb, leb, length, get_or, set, if◌then◌else◌}
 use Rattle.net.specs.Sizes.{letter_room}
-use Rattle.lists.specs.Lists.{if◌then◌else◌, every, below, sum_of}
+use Rattle.lists.specs.Lists.{every, below, sum_of}
 use Rattle.lists.specs.Words.{bit, word_of}
 use Rattle.lists.specs.Places.{without}
 use Rattle.net.specs.declared.Body.TheVariants.{Request}

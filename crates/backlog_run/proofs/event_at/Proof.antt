@@ -1,3 +1,4 @@
+use Rattle.std.specs.Prelude.{if◌then◌else◌}
 use Prim.Native.Nat.{◌+◌, ◌*◌}
 use mathlib.Core.Bool.{Bool}
 use mathlib.Core.Path.{sym, ap, ◌∙◌}
@@ -5,7 +6,6 @@ use native.Mathlib.Omega.{arith}
 use lib.ListN.{get_or}
 use borrow.Author.Rules.{rules}
 use borrow.Author.Tests.{le-leb, lt-leb}
-use Rattle.lists.specs.Lists.{if◌then◌else◌}
 use Rattle.backlog_run.specs.Events.{asking, numbers, asked_at}
 use Rattle.backlog_run.proofs.event_at.Statement.{statement}
 use Rattle.backlog_run.proofs.event_at.Tie as tie

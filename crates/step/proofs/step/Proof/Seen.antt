@@ -1,5 +1,6 @@
 -- What `step` knows at the places of its code that have names: the five loops' invariants, what the test came to (`tested`), what is seen
 -- of the event when there is an answer (`facts`), and the station as it is stored.
+use Rattle.std.specs.Prelude.{if◌then◌else◌}
 use Prim.Native.Nat.{ℕ, ◌-◌, ◌<◌}
 use mathlib.Core.Bool.{Bool, true, false}
 use mathlib.Core.Path.{◌≡◌, refl, sym, ap, ◌∙◌}
@@ -7,7 +8,6 @@ use mathlib.Core.List.{List, map}
 use native.Mathlib.Omega.{arith}
 use borrow.Author.Rules.{rules}
 use lib.ListN.{length, get_or, length-map}
-use Rattle.lists.specs.Lists.{if◌then◌else◌}
 use Rattle.lists.proofs.Tests.{is_T}
 use Rattle.net.specs.Sizes.{station_room, link_room, letter_room}
 use Rattle.net.specs.contracts.Letter as LetterType
