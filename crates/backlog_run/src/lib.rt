@@ -30,6 +30,7 @@ struct Asked {
 }
 
 // One or two numbers left over at the end of the list are an event that names nothing: there is no kind 0.
+#[tactic(auto, unfolding(crate::specs::Events::asked_at))]
 fn event_at(events: &[u32], i: usize) -> Asked
     ensures { result ≡ asked_at events.now i }
 {
@@ -56,6 +57,7 @@ fn event_at(events: &[u32], i: usize) -> Asked
 }
 
 // How many events so many numbers are.
+#[tactic(auto, unfolding(crate::specs::Events::event_count))]
 fn event_count(size: usize) -> usize
     ensures { result ≡ event_count size }
 {
@@ -68,6 +70,7 @@ fn event_count(size: usize) -> usize
 
 // What stands in the trace for event i: its answer, the letters in flight after it, the notices settled so far. A trace that has no room
 // for it stays as it is, so that a caller who wants none lends an empty one.
+#[tactic(auto, using(text::proofs::Puts::put_over, text::proofs::Chains::put_three))]
 fn put_turn(trace: &mut [u64], i: usize, answer: u8, flying: u16, settled: u64)
     ensures { trace.new ≡ put_at (answer ∷ flying ∷ settled ∷ []) (3 * i) trace.old }
 {
