@@ -1,6 +1,5 @@
 -- A link's counter: 1 to 65,535; even = working, odd = unresponsive. The rules that stand alone.
-use Rattle.std.specs.Prelude.{ℕ, ◌+◌, ◌%◌, max, Bool, not, List, [], ◌∷◌, eqb, ltb}
-use Rattle.lists.specs.Lists.{if◌then◌else◌}
+use Rattle.std.specs.Prelude.{ℕ, ◌+◌, ◌%◌, max, Bool, not, List, [], ◌∷◌, eqb, ltb, if◌then◌else◌}
 use Rattle.net.specs.Sizes.{largest_counter}
 use Rattle.counters.specs.declared.Healed.{Healed}
 use Rattle.counters.specs.declared.Healed.TheVariants.{To, TooHigh}
