@@ -8,8 +8,9 @@ use lib.Dec.{leb, ltb, ltb→lt}
 use lib.ListN.{length, get_or, take, drop, length-drop, drop_of_length-le}
 use borrow.Author.Tests.{not-true, not-false}
 use Rattle.lists.proofs.Tests.{and_l, is_T}
-use Rattle.fields.specs.Fields.{short, first_field, is_empty}
-use Rattle.fields.proofs.Seen.{Seen, value_at}
+use Rattle.fields.specs.declared.Cut.TheVariants.{Whole}
+use Rattle.fields.specs.Fields.{short, first_field, cut_of, is_empty}
+use Rattle.fields.proofs.Seen.{Seen, whole_seen, value_at}
 use Rattle.net.specs.declared.Net.{Net}
 use Rattle.net.specs.declared.Body.{Body}
 use Rattle.net.specs.Network.{Ends, Network}
@@ -32,9 +33,6 @@ values_are net good k side b =
     ap₂ (λ (m : ℕ) (x : Bool). ltb k m && leb side 1 && x) (links_are net t) (bodies_are net t b)
 
 -- ---- reading
-pub good_seen : (net : Net) (r : Bool) → r ≡ net_holds net → not r ≡ false → net_holds net ≡ true
-good_seen net r e h = sym e ∙ not-false r h
-
 -- what is known where the field has a form, and where its values are good besides
 pub record Formed (net : Net) (bytes : List ℕ) (tag n : ℕ) (body : Body) : Type 0 where
   pub good : net_holds net ≡ true
@@ -69,6 +67,11 @@ module _ (net : Net) (bytes : List ℕ) where
     pub read_unknown : (f : Shape) → form_in f ≡ form_of tag (take n (drop 3 bytes)) → f ≡ Unknown → refused 2 ≡ reading net bytes
     unfolding judged
     read_unknown f q u = sym (judged-by unknown (sym q ∙ ap form_in u))
+
+-- what the calls before a field's values answered makes it
+pub formed : (net : Net) (bytes : List ℕ) (tag n : ℕ) (body : Body) → true ≡ net_holds net
+    → Whole tag n ≡ cut_of (first_field bytes) → form_in (Says body) ≡ form_of tag (take n (drop 3 bytes)) → Formed net bytes tag n body
+formed net bytes tag n body g w f = record { good = sym g; cut = whole_seen bytes tag n w; form = sym f }
 
 module _ {net : Net} {bytes : List ℕ} {tag n : ℕ} {body : Body} (known : Formed net bytes tag n body) where
   abbrev N : Network

@@ -1,6 +1,5 @@
 -- The letter's format: what is written reads back; bytes that read to a letter are exactly what writing it gives; what is
 -- read may travel in the network.
-use Rattle.std.specs.Prelude.{if◌then◌else◌}
 use Prim.Native.Nat.{ℕ, zero, suc, ◌/◌, ◌%◌, ◌≤◌, ◌<◌}
 use mathlib.Core.Bool.{Bool, true, false, not, ◌&&◌, ◌||◌}
 use mathlib.Core.Path.{◌≡◌, refl, sym, ap, ap₂, ◌∙◌, subst, subst⁻¹}
@@ -10,7 +9,8 @@ use native.Mathlib.Omega.{arith}
 use lib.Dec.{T, eqb, leb, ltb, leb→le, ltb→lt, lt→ltb, eqb→eq, eqb_refl}
 use lib.ListN.{length, get_or}
 use borrow.Author.Tests.{ne_eqb, eqb-true}
-use Rattle.lists.proofs.Tests.{and_l, and_r, and_i, or_left, or_right, T_is, is_T, if_elim}
+use Rattle.lists.specs.Lists.{if◌then◌else◌}
+use Rattle.lists.proofs.Tests.{and_l, and_r, and_i, or_left, or_right, T_is, is_T, if-elim}
 use Rattle.fields.specs.Fields.{Field, short, field, first_field, write_field, is_empty, are_bytes, longest_value}
 use Rattle.fields.proofs.Law.{cut_written, written_cut, parts_bytes, field_bytes}
 use Rattle.net.specs.declared.Body.{Body}
@@ -34,7 +34,7 @@ use Rattle.letters.proofs.Forms.{tag_of, payload, bytes_are, is_form}
 -- ---- side and sender
 module _ (net : Network) (k : ℕ) where
   side_small : (s : ℕ) → T (leb (side_of net k s) 1)
-  side_small s = if_elim (λ (x : ℕ). T (leb x 1)) (eqb (ends net k).low s) (λ _. tt) (λ _. tt)
+  side_small s = if-elim (λ (x : ℕ). T (leb x 1)) (eqb (ends net k).low s) (λ _. tt) (λ _. tt)
 
   -- the side of an end names that end
   sender_back : (s : ℕ) → T (is_end net k s) → sender_of net k (side_of net k s) ≡ s
@@ -47,7 +47,7 @@ module _ (net : Network) (k : ℕ) where
   -- the end that a side names is an end
   sender_end : (side : ℕ) → T (is_end net k (sender_of net k side))
   sender_end side =
-      if_elim (λ (x : ℕ). T (is_end net k x)) (eqb side 0)
+      if-elim (λ (x : ℕ). T (is_end net k x)) (eqb side 0)
       (λ _. or_left (eqb (ends net k).low (ends net k).low) _ (eqb_refl (ends net k).low))
       (λ _. or_right (eqb (ends net k).low (ends net k).high) _ (eqb_refl (ends net k).high))
 

@@ -5,9 +5,9 @@ use mathlib.Core.Path.{◌≡◌, sym, ap, ◌∙◌, subst}
 use mathlib.Core.List.{List, [], ◌∷◌}
 use native.Mathlib.Decide.{dec_lt}
 use native.Mathlib.Omega.{arith}
-use lib.Dec.{T, eqb, ltb}
+use lib.Dec.{T, ltb}
 use lib.ListN.{length, get_or}
-use borrow.Author.Tests.{eq-eqb, ne_eqb, lt-ltb, le-ltb, not-true, not-false}
+use borrow.Author.Tests.{lt-ltb, le-ltb, not-true, not-false}
 use Rattle.lists.proofs.Tests.{and_no, is_T}
 use Rattle.fields.specs.Fields.{write_field, put_size, put_field}
 use Rattle.fields.specs.Output.{Writing, fitting, writing_numbers, writing_output}
@@ -15,7 +15,7 @@ use Rattle.fields.proofs.Steps.{put_short}
 use Rattle.fields.proofs.Seen.{put_written, size_written, length_field}
 use Rattle.net.specs.declared.Net.{Net}
 use Rattle.net.specs.declared.Letter.{Letter}
-use Rattle.net.specs.Network.{Ends, Network, is_end}
+use Rattle.net.specs.Network.{Ends, is_end}
 use Rattle.net.specs.Letters.{body_holds, letter_holds}
 use Rattle.net.specs.Values.{network_of, body_test}
 use Rattle.net.specs.Sizes.{link_room}
@@ -26,20 +26,6 @@ use Rattle.letters.specs.declared.Wrote.TheVariants as wrote
 use Rattle.letters.specs.Letters.{side_of, body_bytes, write_letter}
 use Rattle.letters.specs.Values.{wrote_numbers, writing}
 use Rattle.letters.specs.Steps.{end_in, side_in}
-
--- ---- the ends of a link
-module _ (low high x : ℕ) where
-  pub end_low : low ≡ x → true ≡ end_in low high x
-  end_low h = simp (eq-eqb low x h)
-
-  pub end_high : (low ≡ x → ⊥) → eqb high x ≡ end_in low high x
-  end_high h = simp (ne_eqb low x h)
-
-  pub side_low : low ≡ x → 0 ≡ side_in low x
-  side_low h = simp (eq-eqb low x h)
-
-  pub side_high : (low ≡ x → ⊥) → 1 ≡ side_in low x
-  side_high h = simp (ne_eqb low x h)
 
 -- ---- a value written
 module _ (tag : ℕ) (value old : List ℕ) (small : length value ≤ 5) (n : ℕ) (s : n ≡ put_size value old) (out : List ℕ)
@@ -72,13 +58,6 @@ module _ (tag : ℕ) (value old : List ℕ) (small : length value ≤ 5) (n : �
           )
 
 -- ---- the whole letter
--- a letter whose bytes were put, in other words
-pub put_as : (new bytes : List ℕ) (r : Wrote) (old out : List ℕ) → new ≡ bytes
-    → (wrote_numbers r ≡ writing_numbers (fitting new old)) × (out ≡ writing_output (fitting new old) old)
-    → (wrote_numbers r ≡ writing_numbers (fitting bytes old)) × (out ≡ writing_output (fitting bytes old) old)
-put_as new bytes r old out e p =
-    subst (λ (l : List ℕ). (wrote_numbers r ≡ writing_numbers (fitting l old)) × (out ≡ writing_output (fitting l old) old)) e p
-
 -- what is known where the letter's link is there, and where its sender is an end of the link besides
 pub record Placed (net : Net) (x : Letter) : Type 0 where
   pub good : net_holds net ≡ true
@@ -87,6 +66,9 @@ pub record Placed (net : Net) (x : Letter) : Type 0 where
 pub record Sent (net : Net) (x : Letter) : Type 0 where
   pub placed : Placed net x
   pub sender : is_end (network_of net) x.link x.sender ≡ true
+
+pub placed : (net : Net) (x : Letter) → true ≡ net_holds net → x.link < net.links → Placed net x
+placed net x g l = record { good = sym g; link = l }
 
 module _ {net : Net} {x : Letter} (k : Placed net x) where
   whole : T (net_holds net)

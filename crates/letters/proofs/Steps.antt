@@ -1,41 +1,19 @@
 -- What each return of the private steps says, in the order in which the code asks.
-use Rattle.std.specs.Prelude.{if◌then◌else◌}
 use Prim.Native.Nat.{ℕ, ◌+◌, ◌≤◌, ◌<◌}
-use mathlib.Core.Bool.{Bool, false, ◌&&◌}
+use mathlib.Core.Bool.{◌&&◌}
 use mathlib.Core.Path.{◌≡◌, sym, ap, ap₂, ◌∙◌}
 use mathlib.Core.List.{List}
 use native.Mathlib.Omega.{arith}
 use lib.Dec.{eqb}
 use lib.ListN.{length, get_or, take, drop, length-drop}
 use lib.Seq.{length-take-le}
-use borrow.Author.Tests.{eq-eqb, ne_eqb, lt-ltb, le-ltb, le-leb, lt-leb}
+use borrow.Author.Tests.{eq-eqb, ne_eqb}
+use Rattle.lists.specs.Lists.{if◌then◌else◌}
 use Rattle.lists.proofs.Tests.{and_no}
 use Rattle.fields.specs.Fields.{wide}
 use Rattle.fields.proofs.Seen.{value_at}
-use Rattle.net.specs.declared.Body.{Body}
 use Rattle.net.specs.declared.Body.TheVariants.{Request, Reply, Notice}
-use Rattle.net.specs.Values.{body_test}
 use Rattle.letters.specs.Letters.{Form, unknown, says, form_of, request_tag, reply_tag, notice_tag}
-use Rattle.letters.specs.Steps.{values_test, sender_in}
-
--- ---- the values of a field that was read
-module _ (links : ℕ) (b : Body) (k side : ℕ) where
-  pub values_link : links ≤ k → false ≡ values_test links k side b
-  values_link h = simp (le-ltb k links h)
-
-  pub values_side : 1 < side → false ≡ values_test links k side b
-  values_side h = simp (lt-leb side 1 h, and_no)
-
-  pub values_body : (r : Bool) → k < links → side ≤ 1 → r ≡ body_test links b → r ≡ values_test links k side b
-  values_body r h g e = e ∙ simp (lt-ltb k links h, le-leb side 1 g)
-
--- ---- the end that a side names
-module _ (low high x : ℕ) where
-  pub sender_low : x ≡ 0 → low ≡ sender_in low high x
-  sender_low h = simp (eq-eqb x 0 h)
-
-  pub sender_high : (x ≡ 0 → ⊥) → high ≡ sender_in low high x
-  sender_high h = simp (ne_eqb x 0 h)
 
 -- ---- the field's form
 module _ (bytes : List ℕ) (tag n : ℕ) (fits : n + 3 ≤ length bytes) where
