@@ -1,5 +1,4 @@
 mod Small
 mod Recovered
 mod ByKind
-pub mod Answers
 pub mod Parts

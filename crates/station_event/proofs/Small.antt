@@ -1,13 +1,12 @@
 -- The plans of events 1 to 6, return by return: refused, or the act in words.
-use Rattle.std.specs.Prelude.{if◌then◌else◌}
 use Prim.Native.Nat.{ℕ, ◌^◌, ◌<◌}
-use mathlib.Core.Bool.{Bool, true, false, not, ◌&&◌}
+use mathlib.Core.Bool.{Bool, true, false, not}
 use mathlib.Core.Path.{◌≡◌, refl, sym, ap, ap₂, ◌∙◌}
 use lib.Dec.{eqb}
+use Rattle.lists.specs.Lists.{if◌then◌else◌}
 use Rattle.lists.specs.Words.{in_word, bit}
 use Rattle.lists.proofs.Words.{zero_is_out, none_in}
 use Rattle.net.specs.declared.Body.TheVariants.{Request}
-use Rattle.net.specs.declared.Letter.{Letter}
 use Rattle.counters.specs.Counters.{even, timed_out}
 use Rattle.sets.specs.Sets.{word_by}
 use Rattle.sets.proofs.WordLaws.{by_ext, by_none}
@@ -18,7 +17,7 @@ use Rattle.station.specs.declared.Condition.{Condition}
 use Rattle.station.specs.declared.Condition.TheVariants.{Down, Waiting, Live}
 use Rattle.station.specs.declared.Kind.{Kind}
 use Rattle.station.specs.declared.Kind.TheVariants.{Start, Stop, Recovery, IntervalEnd, TimeoutEnd, QuietEnd}
-use Rattle.station.specs.Holding.{no_marks, set_token, set_quiet, is_down, is_waiting, is_live}
+use Rattle.station.specs.Holding.{no_marks, set_token, set_quiet, is_down, is_waiting}
 use Rattle.station.specs.Acts.{all_own, other_own, on_link, kept, sets, nothing, notices, Act, act, is_open}
 use Rattle.station.specs.Acts.{may_end, interval_marks, interval_tests, test_ended, start_act, stop_act, recovery_act, interval_act, timeout_act}
 use Rattle.station.specs.Events.{counting, Rule, rule_of, due_of}
@@ -30,17 +29,6 @@ use Rattle.station_plan.specs.Comes.{event_plan, own_plan}
 -- a link whose test failed is kept quiet
 abbrev pub failed : Marks → Marks
 failed m = set_quiet true (test_ended m)
-
--- ---- whether an interval may end
-module _ (x : Condition) (m : Marks) (live : Bool) (el : live ≡ is_live x) where
-  pub end_down : live ≡ false → false ≡ may_end x m
-  end_down e = simp (sym el ∙ e)
-
-  pub end_testing : live ≡ true → m.testing ≡ true → false ≡ may_end x m
-  end_testing e t = simp (sym el ∙ e, t)
-
-  pub end_quiet : live ≡ true → m.testing ≡ false → not m.quiet ≡ may_end x m
-  end_quiet e t = simp (sym el ∙ e, t)
 
 -- ---- an event that takes no letter, by its rule
 module _ (e : Kind) (own k c : ℕ) (x : Condition) (w : Words) where
@@ -153,10 +141,10 @@ module _ (x : Condition) (w : Words) where
           worked : done_plan own w (timeout_act x k c) (counting 0 (bit (even c)) 0)
               ≡ tells x (words_with w k (failed (marks_at w k))) k (timed_out c) true false (putting 0 k true)
               (putting (links_word own w (all_own is_open)) k false) (counting 0 1 0)
-          worked = ap (λ (b : Bool). done_plan own w (byEven b) (counting 0 (bit b) 0)) (sym ee ∙ v)
+          worked = ap (λ (b : Bool). done_plan own w (by_even b) (counting 0 (bit b) 0)) (sym ee ∙ v)
             where
-              byEven : Bool → Act
-              byEven b =
+              by_even : Bool → Act
+              by_even b =
                   if b then act x (on_link k failed) (sets k (timed_out c) true) (notices k (timed_out c) (other_own k is_open))
                   else act x (on_link k test_ended) kept nothing
 
