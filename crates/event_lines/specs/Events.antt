@@ -1,6 +1,6 @@
 -- The lines of the event program: "three decimal numbers with one space between, each of 1 to 9 digits". A line is the list of
 -- its bytes, without its newline.
-use Rattle.std.specs.Prelude.{ℕ, ◌+◌, ◌-◌, ◌*◌, Bool, ◌&&◌, List, [], ◌∷◌, map, eqb, leb, length, if◌then◌else◌}
+use Rattle.std.specs.Prelude.{ℕ, Bool, ◌&&◌, List, [], ◌∷◌, map, eqb, leb, length, if◌then◌else◌}
 use Rattle.lists.specs.Lists.{every}
 pub use Rattle.lists.specs.Digits.{is_digit, value_from}
 
