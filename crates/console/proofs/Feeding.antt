@@ -99,8 +99,8 @@ module _ {Y R A : Type 0} (fresh : R) (on : R → ℕ → R) (ends : R → A) (a
 
     -- the line ends here
     module _ (e : end.ended ≡ true) where
-      said-is : ends line ≡ line_at r later
-      said-is = ap ends (reads ∙ ap (fed_by on r) (line_is bytes from g.within end is))
+      said_is : ends line ≡ line_at r later
+      said_is = ap ends (reads ∙ ap (fed_by on r) (line_is bytes from g.within end is))
 
       steps : most * from + most ≤ most * (end.stop + 1)
       steps =
@@ -133,19 +133,19 @@ module _ {Y R A : Type 0} (fresh : R) (on : R → ℕ → R) (ends : R → A) (a
         to_come = drop (end.stop + 1) bytes
 
         here : z ≡ act y (line_at r later)
-        here = does ∙ ap (act y) said-is
+        here = does ∙ ap (act y) said_is
 
         rest : behind later ≡ to_come
         rest = sym (end_behind bytes from g.within end is)
 
-        later-text : text y r later ≡ words ++ text z start to_come
-        later-text = did.0 ∙ cc (here, rest, says, said-is, begins)
+        later_text : text y r later ≡ words ++ text z start to_come
+        later_text = did.0 ∙ cc (here, rest, says, said_is, begins)
 
-        later-held : held y r later ≡ held z start to_come
-        later-held = did.1 ∙ cc (here, rest, begins)
+        later_held : held y r later ≡ held z start to_come
+        later_held = did.1 ∙ cc (here, rest, begins)
 
-        later-read : read y r later ≡ read z start to_come
-        later-read = did.2 ∙ cc (here, rest, begins)
+        later_read : read y r later ≡ read z start to_come
+        later_read = did.2 ∙ cc (here, rest, begins)
 
         pub going_more : Going most bytes old y₀ r₀ new z start n (end.stop + 1)
         going_more =
@@ -156,11 +156,11 @@ module _ {Y R A : Type 0} (fresh : R) (on : R → ℕ → R) (ends : R → A) (a
                   ∙ sym (drop-drop (length words) at out)
                   ∙ ap (drop (length words)) g.tail ∙ drop-drop (length words) at old ∙ ap (λ (k : ℕ). drop k old) (sym w.place);
               text =
-                  g.text ∙ ap (λ (l : List ℕ). take at out ++ l) later-text ∙ sym (append_assoc (take at out) words (text z start to_come))
+                  g.text ∙ ap (λ (l : List ℕ). take at out ++ l) later_text ∙ sym (append_assoc (take at out) words (text z start to_come))
                   ∙ ap (λ (l : List ℕ). l ++ text z start to_come)
                   (sym (ap (take n) new_is ∙ take_at (take at out ++ words) (drop (at + length words) out) n front));
-              held = g.held ∙ later-held;
-              read = g.read ∙ later-read;
+              held = g.held ∙ later_held;
+              read = g.read ∙ later_read;
               room = omega (arith, steps, g.room, w.place, w.few);
               within = omega (arith, end_inside bytes from g.within end is e);
               enough = g.enough;

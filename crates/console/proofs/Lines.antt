@@ -87,14 +87,14 @@ module _ {Y R A : Type 0} (fresh : R) (on : R → ℕ → R) (ends : R → A) (a
     abbrev last : R → List ℕ
     last r = closing fresh on ends act say begun r
 
-    closed-text : (bytes : List ℕ) (y : Y) (r : R) (t : Bool) → begun r ≡ t
+    closed_text : (bytes : List ℕ) (y : Y) (r : R) (t : Bool) → begun r ≡ t
         → text y r bytes ++ text (held y r bytes) (read y r bytes) (last (read y r bytes)) ≡ printed fresh on ends act say y
         (answers fresh on ends r t bytes)
     unfolding held_after read_after text_after printed
-    closed-text [] y r true e = ap (λ (b : Bool). text y r (if b then 10 ∷ [] else [])) e
-    closed-text [] y r false e = ap (λ (b : Bool). text y r (if b then 10 ∷ [] else [])) e
-    closed-text (b ∷ bytes) y r t e =
-        go t (ℕ_discrete b 10) (closed-text bytes (act y (ends r)) fresh false at_first) (closed-text bytes y (on r b) true (then-on r b))
+    closed_text [] y r true e = ap (λ (b : Bool). text y r (if b then 10 ∷ [] else [])) e
+    closed_text [] y r false e = ap (λ (b : Bool). text y r (if b then 10 ∷ [] else [])) e
+    closed_text (b ∷ bytes) y r t e =
+        go t (ℕ_discrete b 10) (closed_text bytes (act y (ends r)) fresh false at_first) (closed_text bytes y (on r b) true (then-on r b))
       where
         go : (t : Bool) → Dec (b ≡ 10)
             → text (act y (ends r)) fresh bytes ++ text (held (act y (ends r)) fresh bytes) (read (act y (ends r)) fresh bytes)
@@ -109,13 +109,13 @@ module _ {Y R A : Type 0} (fresh : R) (on : R → ℕ → R) (ends : R → A) (a
         go true (no h) p q = simp (ne_eqb b 10 h) q
         go false (no h) p q = simp (ne_eqb b 10 h) q
 
-    closed-held : (bytes : List ℕ) (y : Y) (r : R) (t : Bool) → begun r ≡ t
+    closed_held : (bytes : List ℕ) (y : Y) (r : R) (t : Bool) → begun r ≡ t
         → held (held y r bytes) (read y r bytes) (last (read y r bytes)) ≡ held_all fresh on ends act say y (answers fresh on ends r t bytes)
     unfolding held_after read_after held_all
-    closed-held [] y r true e = ap (λ (b : Bool). held y r (if b then 10 ∷ [] else [])) e
-    closed-held [] y r false e = ap (λ (b : Bool). held y r (if b then 10 ∷ [] else [])) e
-    closed-held (b ∷ bytes) y r t e =
-        go t (ℕ_discrete b 10) (closed-held bytes (act y (ends r)) fresh false at_first) (closed-held bytes y (on r b) true (then-on r b))
+    closed_held [] y r true e = ap (λ (b : Bool). held y r (if b then 10 ∷ [] else [])) e
+    closed_held [] y r false e = ap (λ (b : Bool). held y r (if b then 10 ∷ [] else [])) e
+    closed_held (b ∷ bytes) y r t e =
+        go t (ℕ_discrete b 10) (closed_held bytes (act y (ends r)) fresh false at_first) (closed_held bytes y (on r b) true (then-on r b))
       where
         go : (t : Bool) → Dec (b ≡ 10)
             → held (held (act y (ends r)) fresh bytes) (read (act y (ends r)) fresh bytes)
@@ -139,11 +139,11 @@ module _ {Y R A : Type 0} (fresh : R) (on : R → ℕ → R) (ends : R → A) (a
       whole_text_lem =
           ap₂ (λ (l m : List ℕ). l ++ m) (pieces_text_lem pieces y fresh)
           (ap₂ (λ (z : Y) (r : R). text z r (last r)) (pieces_held_lem pieces y fresh) (pieces_read_lem pieces y fresh))
-          ∙ closed-text (joined pieces) y fresh false at_first ∙ ap (printed fresh on ends act say y) (each (joined pieces))
+          ∙ closed_text (joined pieces) y fresh false at_first ∙ ap (printed fresh on ends act say y) (each (joined pieces))
 
       pub whole_held_lem : whole_held fresh on ends act say begun y pieces ≡ held_all fresh on ends act say y
           (map whole (lines_of (joined pieces)))
       unfolding whole_held
       whole_held_lem =
           ap₂ (λ (z : Y) (r : R). held z r (last r)) (pieces_held_lem pieces y fresh) (pieces_read_lem pieces y fresh)
-          ∙ closed-held (joined pieces) y fresh false at_first ∙ ap (held_all fresh on ends act say y) (each (joined pieces))
+          ∙ closed_held (joined pieces) y fresh false at_first ∙ ap (held_all fresh on ends act say y) (each (joined pieces))

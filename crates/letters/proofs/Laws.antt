@@ -1,5 +1,6 @@
 -- The letter's format: what is written reads back; bytes that read to a letter are exactly what writing it gives; what is
 -- read may travel in the network.
+use Rattle.std.specs.Prelude.{if◌then◌else◌}
 use Prim.Native.Nat.{ℕ, zero, suc, ◌/◌, ◌%◌, ◌≤◌, ◌<◌}
 use mathlib.Core.Bool.{Bool, true, false, not, ◌&&◌, ◌||◌}
 use mathlib.Core.Path.{◌≡◌, refl, sym, ap, ap₂, ◌∙◌, subst, subst⁻¹}
@@ -9,7 +10,6 @@ use native.Mathlib.Omega.{arith}
 use lib.Dec.{T, eqb, leb, ltb, leb→le, ltb→lt, lt→ltb, eqb→eq, eqb_refl}
 use lib.ListN.{length, get_or}
 use borrow.Author.Tests.{ne_eqb, eqb-true}
-use Rattle.lists.specs.Lists.{if◌then◌else◌}
 use Rattle.lists.proofs.Tests.{and_l, and_r, and_i, or_left, or_right, T_is, is_T, if-elim}
 use Rattle.fields.specs.Fields.{Field, short, field, first_field, write_field, is_empty, are_bytes, longest_value}
 use Rattle.fields.proofs.Law.{cut_written, written_cut, parts_bytes, field_bytes}
@@ -180,10 +180,10 @@ pub writes_bytes : (net : Network) (x : Letter) → T (sheet_holds net) → T (l
 unfolding write_letter letter_holds
 writes_bytes net x good t =
     subst⁻¹ (λ (l : List ℕ). T (are_bytes l)) (bytes_are k side x.body)
-    (field_bytes (tag_of x.body) (k ∷ side ∷ payload x.body) (tag_small x.body) (payload-small x.body)
+    (field_bytes (tag_of x.body) (k ∷ side ∷ payload x.body) (tag_small x.body) (payload_small x.body)
     (and_i (ltb k 256) _ (lt→ltb k 256 (omega (arith, few, ltb→lt k m (and_l a e u))))
     (and_i (ltb side 256) _ (lt→ltb side 256 (omega (arith, leb→le side 1 (side_small net k x.sender))))
-    (payload-bytes x.body (and_r (a && e) (body_holds net x.body) t)))))
+    (payload_bytes x.body (and_r (a && e) (body_holds net x.body) t)))))
   where
     k : ℕ
     k = x.link
@@ -211,10 +211,10 @@ writes_bytes net x good t =
     tag_small (Reply c) = omega arith
     tag_small (Notice s c) = omega arith
 
-    payload-small : (b : Body) → length (k ∷ side ∷ payload b) ≤ longest_value
-    payload-small Request = omega arith
-    payload-small (Reply c) = omega arith
-    payload-small (Notice s c) = omega arith
+    payload_small : (b : Body) → length (k ∷ side ∷ payload b) ≤ longest_value
+    payload_small Request = omega arith
+    payload_small (Reply c) = omega arith
+    payload_small (Notice s c) = omega arith
 
     two_bytes : (c : ℕ) → T (is_counter c) → T (are_bytes (c / 256 ∷ c % 256 ∷ []))
     two_bytes c h =
@@ -222,10 +222,10 @@ writes_bytes net x good t =
         and_i (ltb (c / 256) 256) _ (lt→ltb (c / 256) 256 (omega arith))
         (and_i (ltb (c % 256) 256) _ (lt→ltb (c % 256) 256 (omega arith)) tt)
 
-    payload-bytes : (b : Body) → T (body_holds net b) → T (are_bytes (payload b))
-    payload-bytes Request h = tt
-    payload-bytes (Reply c) h = two_bytes c h
-    payload-bytes (Notice s c) h =
+    payload_bytes : (b : Body) → T (body_holds net b) → T (are_bytes (payload b))
+    payload_bytes Request h = tt
+    payload_bytes (Reply c) h = two_bytes c h
+    payload_bytes (Notice s c) h =
         and_i (ltb s 256) _ (lt→ltb s 256 (omega (arith, few, ltb→lt s m (and_l (ltb s m) _ h)))) (two_bytes c (and_r (ltb s m) _ h))
 
 -- ---- the same for a network value, as the code is given one

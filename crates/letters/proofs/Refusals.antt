@@ -1,5 +1,6 @@
 -- A letter is refused with a number when, and only when, the list of numbers says so: 11 first, then the field in the order
 -- 1, 2, 3, then bytes after it; to write 11, 3, 10. And each answer of the code is the only one that is allowed.
+use Rattle.std.specs.Prelude.{if◌then◌else◌}
 use Prim.Native.Nat.{ℕ, ◌<◌}
 use mathlib.Core.Bool.{Bool, true, false, not}
 use mathlib.Core.Path.{◌≡◌, refl, sym, ap, ◌∙◌, subst}
@@ -8,7 +9,6 @@ use native.Mathlib.Omega.{arith}
 use lib.Dec.{ltb, eqb}
 use lib.ListN.{length, get_or}
 use borrow.Author.Tests.{lt-ltb, ltb-true}
-use Rattle.lists.specs.Lists.{if◌then◌else◌}
 use Rattle.fields.specs.Fields.{Field, short, field, wide, first_field, is_field, is_empty}
 use Rattle.fields.specs.Output.{denied, writes, fitting}
 use Rattle.net.specs.declared.Net.{Net}

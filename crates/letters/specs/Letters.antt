@@ -1,6 +1,5 @@
 -- A letter's bytes: one field, read and written against a network.
-use Rattle.std.specs.Prelude.{ℕ, ◌/◌, ◌%◌, Bool, not, ◌&&◌, List, [], ◌∷◌, eqb, ltb, leb, length, get_or}
-use Rattle.lists.specs.Lists.{if◌then◌else◌}
+use Rattle.std.specs.Prelude.{ℕ, ◌/◌, ◌%◌, Bool, not, ◌&&◌, List, [], ◌∷◌, eqb, ltb, leb, length, get_or, if◌then◌else◌}
 use Rattle.fields.specs.Fields.{Field, short, field, wide, first_field, write_field, is_field, is_empty}
 use Rattle.net.specs.declared.Body.{Body}
 use Rattle.net.specs.declared.Body.TheVariants.{Request, Reply, Notice}

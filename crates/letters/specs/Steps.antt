@@ -1,6 +1,5 @@
 -- What the private steps of the code answer, reading and writing.
-use Rattle.std.specs.Prelude.{ℕ, Bool, ◌&&◌, ◌||◌, eqb, ltb, leb}
-use Rattle.lists.specs.Lists.{if◌then◌else◌}
+use Rattle.std.specs.Prelude.{ℕ, Bool, ◌&&◌, ◌||◌, eqb, ltb, leb, if◌then◌else◌}
 use Rattle.net.specs.declared.Body.{Body}
 use Rattle.net.specs.Values.{body_test}
 use Rattle.letters.specs.declared.Shape.{Shape}

@@ -1,7 +1,6 @@
 -- What the code's answers mean: the paper's number for each case, and the value with it. A network given that breaks the
 -- sheet rules, or has unused room not zero, comes before all else.
-use Rattle.std.specs.Prelude.{ℕ, not, List, [], ◌∷◌}
-use Rattle.lists.specs.Lists.{if◌then◌else◌}
+use Rattle.std.specs.Prelude.{ℕ, not, List, [], ◌∷◌, if◌then◌else◌}
 use Rattle.fields.specs.Output.{Writing, denied, fitting}
 use Rattle.net.specs.declared.Net.{Net}
 use Rattle.net.specs.declared.Letter.{Letter}

@@ -216,9 +216,9 @@ module _ (net : Network) (works : ℕ → Bool) where
     unfolding reach
     sound t u = within_sound net.stations t u
 
-    reach-starts : s < net.stations → T (has (reach net works s) s)
+    reach_starts : s < net.stations → T (has (reach net works s) s)
     unfolding reach
-    reach-starts l = starts net.stations l
+    reach_starts l = starts net.stations l
 
     -- whatever is reached is a member
     pub complete : (t : ℕ) → Reaches net works s t → T (has (reach net works s) t)
@@ -226,4 +226,4 @@ module _ (net : Network) (works : ℕ → Bool) where
         reaches_keep (λ v. T (has (reach net works s) v))
         (λ u v j b. subst⁻¹ (λ (x : List Bool). T (has x v)) closed
         (rw (spread_at (reach net works s) v j.to) (or_right (has (reach net works s) v) _ (beside_in (reach net works s) u v b j))))
-        (reach-starts r.station) r
+        (reach_starts r.station) r

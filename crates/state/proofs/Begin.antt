@@ -50,12 +50,12 @@ module _ (net : Net) (r : Bool) (e : r ≡ net_holds net) where
         else (record { answer = 11; state = unread net })) (sym e ∙ q))
 
     -- each of the stations is down, and the places beyond them stay as they were
-    stations-down : (down : Station) (n : ℕ) → n ≤ station_room → n ≡ (network_of net).stations
+    stations_down : (down : Station) (n : ℕ) → n ≤ station_room → n ≡ (network_of net).stations
         → down ≡ laid net blank (stopped (network_of net) 0).holding
         → filled (λ (t : ℕ). down) (replicate station_room nobody) n
         ≡ roomed station_room blank (map (laid net blank) (fresh (network_of net)).holdings)
     unfolding roomed fresh done_by
-    stations-down down n l m d =
+    stations_down down n l m d =
         ap₂ (λ (xs ys : List Station). xs ++ ys)
         (ap (λ (k : ℕ). map (λ (t : ℕ). down) (below k)) m ∙ ap (λ (x : Station). map (λ (t : ℕ). x) (below (network_of net).stations)) d
         ∙ sym (maps (below (network_of net).stations)))
@@ -95,6 +95,6 @@ module _ (net : Net) (r : Bool) (e : r ≡ net_holds net) where
           state = record
               { net = net; flying = 0; stations = a; letters = replicate letter_room b };
         })
-        (f ∙ stations-down down n l m' d) u
+        (f ∙ stations_down down n l m' d) u
         ∙ sym (ap (λ (b : Bool). if b then (record { answer = 0; state = state_of net (fresh (network_of net)) })
         else (record { answer = 11; state = unread net })) (sym e ∙ q))

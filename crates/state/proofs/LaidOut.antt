@@ -63,21 +63,21 @@ module _ (net : Net) (w : World) (n : T (net_holds net)) (e : network_of net ≡
     slots : Slots.Formed (network_of net) i (holding_at w i)
     slots = Slots.formed (network_of net) i (holding_at w i) (held i h)
 
-    table-long : length (holding_at w i).table ≡ link_count net
-    table-long = slots.table_length ∙ links_of_lem net
+    table_long : length (holding_at w i).table ≡ link_count net
+    table_long = slots.table_length ∙ links_of_lem net
 
-    marks-long : length (holding_at w i).marks ≡ link_count net
-    marks-long = slots.marks_length ∙ links_of_lem net
+    marks_long : length (holding_at w i).marks ≡ link_count net
+    marks_long = slots.marks_length ∙ links_of_lem net
 
-    laid-at : get_or laid_all i beyond ≡ laid net blank (holding_at w i)
-    laid-at =
+    laid_at : get_or laid_all i beyond ≡ laid net blank (holding_at w i)
+    laid_at =
         get_d_any laid_all i beyond (laid net blank nobody) (omega (arith, h, laid_count))
         ∙ get_or-map (laid net blank) w.holdings i nobody
 
   -- ---- the places
   station_there : (i : ℕ) → i < net.stations → station_in out i ≡ laid net blank (holding_at w i)
   unfolding state_of
-  station_there i h = roomed_at station_room blank laid_all i beyond (omega (arith, h, laid_count)) ∙ laid-at i h
+  station_there i h = roomed_at station_room blank laid_all i beyond (omega (arith, h, laid_count)) ∙ laid_at i h
 
   station_past : (i : ℕ) → net.stations ≤ i → i < station_room → station_in out i ≡ blank
   unfolding state_of
@@ -110,7 +110,7 @@ module _ (net : Net) (w : World) (n : T (net_holds net)) (e : network_of net ≡
   }
     where
       fits : (i : ℕ) → i < station_room → Dec (i < net.stations) → Fits (station_in out i)
-      fits i l (yes h) = subst⁻¹ Fits (station_there i h) (fits_laid net (holding_at w i) (table-long i h) (marks-long i h))
+      fits i l (yes h) = subst⁻¹ Fits (station_there i h) (fits_laid net (holding_at w i) (table_long i h) (marks_long i h))
       fits i l (no h) = subst⁻¹ Fits (station_past i (omega arith) l) fits_blank
 
   -- ---- well formed
@@ -120,9 +120,9 @@ module _ (net : Net) (w : World) (n : T (net_holds net)) (e : network_of net ≡
       (lt-ltb i net.stations h)
       (subst⁻¹ (λ (x : Station). T (station_formed net i x)) (station_there i h)
       (spare_formed net i (laid net blank (holding_at w i))
-      (subst⁻¹ (λ (x : Holding). T (holding_holds (network_of net) i x)) (holding_laid net (holding_at w i) (table-long i h) (marks-long i h))
+      (subst⁻¹ (λ (x : Holding). T (holding_holds (network_of net) i x)) (holding_laid net (holding_at w i) (table_long i h) (marks_long i h))
       (held i h))
-      (laid_spare net (holding_at w i) (table-long i h) (marks-long i h))))
+      (laid_spare net (holding_at w i) (table_long i h) (marks_long i h))))
   station_place_lem i l (no h) =
       let g : net.stations ≤ i = omega arith in
       subst⁻¹ (λ (b : Bool). T (if b then station_formed net i (station_in out i) else is_blank (station_in out i)))
@@ -171,15 +171,15 @@ module _ (net : Net) (w : World) (n : T (net_holds net)) (e : network_of net ≡
       (length-map laid_all (holding_of net) ∙ length-map w.holdings (laid net blank))
       (λ i h. let l : i < net.stations = subst (λ (k : ℕ). i < k) (length-map laid_all (holding_of net) ∙ laid_count) h in
       get_d_any (map (holding_of net) laid_all) i nobody (holding_of net beyond) h ∙ get_or-map (holding_of net) laid_all i beyond
-      ∙ ap (holding_of net) (laid-at i l) ∙ holding_laid net (holding_at w i) (table-long i l) (marks-long i l))
+      ∙ ap (holding_of net) (laid_at i l) ∙ holding_laid net (holding_at w i) (table_long i l) (marks_long i l))
 
   pub laid_means : world_of out ≡ w
   unfolding world_of state_of
   laid_means =
-      let a = ap (λ (k : ℕ). map (holding_of net) (take k (roomed station_room blank laid_all))) (stations_of net ∙ few-is)
+      let a = ap (λ (k : ℕ). map (holding_of net) (take k (roomed station_room blank laid_all))) (stations_of net ∙ few_is)
       ∙ ap (map (holding_of net)) (take_roomed station_room blank laid_all) ∙ holdings_back in
       let l = take_roomed letter_room no_letter w.letters in
       λ i. record { net = e i; holdings = a i; letters = l i }
     where
-      few-is : min net.stations station_room ≡ length laid_all
-      few-is = omega (arith, few, laid_count)
+      few_is : min net.stations station_room ≡ length laid_all
+      few_is = omega (arith, few, laid_count)

@@ -162,8 +162,8 @@ module _ (net : Net) where
     few : n ≤ link_room
     few = omega arith
 
-    rest-size : (w : ℕ) → length (drop n (bits_of w)) ≡ link_room - n
-    rest-size w = length-drop n (bits_of w) ∙ ap (λ (k : ℕ). k - n) (length_map_below (in_word w) link_room)
+    rest_size : (w : ℕ) → length (drop n (bits_of w)) ≡ link_room - n
+    rest_size w = length-drop n (bits_of w) ∙ ap (λ (k : ℕ). k - n) (length_map_below (in_word w) link_room)
 
     module _ (p : Marks → Bool) (q : p no_marks ≡ false) where
       abbrev word : ℕ
@@ -178,8 +178,8 @@ module _ (net : Net) where
           ∙ get_or-append (map p h.marks) (drop n (bits_of 0)) false t (omega (arith, size))
           ∙ ap (get_or (map p h.marks) t) (sym q) ∙ get_or-map p h.marks t no_marks
 
-      word-past : (t : ℕ) → n ≤ t → t < link_room → in_word word t ≡ false
-      word-past t g l =
+      word_past : (t : ℕ) → n ≤ t → t < link_room → in_word word t ≡ false
+      word_past t g l =
           let j : ℕ = t - n in
           let e : length (map p h.marks) + j ≡ t = omega (arith, size) in
           let e' : n + j ≡ t = omega arith in
@@ -195,52 +195,52 @@ module _ (net : Net) where
           (word_of_lt (map p h.marks ++ drop n (bits_of 0)))
         where
           sum : length (map p h.marks) + length (drop n (bits_of 0)) ≡ link_room
-          sum = omega (arith, size, rest-size 0, few)
+          sum = omega (arith, size, rest_size 0, few)
 
-    laid-words : (laid net blank h).marks ≡ laid_words n no_words h.marks
+    laid_words_lem : (laid net blank h).marks ≡ laid_words n no_words h.marks
     unfolding laid blank
-    laid-words = refl
+    laid_words_lem = refl
 
-    laid-counters : (laid net blank h).counters ≡ h.table ++ replicate (link_room - n) 0
+    laid_counters : (laid net blank h).counters ≡ h.table ++ replicate (link_room - n) 0
     unfolding laid
-    laid-counters = ap (λ (r : List ℕ). h.table ++ r) blank_counters
+    laid_counters = ap (λ (r : List ℕ). h.table ++ r) blank_counters
 
     pub fits_laid : Fits (laid net blank h)
     fits_laid = record {
       counters =
-          ap length laid-counters ∙ length-append h.table (replicate (link_room - n) 0)
+          ap length laid_counters ∙ length-append h.table (replicate (link_room - n) 0)
           ∙ omega (arith, tl, few, length-replicate {A = ℕ} (link_room - n) 0);
-      token = subst⁻¹ (λ (w : Words). w.token < 2 ^ 64) laid-words (word_fits (λ m. m.token) refl);
-      turn = subst⁻¹ (λ (w : Words). w.turn < 2 ^ 64) laid-words (word_fits (λ m. m.turn) refl);
-      testing = subst⁻¹ (λ (w : Words). w.testing < 2 ^ 64) laid-words (word_fits (λ m. m.testing) refl);
-      asked = subst⁻¹ (λ (w : Words). w.asked < 2 ^ 64) laid-words (word_fits (λ m. m.asked) refl);
-      quiet = subst⁻¹ (λ (w : Words). w.quiet < 2 ^ 64) laid-words (word_fits (λ m. m.quiet) refl);
+      token = subst⁻¹ (λ (w : Words). w.token < 2 ^ 64) laid_words_lem (word_fits (λ m. m.token) refl);
+      turn = subst⁻¹ (λ (w : Words). w.turn < 2 ^ 64) laid_words_lem (word_fits (λ m. m.turn) refl);
+      testing = subst⁻¹ (λ (w : Words). w.testing < 2 ^ 64) laid_words_lem (word_fits (λ m. m.testing) refl);
+      asked = subst⁻¹ (λ (w : Words). w.asked < 2 ^ 64) laid_words_lem (word_fits (λ m. m.asked) refl);
+      quiet = subst⁻¹ (λ (w : Words). w.quiet < 2 ^ 64) laid_words_lem (word_fits (λ m. m.quiet) refl);
     }
 
     pub laid_spare : Spare (laid net blank h)
     laid_spare = record {
-      counters = ap (drop n) laid-counters ∙ drop_at h.table (replicate (link_room - n) 0) n tl;
-      marks = λ t g l. ap (λ (w : Words). marks_at w t) laid-words ∙ off t g l;
+      counters = ap (drop n) laid_counters ∙ drop_at h.table (replicate (link_room - n) 0) n tl;
+      marks = λ t g l. ap (λ (w : Words). marks_at w t) laid_words_lem ∙ off t g l;
     }
       where
         off : (t : ℕ) → n ≤ t → t < link_room → marks_at (laid_words n no_words h.marks) t ≡ no_marks
         off t g l = λ i. record {
-          token = word-past (λ m. m.token) refl t g l i;
-          turn = word-past (λ m. m.turn) refl t g l i;
-          testing = word-past (λ m. m.testing) refl t g l i;
-          asked = word-past (λ m. m.asked) refl t g l i;
-          quiet = word-past (λ m. m.quiet) refl t g l i;
+          token = word_past (λ m. m.token) refl t g l i;
+          turn = word_past (λ m. m.turn) refl t g l i;
+          testing = word_past (λ m. m.testing) refl t g l i;
+          asked = word_past (λ m. m.asked) refl t g l i;
+          quiet = word_past (λ m. m.quiet) refl t g l i;
         }
 
     pub holding_laid : holding_of net (laid net blank h) ≡ h
     unfolding holding_of
     holding_laid =
-        let t = ap (take n) laid-counters ∙ take_at h.table (replicate (link_room - n) 0) n tl in
-        let m = ap (λ (w : Words). map (marks_at w) (below n)) laid-words ∙ same in
-        λ i. record { condition = same-condition i; table = t i; marks = m i }
+        let t = ap (take n) laid_counters ∙ take_at h.table (replicate (link_room - n) 0) n tl in
+        let m = ap (λ (w : Words). map (marks_at w) (below n)) laid_words_lem ∙ same in
+        λ i. record { condition = same_condition i; table = t i; marks = m i }
       where
-        same-condition : (laid net blank h).condition ≡ h.condition
-        same-condition = condition_laid net h
+        same_condition : (laid net blank h).condition ≡ h.condition
+        same_condition = condition_laid net h
 
         at : (t : ℕ) → t < n → marks_at (laid_words n no_words h.marks) t ≡ get_or h.marks t no_marks
         at t l = λ i. record {

@@ -208,9 +208,9 @@ module _ (s : State) (owns : List ℕ) where
       abbrev flies : ℕ → Bool
       flies k = letter_holds (network_of s.net) (letter_in s k)
 
-      carried-are : {ways ended most least j : ℕ} → Gathering s.flying ways ended most least j → j ≡ s.flying
+      carried_are : {ways ended most least j : ℕ} → Gathering s.flying ways ended most least j → j ≡ s.flying
           → gathered_hold s.net.links ways ended most least ≡ every flies (below s.flying)
-      carried-are {ways} {ended} {most} {least} {j} g q =
+      carried_are {ways} {ended} {most} {least} {j} g q =
           ap₂ (λ (a b : Bool). ((a && b) && leb most s.net.links) && leb 1 least) g.rooms g.ends
           ∙ ap₂ (λ (a b : Bool). ((every way_at (below j) && every owned_at (below j)) && a) && b) g.told g.counts
           ∙ ap (λ (b : Bool). (b && every told_at (below j)) && every counted_at (below j))
@@ -270,7 +270,7 @@ module _ (s : State) (owns : List ℕ) where
         go false d = ap (λ (b : Bool). b && (stations_hold s && letters_hold s)) d
         go true d =
             ap₂ (λ (a b : Bool). a && b) (stations_are p at_all)
-            (ap₂ (λ (a b : Bool). a && b) (ec ∙ carried-are t (subst (λ (n : ℕ). Gathering n ways ended most least j) all g) at_last)
+            (ap₂ (λ (a b : Bool). a && b) (ec ∙ carried_are t (subst (λ (n : ℕ). Gathering n ways ended most least j) all g) at_last)
             (resting_ends s q hk ∙ ap (λ (n : ℕ). every (rest_at s n) (below letter_room)) all) ∙ letters_are t)
             ∙ ap (λ (b : Bool). b && (stations_hold s && letters_hold s)) d
           where

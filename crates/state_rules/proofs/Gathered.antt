@@ -51,10 +51,10 @@ module _ (a b : ℕ) where
       same_test (leb (bit_or a b) 1) (leb a 1 && leb b 1)
       (λ t. and_i (leb a 1) _ (is_T _ (le-leb a 1 (omega (arith, or_left, leb→le (bit_or a b) 1 t))))
       (is_T _ (le-leb b 1 (omega (arith, or_right, leb→le (bit_or a b) 1 t)))))
-      (λ t. is_T _ (le-leb (bit_or a b) 1 (joined-few (leb→le a 1 (and_l (leb a 1) _ t)) (leb→le b 1 (and_r (leb a 1) _ t)))))
+      (λ t. is_T _ (le-leb (bit_or a b) 1 (joined_few (leb→le a 1 (and_l (leb a 1) _ t)) (leb→le b 1 (and_r (leb a 1) _ t)))))
     where
-      joined-few : a ≤ 1 → b ≤ 1 → bit_or a b ≤ 1
-      joined-few h l = omega (arith, or_lt 1 a b (omega arith) (omega arith))
+      joined_few : a ≤ 1 → b ≤ 1 → bit_or a b ≤ 1
+      joined_few h l = omega (arith, or_lt 1 a b (omega arith) (omega arith))
 
 -- ---- links and senders
 and_swap : (a b c d : Bool) → ((a && b) && (c && d)) ≡ ((a && c) && (b && d))

@@ -125,16 +125,16 @@ module _ (net : Net) (s : ℕ) (st : Station) where
         ∙ ap₂ (λ (c : ℕ) (m : Marks). slot_holds st.condition (is_end (network_of net) k s) c m)
         (ap (λ (l : List ℕ). counter_in l k) (table_of_lem net st) ∙ counter_of_lem net st.counters k size h) (mark_of net st k h)
 
-    own-there : (k : ℕ) → k < link_count net → own_marks k ≡ marks_test st.condition (is_end (network_of net) k s) (marks_at st.marks k)
-    own-there k h =
+    own_there : (k : ℕ) → k < link_count net → own_marks k ≡ marks_test st.condition (is_end (network_of net) k s) (marks_at st.marks k)
+    own_there k h =
         ap (λ (b : Bool). marks_test st.condition (b && is_end (network_of net) k s) (marks_at st.marks k)) (lt-ltb k (link_count net) h)
 
     own_past : (k : ℕ) → link_count net ≤ k → own_marks k ≡ marks_test st.condition false (marks_at st.marks k)
     own_past k h =
         ap (λ (b : Bool). marks_test st.condition (b && is_end (network_of net) k s) (marks_at st.marks k)) (le-ltb k (link_count net) h)
 
-    counter-there : (k : ℕ) → k < link_count net → own_counter k ≡ link_counter st.condition (get_or st.counters k 0)
-    counter-there k h = ap (λ (b : Bool). counter_test b (is_live st.condition) (get_or st.counters k 0)) (lt-ltb k (link_count net) h)
+    counter_there : (k : ℕ) → k < link_count net → own_counter k ≡ link_counter st.condition (get_or st.counters k 0)
+    counter_there k h = ap (λ (b : Bool). counter_test b (is_live st.condition) (get_or st.counters k 0)) (lt-ltb k (link_count net) h)
 
     counter_past : (k : ℕ) → link_count net ≤ k → own_counter k ≡ is_zero (get_or st.counters k 0)
     counter_past k h = ap (λ (b : Bool). counter_test b (is_live st.condition) (get_or st.counters k 0)) (le-ltb k (link_count net) h)
@@ -167,8 +167,8 @@ module _ (net : Net) (s : ℕ) (st : Station) where
         slot k h =
             subst⁻¹ T (slot_is k h)
             (slot_join (is_end (network_of net) k s) (get_or st.counters k 0) (marks_at st.marks k) st.condition
-            (subst T (own-there k h) (place_at own_marks t k (omega arith)))
-            (subst T (counter-there k h) (place_at own_counter u k (omega arith))))
+            (subst T (own_there k h) (place_at own_marks t k (omega arith)))
+            (subst T (counter_there k h) (place_at own_counter u k (omega arith))))
 
     back : T (station_formed net s st) → T (every_place own_marks) × T (every_place own_counter)
     unfolding station_formed
@@ -190,14 +190,14 @@ module _ (net : Net) (s : ℕ) (st : Station) where
             (subst T (slot_is k h) (f.slots k (subst⁻¹ (λ (n : ℕ). k < n) (links_of_lem net) h)))
 
         marks : (k : ℕ) → k < link_room → Formed (network_of net) s (holding_of net st) → T offs → Dec (k < link_count net) → T (own_marks k)
-        marks k l f o (yes h) = subst⁻¹ T (own-there k h) (both k h f).0
+        marks k l f o (yes h) = subst⁻¹ T (own_there k h) (both k h f).0
         marks k l f o (no h) =
             let g : link_count net ≤ k = omega arith in
             subst⁻¹ T (own_past k g) (off_foreign st.condition (marks_at st.marks k)
             (rest_at (λ t. is_off (marks_at st.marks t)) (link_count net) few o k g l))
 
         count : (k : ℕ) → k < link_room → Formed (network_of net) s (holding_of net st) → T zeroes → Dec (k < link_count net) → T (own_counter k)
-        count k l f z (yes h) = subst⁻¹ T (counter-there k h) (both k h f).1
+        count k l f z (yes h) = subst⁻¹ T (counter_there k h) (both k h f).1
         count k l f z (no h) =
             let g : link_count net ≤ k = omega arith in
             subst⁻¹ T (counter_past k g) (room_zero st.counters (link_count net) size z k g l)

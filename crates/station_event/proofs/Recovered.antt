@@ -1,8 +1,8 @@
 -- The marks after event 3, as the code makes them of whole words.
+use Rattle.std.specs.Prelude.{if◌then◌else◌}
 use Prim.Native.Nat.{ℕ, ◌^◌, ◌<◌}
 use mathlib.Core.Bool.{Bool, true, false, not, ◌&&◌, ◌||◌}
 use mathlib.Core.Path.{◌≡◌, refl, ap, ap₂, ◌∙◌}
-use Rattle.lists.specs.Lists.{if◌then◌else◌}
 use Rattle.lists.specs.Words.{in_word}
 use Rattle.sets.specs.Sets.{word_by}
 use Rattle.sets.proofs.WordLaws.{by_ext, by_same, in_by}

@@ -1,9 +1,9 @@
 -- The plans of events 1 to 6, return by return: refused, or the act in words.
+use Rattle.std.specs.Prelude.{if◌then◌else◌}
 use Prim.Native.Nat.{ℕ, ◌^◌, ◌<◌}
 use mathlib.Core.Bool.{Bool, true, false, not}
 use mathlib.Core.Path.{◌≡◌, refl, sym, ap, ap₂, ◌∙◌}
 use lib.Dec.{eqb}
-use Rattle.lists.specs.Lists.{if◌then◌else◌}
 use Rattle.lists.specs.Words.{in_word, bit}
 use Rattle.lists.proofs.Words.{zero_is_out, none_in}
 use Rattle.net.specs.declared.Body.TheVariants.{Request}

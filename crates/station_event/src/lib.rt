@@ -5,8 +5,7 @@
 
 pub mod events;
 
-ghost use Rattle.std.specs.Prelude.{◌≡◌, true, ◌&&◌, ltb};
-ghost use Rattle.lists.specs.Lists.{if◌then◌else◌};
+ghost use Rattle.std.specs.Prelude.{◌≡◌, true, ◌&&◌, ltb, if◌then◌else◌};
 ghost use Rattle.lists.specs.Words.{bit};
 ghost use Rattle.marks.specs.Marks.{marks_at, words_with};
 ghost use Rattle.station.specs.declared.Effect.TheVariants.{Defers, Answers, Heals, Levels, Takes};
