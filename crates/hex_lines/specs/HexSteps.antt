@@ -1,6 +1,6 @@
 -- What the code answers of hexadecimal lines, byte by byte, for every reading. proofs/Hex.antt says that the bytes of a line, one
 -- after the other, give what specs/Hex.antt says of the whole line.
-use Rattle.std.specs.Prelude.{ℕ, ◌+◌, ◌*◌, ◌/◌, ◌%◌, List, [], ◌∷◌, leb, ltb, take, set, replicate, if◌then◌else◌}
+use Rattle.std.specs.Prelude.{ℕ, ◌+◌, ◌*◌, ◌/◌, ◌%◌, List, leb, ltb, take, set, replicate, if◌then◌else◌}
 use Rattle.event_lines.specs.Split.{fed_by}
 use Rattle.hex_lines.specs.declared.HexReading.{HexReading}
 use Rattle.hex_lines.specs.declared.HexLine.{HexLine}
