@@ -5,7 +5,7 @@ use mathlib.Core.List.{List, [], ◌∷◌}
 use native.Mathlib.Omega.{arith}
 use lib.Dec.{T, ltb, ltb→lt}
 use lib.ListN.{length, get_or}
-use Rattle.lists.proofs.Tests.{if-elim, every_at}
+use Rattle.lists.proofs.Tests.{if_elim, every_at}
 use Rattle.lists.proofs.Fill.{by_places}
 use Rattle.fields.proofs.Seen.{tag_is, size_is}
 use Rattle.fields.specs.Fields.{wide, write_field, is_field, are_bytes}
@@ -73,9 +73,9 @@ module _ (t : ℕ) (v : List ℕ) where
   pub is_form : (b : Body) → form_of t v ≡ says b → IsForm t v b
   unfolding form_of
   is_form b e =
-      if-elim P (is_field request_tag 2 t v) (λ h q. subst (IsForm t v) (body q) (is_request_lem h))
-      (λ _. if-elim P (is_field reply_tag 4 t v) (λ h q. subst (IsForm t v) (body q) (is_reply h))
-      (λ _. if-elim P (is_field notice_tag 5 t v) (λ h q. subst (IsForm t v) (body q) (is_notice_lem h))
+      if_elim P (is_field request_tag 2 t v) (λ h q. subst (IsForm t v) (body q) (is_request_lem h))
+      (λ _. if_elim P (is_field reply_tag 4 t v) (λ h q. subst (IsForm t v) (body q) (is_reply h))
+      (λ _. if_elim P (is_field notice_tag 5 t v) (λ h q. subst (IsForm t v) (body q) (is_notice_lem h))
       (λ _ q. let z : ◌≡◌ {A = ℕ} 0 1 = cc in absurd (omega arith)))) e
     where
       P : Form → Type 0
