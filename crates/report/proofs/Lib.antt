@@ -1,7 +1,5 @@
-pub mod Helpers
 pub mod Known
 pub mod WordShown
-pub mod AskingHelpers
 pub mod AskingKnown
 pub mod Refusals
 pub mod Output

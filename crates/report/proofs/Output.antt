@@ -6,7 +6,7 @@ use mathlib.Core.List.{List, [], ◌++◌, map, append_assoc, append-nil}
 use native.Mathlib.Omega.{arith}
 use lib.ListN.{length, get_or, take, drop, set, length-append, length-drop, drop_of_length-le}
 use lib.Seq.{take_at, drop_at, take_all, drop-drop}
-use borrow.Author.Tests.{eq-eqb, ne_eqb, lt-ltb, le-ltb}
+use borrow.Author.Tests.{eq-eqb, lt-ltb, le-ltb}
 use Rattle.lists.specs.Lists.{below, filled}
 use Rattle.lists.specs.Words.{bit, bit_at, in_word, word_of}
 use Rattle.lists.proofs.Numbers.{length_map_below}
@@ -37,10 +37,6 @@ denied_keeps (denied k) old h = refl
 denied_keeps (writes new) old h = absurd (h refl)
 
 module _ (number : ℕ) (new old : List ℕ) where
-  -- refused before: the number stays, and so does the output
-  pub refused_stays : (number ≡ 0 → ⊥) → Wrote (fitting_unless number new old) old number old
-  refused_stays h = let e = ne_eqb number 0 h in (simp e, simp e)
-
   module _ (z : number ≡ 0) where
     pub too_short : length old < length new → Wrote (fitting_unless number new old) old 10 old
     unfolding fitting

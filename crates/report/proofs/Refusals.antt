@@ -1,6 +1,5 @@
 -- Each number that says no to the reach and to the report alike, when and only when document 01's list says, in the words of the
 -- state that is asked. For every state and station; the report's own 10: ReportsRefusals.antt.
-use Rattle.std.specs.Prelude.{if◌then◌else◌}
 use Prim.Native.Nat.{ℕ, ◌≤◌, ◌<◌}
 use mathlib.Core.Bool.{Bool, not, ◌&&◌}
 use mathlib.Core.Path.{◌≡◌, refl, sym, ap, ◌∙◌, subst, subst⁻¹}
@@ -11,7 +10,8 @@ use borrow.Author.Tests.{lt-ltb, le-ltb}
 use lib.Dec.{T, leb, ltb, ltb→lt}
 use lib.ListN.{length, get_or, take, length-map, length-take, get_or-map, get_or-eq_default}
 use lib.Seq.{get_or-take, take-nil}
-use Rattle.lists.proofs.Tests.{T_is, T_not_is, is_T, and_l, if_elim}
+use Rattle.lists.specs.Lists.{if◌then◌else◌}
+use Rattle.lists.proofs.Tests.{T_is, T_not_is, is_T, and_l, if-elim}
 use Rattle.lists.proofs.Fill.{get_d_any}
 use Rattle.net.specs.Network.{Network}
 use Rattle.net.specs.Values.{network_of, link_count}
@@ -126,7 +126,7 @@ module _ (s : State) (a : ℕ) where
   -- only then: the number is given for its reason
   pub number_why : Why (number_of s a)
   unfolding number_of
-  number_why = if_elim Why (state_holds s) (λ g. told g (W.ask_why (world_of s) a)) eleven
+  number_why = if-elim Why (state_holds s) (λ g. told g (W.ask_why (world_of s) a)) eleven
 
   -- when: where the reason stands, the number is given
   pub why_number : {n : ℕ} → Why n → number_of s a ≡ n

@@ -1,6 +1,5 @@
 -- What an accepted reach says: its word's bits say which stations a path leads to, and its two numbers are the word's. For every
 -- state and station. That the report's bytes are the word's bits: SameBits.antt.
-use Rattle.std.specs.Prelude.{if◌then◌else◌}
 use Prim.Native.Nat.{ℕ, ◌<◌}
 use mathlib.Core.Bool.{Bool}
 use mathlib.Core.Path.{◌≡◌, sym, ap, ap₂, ◌∙◌, subst, subst⁻¹}
@@ -9,6 +8,7 @@ use mathlib.Core.List.{List}
 use native.Mathlib.Decide.{ℕ_discrete}
 use native.Mathlib.Omega.{arith}
 use borrow.Author.Tests.{eq-eqb, ne_eqb}
+use Rattle.lists.specs.Lists.{if◌then◌else◌}
 use Rattle.lists.specs.Words.{bit_at, word_of}
 use Rattle.net.specs.Network.{Network}
 use Rattle.net.specs.Values.{network_of}
