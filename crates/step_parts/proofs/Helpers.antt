@@ -1,11 +1,10 @@
--- What the small functions of the code answer, return by return; and that what they answer is a place of its room.
+-- What an event names is a place of its room, and the parts of what becomes of the list of letters.
 use Rattle.std.specs.Prelude.{if◌then◌else◌}
-use Prim.Native.Nat.{ℕ, ◌+◌, ◌-◌, ◌%◌, ◌≤◌, ◌<◌}
-use mathlib.Core.Bool.{Bool, true, false}
-use mathlib.Core.Path.{◌≡◌, sym, ap, ◌∙◌, subst⁻¹}
+use Prim.Native.Nat.{ℕ, ◌%◌, ◌<◌}
+use mathlib.Core.Bool.{Bool}
+use mathlib.Core.Path.{◌≡◌, ap, subst⁻¹}
 use native.Mathlib.Omega.{arith}
 use lib.Dec.{ltb, ltb→lt}
-use borrow.Author.Tests.{eq-eqb, ne_eqb, lt-ltb, le-ltb}
 use Rattle.lists.proofs.Tests.{if_elim}
 use Rattle.net.specs.declared.Letter.{Letter}
 use Rattle.net.specs.Sizes.{station_room, link_room, letter_room}
@@ -19,12 +18,6 @@ use Rattle.station.specs.Acts.{subject_of}
 use Rattle.step_parts.specs.declared.Names.{Names}
 use Rattle.step_parts.specs.declared.Room.{Room}
 use Rattle.step_parts.specs.Parts.{place_by, fewer_by, number_by, names_by, room_by}
-
-pub place_there : (a : ℕ) → a < letter_room → a ≡ place_by a
-place_there a h = sym (ap (λ (b : Bool). if b then a else 0) (lt-ltb a letter_room h))
-
-pub place_past : (a : ℕ) → letter_room ≤ a → 0 ≡ place_by a
-place_past a h = sym (ap (λ (b : Bool). if b then a else 0) (le-ltb a letter_room h))
 
 pub place_few : (a r : ℕ) → r ≡ place_by a → r < letter_room
 place_few a r e =
@@ -52,30 +45,6 @@ placed net flying kind a b x n e =
       link = omega (arith, k);
       subject = omega (arith, j);
     }
-
-module _ (leaves : Bool) where
-  pub left_all : (n : ℕ) → leaves ≡ false → n ≡ fewer_by leaves n
-  left_all n e = sym (ap (λ (b : Bool). fewer_by b n) e)
-
-  pub left_less : (n r : ℕ) → leaves ≡ true → r ≡ n - 1 → r ≡ fewer_by leaves n
-  left_less n r e h = h ∙ sym (ap (λ (b : Bool). fewer_by b n) e)
-
-  pub freed_is : (x : Letter) → leaves ≡ true → no_letter ≡ (if leaves then no_letter else x)
-  freed_is x e = sym (ap (λ (b : Bool). if b then no_letter else x) e)
-
-module _ (planned left count : ℕ) where
-  pub number_planned : (planned ≡ 0 → ⊥) → planned ≡ number_by planned left count
-  number_planned n = sym (ap (λ (b : Bool). if b then (if ltb letter_room (left + count) then 9 else 0) else planned) (ne_eqb planned 0 n))
-
-  pub number_nine : planned ≡ 0 → letter_room < left + count → 9 ≡ number_by planned left count
-  number_nine e h =
-      sym (ap (λ (b : Bool). if b then (if ltb letter_room (left + count) then 9 else 0) else planned) (eq-eqb planned 0 e)
-      ∙ ap (λ (b : Bool). if b then 9 else 0) (lt-ltb letter_room (left + count) h))
-
-  pub number_none : planned ≡ 0 → left + count ≤ letter_room → 0 ≡ number_by planned left count
-  number_none e h =
-      sym (ap (λ (b : Bool). if b then (if ltb letter_room (left + count) then 9 else 0) else planned) (eq-eqb planned 0 e)
-      ∙ ap (λ (b : Bool). if b then 9 else 0) (le-ltb letter_room (left + count) h))
 
 -- what becomes of the list of letters, part by part
 pub room_made : (kind : Kind) (flying place planned count : ℕ) (x : Letter) {leaves : Bool} {left answer from free : ℕ} {unused : Letter}
