@@ -5,7 +5,7 @@ use mathlib.Core.Path.{◌≡◌, refl, sym, ap, ap₂, ◌∙◌}
 use mathlib.Core.List.{List, [], ◌∷◌, ◌++◌, map, append_assoc, append-nil}
 use native.Mathlib.Omega.{arith}
 use lib.ListN.{length, get_or, take, drop, length-append, length-take, length-drop}
-use borrow.Author.Tests.{lt-ltb, le-ltb, not-true, not-false}
+use borrow.Author.Tests.{lt-ltb, le-ltb, not-true}
 use Rattle.lists.specs.Lists.{below}
 use Rattle.lists.proofs.Tests.{is_T}
 use Rattle.lists.proofs.Numbers.{below_snoc, length_map_below}
@@ -61,9 +61,6 @@ module _ (low high : List ℕ) where
   link_written i old out part e p =
       lent_more (write_links (first_ends low high i)) (link_bytes (at i)) old out part (5 * i) e (first_length i) p
       ∙ ap (λ (l : List ℕ). onto l old) (sym (first_more i))
-
-  pub links_fit : (m : ℕ) (old : List ℕ) → 5 * m ≤ length old → length (onto (write_links (first_ends low high m)) old) ≡ length old
-  links_fit m old h = length_onto (write_links (first_ends low high m)) old (omega (arith, first_length m))
 
 -- ---- the whole sheet
 module _ (net : Net) where
