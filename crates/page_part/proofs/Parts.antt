@@ -1,16 +1,14 @@
 -- A station's part, number by number, from what was put.
-use Rattle.std.specs.Prelude.{if◌then◌else◌}
 use Prim.Native.Nat.{ℕ, zero, suc, ◌+◌, ◌*◌, ◌≤◌, ◌<◌, min}
 use mathlib.Core.Bool.{Bool, true, false}
 use mathlib.Core.Path.{◌≡◌, refl, sym, ap, ap₂, ◌∙◌, subst}
-use mathlib.Core.List.{List, [], ◌∷◌, ◌++◌, append_assoc}
+use mathlib.Core.List.{List, [], ◌++◌, append_assoc}
 use native.Mathlib.Omega.{arith}
-use lib.Dec.{eqb}
 use lib.ListN.{length, get_or}
 use borrow.Author.Tests.{eq-eqb, ne_eqb}
 use Rattle.lists.specs.Lists.{from, below}
 use Rattle.lists.specs.Places.{collect}
-use Rattle.text.proofs.Chains.{Chain, chain_none, chain_next}
+use Rattle.text.proofs.Chains.{chain_none, chain_next}
 use Rattle.net.specs.declared.Net.{Net}
 use Rattle.net.specs.Network.{Ends, ends}
 use Rattle.net.specs.Values.{network_of}
@@ -23,12 +21,6 @@ use Rattle.page_part.specs.Parts.{is_there, part_text, part_most, part_writing}
 use Rattle.page_part.proofs.Texts.{put_lines}
 
 -- ---- which numbers say that a station is there
-pub there_live : (n : ℕ) → n ≡ 0 → true ≡ is_there n
-there_live n e = simp (eq-eqb n 0 e)
-
-pub there_other : (n : ℕ) → (n ≡ 0 → ⊥) → eqb n 7 ≡ is_there n
-there_other n h = simp (ne_eqb n 0 h)
-
 -- ---- the answer and the output, return by return
 module _ (number : ℕ) (text old : List ℕ) (b : Bool) (p : b ≡ is_there number) where
   pub part_refused : b ≡ false → (record { answer = number; written = 0 } ≡ wrote_by (part_writing number text old))

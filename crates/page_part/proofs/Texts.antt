@@ -1,16 +1,14 @@
 -- A part's texts as the code puts them, part by part, and how long they are.
 use Rattle.std.specs.Prelude.{if◌then◌else◌}
-use Prim.Native.Nat.{ℕ, zero, suc, ◌+◌, ◌*◌, ◌≤◌, ◌<◌}
+use Prim.Native.Nat.{ℕ, ◌+◌, ◌≤◌, ◌<◌}
 use mathlib.Core.Bool.{Bool, true, false}
-use mathlib.Core.Path.{◌≡◌, refl, sym, ap, ap₂, ◌∙◌, subst}
-use mathlib.Core.List.{List, [], ◌∷◌, ◌++◌, append_assoc, append-nil}
+use mathlib.Core.Path.{◌≡◌, ◌∙◌}
+use mathlib.Core.List.{List, [], ◌∷◌, ◌++◌, append_assoc}
 use native.Mathlib.Omega.{arith}
 use lib.Dec.{eqb}
 use lib.ListN.{length, get_or, length-append}
 use borrow.Author.Tests.{eq-eqb, ne_eqb}
-use Rattle.lists.specs.Lists.{below}
-use Rattle.lists.specs.Places.{collect}
-use Rattle.text.specs.Text.{digits, put_at, place_after}
+use Rattle.text.specs.Text.{digits}
 use Rattle.text.proofs.Puts.{place_fits}
 use Rattle.text.proofs.Chains.{Chain, chain_fits}
 use Rattle.console.specs.Outputs.{Put}
@@ -33,19 +31,9 @@ put_lines text most at old r new c h l =
     put_done text most at old r new c (omega (arith, c.place ∙ place_fits text at old fits)) l
 
 -- the same word, by a test's answer
-pub same_word : (xs ys : List ℕ) (at : ℕ) (old : List ℕ) (r : ℕ) (out : List ℕ) → xs ≡ ys
-    → (r ≡ place_after xs at old) × (out ≡ put_at xs at old) → (r ≡ place_after ys at old) × (out ≡ put_at ys at old)
-same_word xs ys at old r out e p = (p.0 ∙ ap (λ (x : List ℕ). place_after x at old) e, p.1 ∙ ap (λ (x : List ℕ). put_at x at old) e)
-
 -- ---- a station that isn't live
 abbrev pub condition_word : Bool → List ℕ
 condition_word waiting = if waiting then waiting_word else down_word
-
-pub condition_waiting : (w : Bool) → w ≡ true → waiting_word ≡ condition_word w
-condition_waiting w e = rw e
-
-pub condition_down : (w : Bool) → w ≡ false → down_word ≡ condition_word w
-condition_down w e = rw e
 
 pub still_whole : (s : ℕ) (w : Bool) → (([] ++ station_word) ++ digits s) ++ condition_word w ≡ still_text s w
 unfolding still_text
@@ -86,12 +74,6 @@ unfolding lowest_text
 lowest_few l h = lowest_few_by (eqb l 255) l h
 
 -- ---- a station's line
-pub shown_working : (x : ℕ) → x ≡ 1 → working_word ≡ station_shown x
-shown_working x e = simp (eq-eqb x 1 e)
-
-pub shown_unreachable : (x : ℕ) → (x ≡ 1 → ⊥) → unreachable_word ≡ station_shown x
-shown_unreachable x h = simp (ne_eqb x 1 h)
-
 shown_few : (b : Bool) → length (if b then working_word else unreachable_word) ≤ 13
 shown_few true = omega arith
 shown_few false = omega arith
@@ -105,15 +87,6 @@ unfolding seen_text
 seen_few t x h = simp length-append (omega (arith, byte_digits t h, shown_few (eqb x 1)))
 
 -- ---- a link's line
-pub link_perceived : (x : ℕ) → x ≡ 0 → perceived_word ≡ link_shown x
-link_perceived x e = simp (eq-eqb x 0 e)
-
-pub link_working_lem : (x : ℕ) → (x ≡ 0 → ⊥) → x ≡ 1 → link_working ≡ link_shown x
-link_working_lem x h e = simp (ne_eqb x 0 h, eq-eqb x 1 e)
-
-pub link_unresponsive : (x : ℕ) → (x ≡ 0 → ⊥) → (x ≡ 1 → ⊥) → unresponsive_word ≡ link_shown x
-link_unresponsive x h l = simp (ne_eqb x 0 h, ne_eqb x 1 l)
-
 link_shown_few : (a b : Bool) → length (if a then perceived_word else (if b then link_working else unresponsive_word)) ≤ 24
 link_shown_few true b = omega arith
 link_shown_few false true = omega arith
@@ -128,3 +101,10 @@ pub link_few : (k low high x : ℕ) → k < 256 → low < 256 → high < 256 →
 unfolding link_text
 link_few k low high x a b c =
     simp length-append (omega (arith, byte_digits k a, byte_digits low b, byte_digits high c, link_shown_few (eqb x 0) (eqb x 1)))
+
+-- ---- the report's lines, by its bytes
+abbrev pub station_by : List ℕ → ℕ → List ℕ
+station_by seen t = seen_text t (get_or seen t 0)
+
+abbrev pub link_by : List ℕ → List ℕ → List ℕ → ℕ → ℕ → List ℕ
+link_by low high seen n k = link_text k (get_or low k 0) (get_or high k 0) (get_or seen (n + k) 0)
