@@ -1,5 +1,4 @@
 -- What the loops leave that go through a room from its front, when they have come to its end.
-use Rattle.std.specs.Prelude.{if◌then◌else◌}
 use Prim.Native.Nat.{ℕ, zero, suc, ◌+◌, ◌-◌, ◌*◌, ◌/◌, ◌%◌, ◌≤◌, ◌<◌, min}
 use mathlib.Core.Path.{◌≡◌, refl, sym, ap, ap₂, ◌∙◌}
 use mathlib.Core.List.{List, ◌++◌, map, append-nil}
@@ -9,7 +8,7 @@ use borrow.Author.Tests.{eq-eqb, ne_eqb}
 use lib.Dec.{eqb}
 use lib.ListN.{length, get_or, set, drop, replicate, length-replicate, get_or-replicate, length-set}
 use lib.Seq.{drop-length, set-get_or, get_or-set_same, get_or-set_other, ext_get_or}
-use Rattle.lists.specs.Lists.{below, filled}
+use Rattle.lists.specs.Lists.{if◌then◌else◌, below, filled}
 use Rattle.lists.specs.Places.{roomed}
 use Rattle.lists.proofs.Fill.{filled_more, filled_rest}
 use Rattle.lists.proofs.Numbers.{length_map_below, get_or_map_below}

@@ -129,6 +129,7 @@ pub fn table_at(tables: &[u16], i: u8) -> Counters
     table
 }
 
+#[tactic(auto, unfolding(station::specs::Values::blank))]
 fn no_station() -> Station
     ensures { result ≡ blank }
 {
