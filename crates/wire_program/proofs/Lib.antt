@@ -4,4 +4,3 @@ pub mod Rooms
 pub mod Puts
 mod Written
 mod LetterLineWritten
-pub mod Lined

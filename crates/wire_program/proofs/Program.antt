@@ -1,7 +1,7 @@
 -- THE WIRE PROGRAM: whatever the pieces that standard input comes in, its calls print, in all, exactly what specs/Wire.antt says of the
 -- file and of the whole input.
 use Rattle.std.specs.Prelude.{if◌then◌else◌}
-use Prim.Native.Nat.{ℕ, ◌+◌}
+use Prim.Native.Nat.{ℕ}
 use mathlib.Core.Bool.{Bool}
 use mathlib.Core.Path.{◌≡◌, refl, sym, ap, ap₂, ◌∙◌}
 use mathlib.Core.List.{List, [], ◌∷◌, ◌++◌, map, append-nil}
