@@ -11,7 +11,8 @@ use Rattle.station.specs.declared.Condition.{Condition}
 use Rattle.station.specs.declared.Kind.{Kind}
 use Rattle.station.specs.declared.Kind.TheVariants.{NoSuch, Start, Stop, Recovery, IntervalEnd, TimeoutEnd, QuietEnd, Loss}
 use Rattle.station.specs.Holding.{is_down}
-use Rattle.station.specs.Acts.{the_link, on_link, kept, nothing, requests, act, may_end, interval_tests, interval_marks, stop_act, interval_act}
+use Rattle.station.specs.Acts.{the_link, on_link, kept, nothing, requests}
+use Rattle.station.specs.Acts.{act, may_end, interval_tests, interval_marks, stop_act, interval_act}
 use Rattle.station.specs.Acts.{quiet_act}
 use Rattle.station.specs.Events.{counting, is_notice, Due, refusing, due_of}
 use Rattle.station.proofs.Laid.{Fit}

@@ -44,6 +44,7 @@ module _ (own k c settled : ℕ) (x : Condition) (w : Words) where
     letter_drops r t q = q ∙ drops_is said t ∙ by_answer
 
     pub letter_does : (e : Effect) (r : Plan) → said ≡ Does e
-        → r ≡ done_plan own w (effect_act x k c e) (counting settled (raised_effect c e) 0) → r ≡ event_plan true Delivery own s k l c told x w
+        → r ≡ done_plan own w (effect_act x k c e) (counting settled (raised_effect c e) 0)
+        → r ≡ event_plan true Delivery own s k l c told x w
     unfolding due_of
     letter_does e r p q = q ∙ ap (heard_plan settled) (sym p) ∙ by_answer

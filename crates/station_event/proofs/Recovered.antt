@@ -41,7 +41,8 @@ token_bit true false false x a q = refl
 token_bit false true u x a q = refl
 token_bit false false u x a q = refl
 
-turn_bit : (o k u x a q : Bool) → ((u && not (o && not k)) || ((o && not k) && not u)) ≡ (if o then interval_marks (five k u x a q) else five
+turn_bit : (o k u x a q : Bool) → ((u && not (o && not k)) || ((o && not k) && not u))
+    ≡ (if o then interval_marks (five k u x a q) else five
     k u x a q).turn
 unfolding five
 turn_bit true true true x a q = refl

@@ -19,7 +19,8 @@ use Rattle.station.specs.declared.Kind.{Kind}
 use Rattle.station.specs.declared.Kind.TheVariants.{Start, Stop, Recovery, IntervalEnd, TimeoutEnd, QuietEnd}
 use Rattle.station.specs.Holding.{no_marks, set_token, set_quiet, is_down, is_waiting}
 use Rattle.station.specs.Acts.{all_own, other_own, on_link, kept, sets, nothing, notices, Act, act, is_open}
-use Rattle.station.specs.Acts.{may_end, interval_marks, interval_tests, test_ended, start_act, stop_act, recovery_act, interval_act, timeout_act}
+use Rattle.station.specs.Acts.{may_end, interval_marks, interval_tests, test_ended}
+use Rattle.station.specs.Acts.{start_act, stop_act, recovery_act, interval_act, timeout_act}
 use Rattle.station.specs.Events.{counting, Rule, rule_of, due_of}
 use Rattle.station.specs.Values.{no_words}
 use Rattle.station_plan.specs.declared.Plan.{Plan}
@@ -107,7 +108,8 @@ module _ (x : Condition) (w : Words) where
           go t false = zero_is_out 0 t (none_in t)
 
       asked : (tests : Bool) → interval_tests (marks_at w k) ≡ tests
-          → turns x (words_with w k (interval_marks (marks_at w k))) (putting 0 k tests) false ≡ done_plan 0 w (interval_act x k (marks_at w k))
+          → turns x (words_with w k (interval_marks (marks_at w k))) (putting 0 k tests) false
+          ≡ done_plan 0 w (interval_act x k (marks_at w k))
           (counting 0 0 0)
       asked true e = rw e refl
       asked false e = rw e (ap (λ (n : ℕ). turns x (words_with w k (interval_marks (marks_at w k))) n false) nothing_put)
