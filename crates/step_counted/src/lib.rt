@@ -15,6 +15,10 @@ use tally::Tally;
 pub fn step_counted(t: &mut Tally, s: State, kind: u32, a: u32, b: u32) -> Stepped
     ensures { (result ≡ stepped_of s kind a b) × (t.new ≡ tallied_by (stepped_of s kind a b) t.old) }
 {
+    // read for the proof alone: each of the lent counts has 64 bits
+    let _settled = t.settled;
+    let _raised = t.raised;
+    let _dropped = t.dropped;
     let r = step::step(s, kind, a, b);
     tally::add(t, r.counts);
     r
