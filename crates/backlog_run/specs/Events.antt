@@ -1,6 +1,5 @@
 -- What the private steps of the code answer.
-use Rattle.std.specs.Prelude.{ℕ, ◌+◌, ◌*◌, ◌/◌, ◌%◌, ◌≤◌, Bool, true, false, ◌≡◌, List, eqb, leb, length, get_or}
-use Rattle.lists.specs.Lists.{if◌then◌else◌}
+use Rattle.std.specs.Prelude.{ℕ, ◌+◌, ◌*◌, ◌/◌, ◌%◌, ◌≤◌, Bool, true, false, ◌≡◌, List, eqb, leb, length, get_or, if◌then◌else◌}
 use Rattle.tally.specs.declared.Tally.{Tally}
 use Rattle.station.specs.Events.{kind_of}
 use Rattle.state.specs.declared.State.{State}

@@ -56,17 +56,17 @@ module _ (net : Net) (bytes : List ℕ) where
   read_short good p = sym (reads good ∙ ap (letter_from (network_of net)) p)
 
   module _ (good : net_holds net ≡ true) (tag n : ℕ) (s : Seen bytes tag n) where
-    judged-by : (f : Form) → form_of tag (take n (drop 3 bytes)) ≡ f
+    judged_by : (f : Form) → form_of tag (take n (drop 3 bytes)) ≡ f
         → reading net bytes
         ≡ judged (network_of net) (get_or (take n (drop 3 bytes)) 0 0) (get_or (take n (drop 3 bytes)) 1 0) f (drop (3 + n) bytes)
-    judged-by f q =
+    judged_by f q =
         reads good ∙ ap (letter_from (network_of net)) s.cut
         ∙ ap (λ (x : Form). judged (network_of net) (get_or (take n (drop 3 bytes)) 0 0) (get_or (take n (drop 3 bytes)) 1 0) x
         (drop (3 + n) bytes)) q
 
     pub read_unknown : (f : Shape) → form_in f ≡ form_of tag (take n (drop 3 bytes)) → f ≡ Unknown → refused 2 ≡ reading net bytes
     unfolding judged
-    read_unknown f q u = sym (judged-by unknown (sym q ∙ ap form_in u))
+    read_unknown f q u = sym (judged_by unknown (sym q ∙ ap form_in u))
 
 -- what the calls before a field's values answered makes it
 pub formed : (net : Net) (bytes : List ℕ) (tag n : ℕ) (body : Body) → true ≡ net_holds net
@@ -92,7 +92,7 @@ module _ {net : Net} {bytes : List ℕ} {tag n : ℕ} {body : Body} (known : For
 
   judges : reading net bytes ≡ judged N k side (says body) (drop (3 + n) bytes)
   judges =
-      judged-by net bytes known.good tag n known.cut (says body) known.form
+      judged_by net bytes known.good tag n known.cut (says body) known.form
       ∙ ap₂ (λ (x y : ℕ). judged N x y (says body) (drop (3 + n) bytes))
       (value_at bytes n 0 (omega (arith, known.cut.size, shape.size)))
       (value_at bytes n 1 (omega (arith, known.cut.size, shape.size)))

@@ -180,10 +180,10 @@ pub writes_bytes : (net : Network) (x : Letter) → T (sheet_holds net) → T (l
 unfolding write_letter letter_holds
 writes_bytes net x good t =
     subst⁻¹ (λ (l : List ℕ). T (are_bytes l)) (bytes_are k side x.body)
-    (field_bytes (tag_of x.body) (k ∷ side ∷ payload x.body) (tag_small x.body) (payload-small x.body)
+    (field_bytes (tag_of x.body) (k ∷ side ∷ payload x.body) (tag_small x.body) (payload_small x.body)
     (and_i (ltb k 256) _ (lt→ltb k 256 (omega (arith, few, ltb→lt k m (and_l a e u))))
     (and_i (ltb side 256) _ (lt→ltb side 256 (omega (arith, leb→le side 1 (side_small net k x.sender))))
-    (payload-bytes x.body (and_r (a && e) (body_holds net x.body) t)))))
+    (payload_bytes x.body (and_r (a && e) (body_holds net x.body) t)))))
   where
     k : ℕ
     k = x.link
@@ -211,10 +211,10 @@ writes_bytes net x good t =
     tag_small (Reply c) = omega arith
     tag_small (Notice s c) = omega arith
 
-    payload-small : (b : Body) → length (k ∷ side ∷ payload b) ≤ longest_value
-    payload-small Request = omega arith
-    payload-small (Reply c) = omega arith
-    payload-small (Notice s c) = omega arith
+    payload_small : (b : Body) → length (k ∷ side ∷ payload b) ≤ longest_value
+    payload_small Request = omega arith
+    payload_small (Reply c) = omega arith
+    payload_small (Notice s c) = omega arith
 
     two_bytes : (c : ℕ) → T (is_counter c) → T (are_bytes (c / 256 ∷ c % 256 ∷ []))
     two_bytes c h =
@@ -222,10 +222,10 @@ writes_bytes net x good t =
         and_i (ltb (c / 256) 256) _ (lt→ltb (c / 256) 256 (omega arith))
         (and_i (ltb (c % 256) 256) _ (lt→ltb (c % 256) 256 (omega arith)) tt)
 
-    payload-bytes : (b : Body) → T (body_holds net b) → T (are_bytes (payload b))
-    payload-bytes Request h = tt
-    payload-bytes (Reply c) h = two_bytes c h
-    payload-bytes (Notice s c) h =
+    payload_bytes : (b : Body) → T (body_holds net b) → T (are_bytes (payload b))
+    payload_bytes Request h = tt
+    payload_bytes (Reply c) h = two_bytes c h
+    payload_bytes (Notice s c) h =
         and_i (ltb s 256) _ (lt→ltb s 256 (omega (arith, few, ltb→lt s m (and_l (ltb s m) _ h)))) (two_bytes c (and_r (ltb s m) _ h))
 
 -- ---- the same for a network value, as the code is given one

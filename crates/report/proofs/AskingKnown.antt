@@ -1,4 +1,5 @@
 -- What the two calls know of the state: the number that they decide, and that what they read in it is what the world has.
+use Rattle.std.specs.Prelude.{if◌then◌else◌}
 use Prim.Native.Nat.{ℕ, ◌<◌}
 use mathlib.Core.Bool.{Bool, true, false, not}
 use mathlib.Core.Path.{◌≡◌, refl, sym, ap, ◌∙◌}
@@ -6,7 +7,6 @@ use native.Mathlib.Decide.{dec_lt}
 use native.Mathlib.Omega.{arith}
 use borrow.Author.Tests.{lt-ltb, le-ltb}
 use lib.Dec.{T, ltb}
-use Rattle.lists.specs.Lists.{if◌then◌else◌}
 use Rattle.lists.proofs.Tests.{is_T}
 use Rattle.net.specs.Network.{Network}
 use Rattle.net.specs.Values.{network_of}
@@ -39,19 +39,19 @@ module _ (s : State) (z : Sized s) (t : T (state_holds s)) where
     me_is h = pe ∙ ap (λ (b : Bool). if b then a else 0) (lt-ltb a station_room (omega (arith, M.few s z t)))
 
     module _ (h : a < s.net.stations) where
-      holding-is : holding_at w a ≡ holding_of s.net (station_in s me)
-      holding-is = M.world_holding s z t a h ∙ ap (λ (k : ℕ). holding_of s.net (station_in s k)) (sym (me_is h))
+      holding_is : holding_at w a ≡ holding_of s.net (station_in s me)
+      holding_is = M.world_holding s z t a h ∙ ap (λ (k : ℕ). holding_of s.net (station_in s k)) (sym (me_is h))
 
       pub condition_is : (holding_at w a).condition ≡ (station_in s me).condition
-      condition_is = ap (λ (x : Holding). x.condition) holding-is ∙ condition_of s.net (station_in s me)
+      condition_is = ap (λ (x : Holding). x.condition) holding_is ∙ condition_of s.net (station_in s me)
 
       pub table_is : (holding_at w a).table ≡ table_of s.net (station_in s me).counters
-      table_is = ap (λ (x : Holding). x.table) holding-is ∙ table_of_lem s.net (station_in s me)
+      table_is = ap (λ (x : Holding). x.table) holding_is ∙ table_of_lem s.net (station_in s me)
 
     -- the world's number, as the code decides it
-    ask-is : number_by true s.net.stations a (station_in s me).condition ≡ ask_refusal w a
+    ask_is : number_by true s.net.stations a (station_in s me).condition ≡ ask_refusal w a
     unfolding ask_refusal
-    ask-is =
+    ask_is =
         go (dec_lt a s.net.stations) ∙ ap (λ (n : ℕ). if not (ltb a n) then 6
         else (if not (is_live (holding_at w a).condition) then 7 else 0)) (sym world_stations)
       where
@@ -83,7 +83,7 @@ module _ {s : State} {a : ℕ} {good : Bool} {me number : ℕ} (r : Read s a goo
       go : (b : Bool) → good ≡ b → number_by good s.net.stations a
           (station_in s me).condition ≡ (if state_holds s then ask_refusal (world_of s) a else 11)
       go true p =
-          ap (λ (b : Bool). number_by b s.net.stations a (station_in s me).condition) p ∙ ask-is s (r.sized p) (holds p) a me r.place
+          ap (λ (b : Bool). number_by b s.net.stations a (station_in s me).condition) p ∙ ask_is s (r.sized p) (holds p) a me r.place
           ∙ ap (λ (b : Bool). if b then ask_refusal (world_of s) a else 11) (sym p ∙ r.tested)
       go false p =
           ap (λ (b : Bool). number_by b s.net.stations a (station_in s me).condition) p

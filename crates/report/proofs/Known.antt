@@ -1,4 +1,5 @@
 -- That the reach by the table that the call reads is the reach in the world, or that its number refuses it.
+use Rattle.std.specs.Prelude.{if◌then◌else◌}
 use Prim.Native.Nat.{ℕ, ◌<◌}
 use mathlib.Core.Bool.{Bool}
 use mathlib.Core.Path.{◌≡◌, sym, ap, ap₂, ◌∙◌}
@@ -6,7 +7,6 @@ use mathlib.Core.List.{List}
 use native.Mathlib.Decide.{ℕ_discrete}
 use borrow.Author.Tests.{eq-eqb, ne_eqb}
 use lib.Dec.{T, eqb}
-use Rattle.lists.specs.Lists.{if◌then◌else◌}
 use Rattle.lists.specs.Words.{in_word, word_of}
 use Rattle.net.specs.Network.{Network}
 use Rattle.reach.specs.Reach.{works_in, reach, count_of, lowest_of}

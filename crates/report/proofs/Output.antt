@@ -115,8 +115,8 @@ module _ (net : Net) (works : ℕ → Bool) (s : ℕ) where
       rest : drop n one ≡ drop n old
       rest = ap (drop n) p ∙ drop_at front (drop n old) n (length_map_below (bit_at word) n)
 
-      part-is : part ≡ back ++ drop (n + m) old
-      part-is =
+      part_is : part ≡ back ++ drop (n + m) old
+      part_is =
           q ∙ ap (λ (l : List ℕ). back ++ drop m l) (take_all (length one - n) (drop n one) (omega (arith, length-drop n one)) ∙ rest)
           ∙ ap (λ (l : List ℕ). back ++ l) (drop-drop m n old)
 
@@ -126,7 +126,7 @@ module _ (net : Net) (works : ℕ → Bool) (s : ℕ) where
       two_is : two ≡ (front ++ back) ++ drop (n + m) old
       two_is =
           w ∙ ap₂ (λ (x y : List ℕ). x ++ y) (ap (take n) p ∙ take_at front (drop n old) n (length_map_below (bit_at word) n))
-          (ap₂ (λ (x y : List ℕ). x ++ y) part-is none_left ∙ append-nil (back ++ drop (n + m) old))
+          (ap₂ (λ (x y : List ℕ). x ++ y) part_is none_left ∙ append-nil (back ++ drop (n + m) old))
           ∙ sym (append_assoc front back (drop (n + m) old))
 
       bytes_are : front ++ back ≡ report_in net works s

@@ -1,5 +1,6 @@
 -- Each number that says no to the reach and to the report alike, when and only when document 01's list says, in the words of the
 -- state that is asked. For every state and station; the report's own 10: ReportsRefusals.antt.
+use Rattle.std.specs.Prelude.{if◌then◌else◌}
 use Prim.Native.Nat.{ℕ, ◌≤◌, ◌<◌}
 use mathlib.Core.Bool.{Bool, not, ◌&&◌}
 use mathlib.Core.Path.{◌≡◌, refl, sym, ap, ◌∙◌, subst, subst⁻¹}
@@ -10,8 +11,7 @@ use borrow.Author.Tests.{lt-ltb, le-ltb}
 use lib.Dec.{T, leb, ltb, ltb→lt}
 use lib.ListN.{length, get_or, take, length-map, length-take, get_or-map, get_or-eq_default}
 use lib.Seq.{get_or-take, take-nil}
-use Rattle.lists.specs.Lists.{if◌then◌else◌}
-use Rattle.lists.proofs.Tests.{T_is, T_not_is, is_T, and_l, if-elim}
+use Rattle.lists.proofs.Tests.{T_is, T_not_is, is_T, and_l, if_elim}
 use Rattle.lists.proofs.Fill.{get_d_any}
 use Rattle.net.specs.Network.{Network}
 use Rattle.net.specs.Values.{network_of, link_count}
@@ -73,17 +73,17 @@ module _ (s : State) where
     condition_is = seen (λ x. x.condition) refl
 
   module _ (t : T (state_holds s)) where
-    good-net : T (net_holds s.net)
+    good_net : T (net_holds s.net)
     unfolding state_holds
-    good-net =
+    good_net =
         and_l (net_holds s.net) (leb s.flying letter_room)
         (and_l (net_holds s.net && leb s.flying letter_room) (stations_hold s && letters_hold s) t)
 
     pub stations_are : (network_of s.net).stations ≡ s.net.stations
-    stations_are = Good.stations_are s.net good-net
+    stations_are = Good.stations_are s.net good_net
 
     pub links_are : length (network_of s.net).links ≡ s.net.links
-    links_are = Good.links_are s.net good-net
+    links_are = Good.links_are s.net good_net
 
 -- ---- 11, 6 and 7, which the reach and the report share
 module _ (s : State) (a : ℕ) where
@@ -100,13 +100,13 @@ module _ (s : State) (a : ℕ) where
     world_stations : stations ≡ s.net.stations
     world_stations = ap (λ (n : Network). n.stations) (net_is s) ∙ stations_are s g
 
-    condition-at : a < s.net.stations → (holding_at (world_of s) a).condition ≡ (station_in s a).condition
-    condition-at h = condition_is s a (omega (arith, stations_are s g))
+    condition_at : a < s.net.stations → (holding_at (world_of s) a).condition ≡ (station_in s a).condition
+    condition_at h = condition_is s a (omega (arith, stations_are s g))
 
     told : {n : ℕ} → W.AskWhy (world_of s) a n → Why n
     told (W.none x y) =
         let h : a < s.net.stations = omega (arith, ltb→lt a stations x, world_stations) in
-        none (record { good = g; station = h; live = subst (λ (c : Condition). T (is_live c)) (condition-at h) y })
+        none (record { good = g; station = h; live = subst (λ (c : Condition). T (is_live c)) (condition_at h) y })
     told (W.six x) = six g (le_of (dec_lt a s.net.stations))
       where
         le_of : Dec (a < s.net.stations) → s.net.stations ≤ a
@@ -114,30 +114,30 @@ module _ (s : State) (a : ℕ) where
         le_of (no h) = omega arith
     told (W.seven x y) =
         let h : a < s.net.stations = omega (arith, ltb→lt a stations x, world_stations) in
-        seven g h (subst (λ (c : Condition). T (not (is_live c))) (condition-at h) y)
+        seven g h (subst (λ (c : Condition). T (not (is_live c))) (condition_at h) y)
 
     good_number : {n : ℕ} → W.AskWhy (world_of s) a n → number_of s a ≡ n
     unfolding number_of
     good_number x = ap (λ (b : Bool). if b then ask_refusal (world_of s) a else 11) (T_is (state_holds s) g) ∙ W.why_ask (world_of s) a x
 
-    is-there : a < s.net.stations → T (ltb a (world_of s).net.stations)
-    is-there h = is_T _ (lt-ltb a stations (omega (arith, world_stations)))
+    is_there : a < s.net.stations → T (ltb a (world_of s).net.stations)
+    is_there h = is_T _ (lt-ltb a stations (omega (arith, world_stations)))
 
   -- only then: the number is given for its reason
   pub number_why : Why (number_of s a)
   unfolding number_of
-  number_why = if-elim Why (state_holds s) (λ g. told g (W.ask_why (world_of s) a)) eleven
+  number_why = if_elim Why (state_holds s) (λ g. told g (W.ask_why (world_of s) a)) eleven
 
   -- when: where the reason stands, the number is given
   pub why_number : {n : ℕ} → Why n → number_of s a ≡ n
   unfolding number_of
   why_number (none k) =
-      good_number k.good (W.none (is-there k.good k.station)
-      (subst⁻¹ (λ (c : Condition). T (is_live c)) (condition-at k.good k.station) k.live))
+      good_number k.good (W.none (is_there k.good k.station)
+      (subst⁻¹ (λ (c : Condition). T (is_live c)) (condition_at k.good k.station) k.live))
   why_number (eleven x) = ap (λ (b : Bool). if b then ask_refusal (world_of s) a else 11) (T_not_is (state_holds s) x)
   why_number (six g h) =
       good_number g (W.six (subst⁻¹ (λ (b : Bool). T (not b)) (le-ltb a stations (omega (arith, world_stations g))) tt))
-  why_number (seven g h x) = good_number g (W.seven (is-there g h) (subst⁻¹ (λ (c : Condition). T (not (is_live c))) (condition-at g h) x))
+  why_number (seven g h x) = good_number g (W.seven (is_there g h) (subst⁻¹ (λ (c : Condition). T (not (is_live c))) (condition_at g h) x))
 
   pub asks : number_of s a ≡ 0 → Asks s a
   asks q = go number_why q

@@ -63,14 +63,14 @@ module _ (s : State) (a : ℕ) (old : List ℕ) where
     table : (holding_at (world_of s) a).table ≡ own_table s a
     table = table_is s a (omega (arith, stations, ask.station))
 
-    out-is : out ≡ new ++ drop (size s) old
-    out-is = written_is s a old ask fits ∙ ap (λ (n : ℕ). new ++ drop n old) long
+    out_is : out ≡ new ++ drop (size s) old
+    out_is = written_is s a old ask fits ∙ ap (λ (n : ℕ). new ++ drop n old) long
 
     byte : (i : ℕ) → i < size s → get_or new i 0 ≡ get_or out i 0
-    byte i h = sym (ap (λ (l : List ℕ). get_or l i 0) out-is ∙ get_or-append new (drop (size s) old) 0 i (omega (arith, long)))
+    byte i h = sym (ap (λ (l : List ℕ). get_or l i 0) out_is ∙ get_or-append new (drop (size s) old) 0 i (omega (arith, long)))
 
-    link-byte : (j : ℕ) → j < s.net.links → get_or new ((network_of s.net).stations + j) 0 ≡ get_or out (s.net.stations + j) 0
-    link-byte j h = ap (λ (n : ℕ). get_or new (n + j) 0) stations ∙ byte (s.net.stations + j) (omega arith)
+    link_byte : (j : ℕ) → j < s.net.links → get_or new ((network_of s.net).stations + j) 0 ≡ get_or out (s.net.stations + j) 0
+    link_byte j h = ap (λ (n : ℕ). get_or new (n + j) 0) stations ∙ byte (s.net.stations + j) (omega arith)
 
     -- what holds of the world's network and table holds of the state's
     here : (P : Network → List ℕ → Type 0) → P (world_of s).net (holding_at (world_of s) a).table → P (network_of s.net) (own_table s a)
@@ -83,8 +83,8 @@ module _ (s : State) (a : ℕ) (old : List ℕ) where
     station_in_lem : (t : ℕ) → t < s.net.stations → t < (world_of s).net.stations
     station_in_lem t h = subst⁻¹ (λ (n : Network). t < n.stations) (net_is s) (omega (arith, stations))
 
-    link-in : (j : ℕ) → j < s.net.links → j < length (world_of s).net.links
-    link-in j h = subst⁻¹ (λ (n : Network). j < length n.links) (net_is s) (omega (arith, links_are s ask.good))
+    link_in : (j : ℕ) → j < s.net.links → j < length (world_of s).net.links
+    link_in j h = subst⁻¹ (λ (n : Network). j < length n.links) (net_is s) (omega (arith, links_are s ask.good))
 
     -- THE BYTES OF AN ACCEPTED REPORT SAY WHAT DOCUMENT 01 SAYS, station by station and link by link
     pub shown : Shown s a old out
@@ -96,16 +96,16 @@ module _ (s : State) (a : ℕ) (old : List ℕ) where
           subst (λ (v : ℕ). (v ≡ 0) ↔ (PathTo s a t → ⊥)) (byte t (omega arith))
           (here (λ n l. (get_or new t 0 ≡ 0) ↔ (Reaches n (works_in l) a t → ⊥)) (R.shown_unreachable (world_of s) a t (station_in_lem t h)));
       link_unreachable = λ j h.
-          subst (λ (v : ℕ). (v ≡ 0) ↔ (EndReached s a j → ⊥)) (link-byte j h)
-          (here (λ n l. (get_or new (n.stations + j) 0 ≡ 0) ↔ (Ends n l j → ⊥)) (R.link_unreachable (world_of s) a j (link-in j h)));
+          subst (λ (v : ℕ). (v ≡ 0) ↔ (EndReached s a j → ⊥)) (link_byte j h)
+          (here (λ n l. (get_or new (n.stations + j) 0 ≡ 0) ↔ (Ends n l j → ⊥)) (R.link_unreachable (world_of s) a j (link_in j h)));
       link_working_lem = λ j h.
-          subst (λ (v : ℕ). (v ≡ 1) ↔ (EndReached s a j × T (even (counter_in (own_table s a) j)))) (link-byte j h)
+          subst (λ (v : ℕ). (v ≡ 1) ↔ (EndReached s a j × T (even (counter_in (own_table s a) j)))) (link_byte j h)
           (here (λ n l. (get_or new (n.stations + j) 0 ≡ 1) ↔ (Ends n l j × T (even (counter_in l j))))
-          (R.link_working_lem (world_of s) a j (link-in j h)));
+          (R.link_working_lem (world_of s) a j (link_in j h)));
       link_unresponsive = λ j h.
-          subst (λ (v : ℕ). (v ≡ 2) ↔ (EndReached s a j × T (odd (counter_in (own_table s a) j)))) (link-byte j h)
+          subst (λ (v : ℕ). (v ≡ 2) ↔ (EndReached s a j × T (odd (counter_in (own_table s a) j)))) (link_byte j h)
           (here (λ n l. (get_or new (n.stations + j) 0 ≡ 2) ↔ (Ends n l j × T (odd (counter_in l j))))
-          (R.link_unresponsive (world_of s) a j (link-in j h)));
-      tail = ap (drop (size s)) out-is ∙ drop_at new (drop (size s) old) (size s) long;
-      as_long = ap length out-is ∙ length-append new (drop (size s) old) ∙ omega (arith, long, fits, length-drop (size s) old);
+          (R.link_unresponsive (world_of s) a j (link_in j h)));
+      tail = ap (drop (size s)) out_is ∙ drop_at new (drop (size s) old) (size s) long;
+      as_long = ap length out_is ∙ length-append new (drop (size s) old) ∙ omega (arith, long, fits, length-drop (size s) old);
     }

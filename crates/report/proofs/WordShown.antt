@@ -1,5 +1,6 @@
 -- What an accepted reach says: its word's bits say which stations a path leads to, and its two numbers are the word's. For every
 -- state and station. That the report's bytes are the word's bits: SameBits.antt.
+use Rattle.std.specs.Prelude.{if◌then◌else◌}
 use Prim.Native.Nat.{ℕ, ◌<◌}
 use mathlib.Core.Bool.{Bool}
 use mathlib.Core.Path.{◌≡◌, sym, ap, ap₂, ◌∙◌, subst, subst⁻¹}
@@ -8,7 +9,6 @@ use mathlib.Core.List.{List}
 use native.Mathlib.Decide.{ℕ_discrete}
 use native.Mathlib.Omega.{arith}
 use borrow.Author.Tests.{eq-eqb, ne_eqb}
-use Rattle.lists.specs.Lists.{if◌then◌else◌}
 use Rattle.lists.specs.Words.{bit_at, word_of}
 use Rattle.net.specs.Network.{Network}
 use Rattle.net.specs.Values.{network_of}
@@ -97,8 +97,8 @@ module _ (s : State) (a : ℕ) where
         subst (λ (l : List ℕ). Reaches (network_of s.net) (works_in l) a t) table
         (subst (λ (n : Network). Reaches n (works_in (holding_at (world_of s) a).table) a t) (net_is s) r)
 
-    path-back : (t : ℕ) → PathTo s a t → R.ReachesIn (world_of s) a t
-    path-back t r =
+    path_back : (t : ℕ) → PathTo s a t → R.ReachesIn (world_of s) a t
+    path_back t r =
         subst⁻¹ (λ (n : Network). Reaches n (works_in (holding_at (world_of s) a).table) a t) (net_is s)
         (subst⁻¹ (λ (l : List ℕ). Reaches (network_of s.net) (works_in l) a t) table r)
 
@@ -112,7 +112,7 @@ module _ (s : State) (a : ℕ) where
         (λ p. inl (p.0, λ t h. path t (p.1 t (omega (arith, stations)))))
         (λ p. inr (record {
           station = omega (arith, p.station, stations);
-          missed = λ r. p.missed (path-back _ r);
+          missed = λ r. p.missed (path_back _ r);
           lower = λ t h. path t
               (p.lower t h);
         }))

@@ -1,6 +1,5 @@
 -- What the call answers, in the world's words: the reach. Document 01, "The numbers that say no".
-use Rattle.std.specs.Prelude.{ℕ, Bool, eqb}
-use Rattle.lists.specs.Lists.{if◌then◌else◌}
+use Rattle.std.specs.Prelude.{ℕ, Bool, eqb, if◌then◌else◌}
 use Rattle.net.specs.declared.Net.{Net}
 use Rattle.reach.specs.declared.Reached.{Reached}
 use Rattle.reach.specs.ShowingValues.{reached_of}

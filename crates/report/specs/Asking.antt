@@ -1,7 +1,6 @@
 -- The number that refuses whoever asks a station, in the world's words, and what the steps of the code answer. Document 01, "The
 -- numbers that say no".
-use Rattle.std.specs.Prelude.{ℕ, Bool, ltb}
-use Rattle.lists.specs.Lists.{if◌then◌else◌}
+use Rattle.std.specs.Prelude.{ℕ, Bool, ltb, if◌then◌else◌}
 use Rattle.station.specs.declared.Condition.{Condition}
 use Rattle.station.specs.Holding.{is_live}
 use Rattle.world.specs.World.{ask_refusal}

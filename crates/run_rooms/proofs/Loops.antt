@@ -1,4 +1,5 @@
 -- What the loops leave that go through a room from its front, when they have come to its end.
+use Rattle.std.specs.Prelude.{if◌then◌else◌}
 use Prim.Native.Nat.{ℕ, zero, suc, ◌+◌, ◌-◌, ◌*◌, ◌/◌, ◌%◌, ◌≤◌, ◌<◌, min}
 use mathlib.Core.Path.{◌≡◌, refl, sym, ap, ap₂, ◌∙◌}
 use mathlib.Core.List.{List, ◌++◌, map, append-nil}
@@ -8,7 +9,7 @@ use borrow.Author.Tests.{eq-eqb, ne_eqb}
 use lib.Dec.{eqb}
 use lib.ListN.{length, get_or, set, drop, replicate, length-replicate, get_or-replicate, length-set}
 use lib.Seq.{drop-length, set-get_or, get_or-set_same, get_or-set_other, ext_get_or}
-use Rattle.lists.specs.Lists.{if◌then◌else◌, below, filled}
+use Rattle.lists.specs.Lists.{below, filled}
 use Rattle.lists.specs.Places.{roomed}
 use Rattle.lists.proofs.Fill.{filled_more, filled_rest}
 use Rattle.lists.proofs.Numbers.{length_map_below, get_or_map_below}
@@ -110,10 +111,10 @@ module _ {old table : List ℕ} {first : ℕ} {l : List ℕ} {k : ℕ} (t : Tabl
           ap (λ (n : ℕ). get_or (set l (first + k) (get_or table k 0)) (first + n) 0) e
           ∙ get_or-set_same l (first + k) (get_or table k 0) 0 (omega (arith, h, t.size)) ∙ ap (λ (n : ℕ). get_or table n 0) (sym e)
       go m i (no n) =
-          get_or-set_other l (first + k) (first + m) (get_or table k 0) 0 (other m n) ∙ t.inside m (below-it (λ e. n e))
+          get_or-set_other l (first + k) (first + m) (get_or table k 0) 0 (other m n) ∙ t.inside m (below_it (λ e. n e))
         where
-          below-it : (m ≡ k → ⊥) → m < k
-          below-it d = omega (arith, i, d)
+          below_it : (m ≡ k → ⊥) → m < k
+          below_it d = omega (arith, i, d)
 
 pub tables_end : {old table : List ℕ} {first : ℕ} {l : List ℕ} {k : ℕ} → Tabling old table first l k → (i : ℕ) → first ≡ link_room * i
     → k ≡ min link_room (length old - first) → l ≡ with_table old i table

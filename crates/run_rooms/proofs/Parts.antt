@@ -1,4 +1,5 @@
 -- The state that the parts mean: it is the state that they were made of; what stands at its places; and the stations where one is stored.
+use Rattle.std.specs.Prelude.{if◌then◌else◌}
 use Prim.Native.Nat.{ℕ, ◌+◌, ◌*◌, ◌/◌, ◌%◌, ◌≤◌, ◌<◌}
 use mathlib.Core.Bool.{Bool}
 use mathlib.Core.Path.{◌≡◌, refl, sym, ap, ◌∙◌}
@@ -9,7 +10,7 @@ use borrow.Author.Tests.{eq-eqb, ne_eqb, lt-ltb, le-ltb}
 use lib.Dec.{T, eqb, ltb}
 use lib.ListN.{length, get_or, set, take, length-set, get_or-eq_default}
 use lib.Seq.{get_or-take, length-take-le, get_or-set_same, get_or-set_other, ext_get_or}
-use Rattle.lists.specs.Lists.{if◌then◌else◌, below}
+use Rattle.lists.specs.Lists.{below}
 use Rattle.lists.specs.Places.{roomed}
 use Rattle.lists.proofs.Fill.{by_places, map_below_same}
 use Rattle.lists.proofs.Numbers.{length_map_below, get_or_map_below}

@@ -1,6 +1,6 @@
 -- The parts of a state in which a run of many events holds it, place by place, and the state that they mean.
-use Rattle.std.specs.Prelude.{ℕ, ◌+◌, ◌*◌, ◌/◌, ◌%◌, List, map, eqb, get_or, length}
-use Rattle.lists.specs.Lists.{if◌then◌else◌, below}
+use Rattle.std.specs.Prelude.{ℕ, ◌+◌, ◌*◌, ◌/◌, ◌%◌, List, map, eqb, get_or, length, if◌then◌else◌}
+use Rattle.lists.specs.Lists.{below}
 use Rattle.lists.specs.Places.{roomed}
 use Rattle.net.specs.declared.Letter.{Letter}
 use Rattle.net.specs.declared.Net.{Net}

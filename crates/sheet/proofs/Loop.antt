@@ -87,8 +87,8 @@ module _ (whole : Sheet) (n : ℕ) (bytes low high : List ℕ) (a b k at : ℕ) 
           let is = told v next p (ap (verdict_of (drop at bytes)) q) ∙ ap (λ (m : ℕ). read_links m n s.so v) z in
           subst (λ (x : Reading). Says x whole) (sym g) (record { number = ap sheet_number (sym is); net = ap sheet_net (sym is) })
 
-      inside-more : at + 5 ≤ length bytes
-      inside-more =
+      inside_more : at + 5 ≤ length bytes
+      inside_more =
           let w = is_link n (ends_of a b) (first_field part) (ends_of l h) (drop 5 part) (sym (sym (ap (verdict_of part) q) ∙ p)) in
           omega (
             arith,
@@ -109,7 +109,7 @@ module _ (whole : Sheet) (n : ℕ) (bytes low high : List ℕ) (a b k at : ℕ) 
             so = s.so ++ (ends_of l h ∷ []);
             count = length-append s.so (ends_of l h ∷ []) ∙ ap (λ (m : ℕ). m + 1) s.count;
             room = omega arith;
-            inside = inside-more;
+            inside = inside_more;
             lows =
                 ap (λ (x : List ℕ). set x k l) s.lows
                 ∙ room_more (map (λ x. x.low) s.so) l k (length-map s.so (λ x. x.low) ∙ s.count) f

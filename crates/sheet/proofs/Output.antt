@@ -122,8 +122,8 @@ module _ (net : Net) where
           two_is : two ≡ onto (front ++ middle) old
           two_is = q ∙ lent_more front middle old one part 4 p front_length g
 
-          both-length : length (front ++ middle) ≡ 4 + 5 * net.links
-          both-length = length-append front middle ∙ omega (arith, front_length, first_length net.low net.high net.links)
+          both_length : length (front ++ middle) ≡ 4 + 5 * net.links
+          both_length = length-append front middle ∙ omega (arith, front_length, first_length net.low net.high net.links)
 
           pub write_all : (three last : List ℕ) → last ≡ onto (write_field end_tag [])
               (take (length two - (4 + 5 * net.links)) (drop (4 + 5 * net.links) two))
@@ -132,6 +132,6 @@ module _ (net : Net) where
               × (three ≡ writing_output (writing net old) old)
           write_all three last f w = (
             ap (λ (n : ℕ). 0 ∷ n ∷ []) (sym sheet_length) ∙ ap writing_numbers (sym written),
-            w ∙ lent_more (front ++ middle) (write_field end_tag []) old two last (4 + 5 * net.links) two_is both-length f
+            w ∙ lent_more (front ++ middle) (write_field end_tag []) old two last (4 + 5 * net.links) two_is both_length f
                 ∙ ap (λ (b : List ℕ). onto b old) (sym sheet_bytes_lem) ∙ ap (λ (x : Writing). writing_output x old) (sym written),
           )

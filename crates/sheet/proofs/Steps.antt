@@ -112,17 +112,17 @@ module _ (bytes : List ℕ) (n a b : ℕ) where
         else (if not (precedes (ends_of a b) ends) then wrong 4 else link ends (drop (3 + m) bytes)))
         else (if eqb tag end_tag && eqb k 0 && is_empty (drop (3 + m) bytes) then last else wrong 2)
 
-    seen-later : want ≡ judged_as m
+    seen_later : want ≡ judged_as m
     unfolding judged
-    seen-later = ap (judged n (ends_of a b)) s.cut ∙ ap judged_as s.size
+    seen_later = ap (judged n (ends_of a b)) s.cut ∙ ap judged_as s.size
 
     pub judged_size : tag ≡ link_tag → (m ≡ 2 → ⊥) → wrong 2 ≡ want
-    judged_size t h = let t' : tag ≡ end_tag → ⊥ = λ u. omega arith in sym (seen-later ∙ simp (ne_eqb m 2 h, and_no, ne_eqb tag end_tag t'))
+    judged_size t h = let t' : tag ≡ end_tag → ⊥ = λ u. omega arith in sym (seen_later ∙ simp (ne_eqb m 2 h, and_no, ne_eqb tag end_tag t'))
 
     pub judged_link : (r : Next) → tag ≡ link_tag → m ≡ 2 → r ≡ link_verdict n a b (get_or bytes 3 0) (get_or bytes 4 0)
         → verdict_of bytes r ≡ want
     unfolding link_verdict
-    judged_link r t e p = ap (verdict_of bytes) p ∙ sym (seen-later ∙ two)
+    judged_link r t e p = ap (verdict_of bytes) p ∙ sym (seen_later ∙ two)
       where
         same : ends ≡ ends_of (get_or bytes 3 0) (get_or bytes 4 0)
         same = ap₂ ends_of (value_at bytes m 0 (omega arith)) (value_at bytes m 1 (omega arith))
@@ -147,15 +147,15 @@ module _ (bytes : List ℕ) (n a b : ℕ) where
 
     module _ (t : tag ≡ link_tag → ⊥) where
       pub judged_tag : (tag ≡ end_tag → ⊥) → wrong 2 ≡ want
-      judged_tag h = sym (seen-later ∙ simp (ne_eqb tag link_tag t, ne_eqb tag end_tag h))
+      judged_tag h = sym (seen_later ∙ simp (ne_eqb tag link_tag t, ne_eqb tag end_tag h))
 
       pub judged_length : (m ≡ 0 → ⊥) → wrong 2 ≡ want
-      judged_length h = sym (seen-later ∙ simp (ne_eqb tag link_tag t, ne_eqb m 0 h, and_no))
+      judged_length h = sym (seen_later ∙ simp (ne_eqb tag link_tag t, ne_eqb m 0 h, and_no))
 
       module _ (u : tag ≡ end_tag) (e : m ≡ 0) where
         end : want ≡ (if is_empty (drop 3 bytes) then last else wrong 2)
         end =
-            seen-later ∙ simp (ne_eqb tag link_tag t, eq-eqb tag end_tag u, eq-eqb m 0 e)
+            seen_later ∙ simp (ne_eqb tag link_tag t, eq-eqb tag end_tag u, eq-eqb m 0 e)
             (ap (λ (k : ℕ). if is_empty (drop (3 + k) bytes) then last else wrong 2) e)
 
         pub judged_more : (length bytes ≡ 3 → ⊥) → wrong 2 ≡ want

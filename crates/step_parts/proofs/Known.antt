@@ -122,11 +122,11 @@ module _ {s : State} {kind a b : ℕ} {e : Kind} {place : ℕ} {n : Names} {own 
     abbrev H : Holding
     H = holding_of s.net st
 
-    names-are : n ≡ names_by s.net s.flying K a b x
-    names-are = f.names ∙ ap (λ (e : Kind). names_by s.net s.flying e a b x) f.decodes
+    names_are : n ≡ names_by s.net s.flying K a b x
+    names_are = f.names ∙ ap (λ (e : Kind). names_by s.net s.flying e a b x) f.decodes
 
     places : Placed n
-    places = placed s.net s.flying K a b x n names-are
+    places = placed s.net s.flying K a b x n names_are
 
     pub within : me < station_room
     within = places.station
@@ -143,10 +143,10 @@ module _ {s : State} {kind a b : ℕ} {e : Kind} {place : ℕ} {n : Names} {own 
     stations_are : (w.net.stations ≡ s.net.stations) × (s.net.stations ≤ station_room)
     stations_are = (ap (λ (n : Network). n.stations) net_is ∙ M.count_is s f.sized f.holds, M.few s f.sized f.holds)
 
-    named-is : named ≡ exists w E
+    named_is : named ≡ exists w E
     unfolding exists names_by
-    named-is =
-        ap (λ (y : Names). y.there) names-are
+    named_is =
+        ap (λ (y : Names). y.there) names_are
         ∙ ap₂ (λ (n : Network) (m : ℕ). exists_as K n m a b) (sym net_is) (sym (M.world_flying s f.sized f.holds))
 
     -- ---- where there is what the event names
@@ -173,7 +173,7 @@ module _ {s : State} {kind a b : ℕ} {e : Kind} {place : ℕ} {n : Names} {own 
       pub me_is : me ≡ concerned w E
       unfolding concerned names_by
       me_is =
-          ap (λ (y : Names). y.station) names-are ∙ ap₂ (λ (n : Network) (l : Letter). in_room (concerned_by K n a l)) (sym net_is) letter_is
+          ap (λ (y : Names). y.station) names_are ∙ ap₂ (λ (n : Network) (l : Letter). in_room (concerned_by K n a l)) (sym net_is) letter_is
           ∙ ap (λ (c : Bool). if c then concerned_by K w.net a (letter_at w a) else 0)
           (lt-ltb (concerned_by K w.net a (letter_at w a)) station_room
           (omega (arith, concerned_real w ok E q, stations_are.0, stations_are.1)))
@@ -181,21 +181,21 @@ module _ {s : State} {kind a b : ℕ} {e : Kind} {place : ℕ} {n : Names} {own 
       pub me_real : me < s.net.stations
       me_real = omega (arith, me_is, concerned_real w ok E q, stations_are.0)
 
-      held-is : H ≡ holding_at w (concerned w E)
-      held-is = sym (M.world_holding s f.sized f.holds me me_real) ∙ ap (holding_at w) me_is
+      held_is : H ≡ holding_at w (concerned w E)
+      held_is = sym (M.world_holding s f.sized f.holds me me_real) ∙ ap (holding_at w) me_is
 
       -- ---- the link and the subject
-      mod-few : (n : ℕ) → n < length w.net.links → n % link_room ≡ n
-      mod-few n h = mod-eq_of_lt (omega (arith, h, links_are))
+      mod_few : (n : ℕ) → n < length w.net.links → n % link_room ≡ n
+      mod_few n h = mod-eq_of_lt (omega (arith, h, links_are))
 
-      link-there : T (on_link K) → link_of K b x < length w.net.links
-      link-there t =
+      link_there : T (on_link K) → link_of K b x < length w.net.links
+      link_there t =
           subst⁻¹ (λ (l : Letter). link_of K b l < length w.net.links) letter_is
           (link_few w.net (concerned w E) K b (letter_at w a) (names w ok E q) t)
 
       link_is : T (on_link K) → k ≡ link_of K b x
       unfolding names_by
-      link_is t = ap (λ (y : Names). y.link) names-are ∙ mod-few (link_of K b x) (link-there t)
+      link_is t = ap (λ (y : Names). y.link) names_are ∙ mod_few (link_of K b x) (link_there t)
 
       posted : T (takes_letter K) → Posted w x
       posted t = subst⁻¹ (Posted w) letter_is (meant_posted w ok E q t)
@@ -203,54 +203,54 @@ module _ {s : State} {kind a b : ℕ} {e : Kind} {place : ℕ} {n : Names} {own 
       meant : Meant s.net st K k x (counter_at st about)
       unfolding names_by
       meant = record {
-        link = λ t. omega (arith, link_is t, link-there t, links_are);
+        link = λ t. omega (arith, link_is t, link_there t, links_are);
         letter = λ t.
-            sym (ap (λ (y : Names). y.link) names-are ∙ ap (λ (c : Bool). (if c then x.link else b) % link_room) (T_is (takes_letter K) t)
-            ∙ mod-few x.link (posted t).link);
-        subject = λ t. omega (arith, subject-there t, links_are);
+            sym (ap (λ (y : Names). y.link) names_are ∙ ap (λ (c : Bool). (if c then x.link else b) % link_room) (T_is (takes_letter K) t)
+            ∙ mod_few x.link (posted t).link);
+        subject = λ t. omega (arith, subject_there t, links_are);
         tells = λ t.
             ap (λ (i : ℕ). get_or st.counters i 0)
-            (mod-eq_of_lt places.subject ∙ ap (λ (y : Names). y.subject) names-are ∙ mod-few (subject_of x.body) (subject-there t));
+            (mod-eq_of_lt places.subject ∙ ap (λ (y : Names). y.subject) names_are ∙ mod_few (subject_of x.body) (subject_there t));
       }
         where
-          subject-there : T (takes_letter K) → subject_of x.body < length w.net.links
-          subject-there t = let o = (posted t).link in subject_few w.net x.body (posted t).body (omega arith)
+          subject_there : T (takes_letter K) → subject_of x.body < length w.net.links
+          subject_there t = let o = (posted t).link in subject_few w.net x.body (posted t).body (omega arith)
 
       -- ---- what it comes to
-      rule-is : rule_at me K k x H ≡ rule w E
+      rule_is : rule_at me K k x H ≡ rule w E
       unfolding rule
-      rule-is =
+      rule_is =
           rule_link me K k b x H link_is
           ∙ ap (λ (i : ℕ). rule_at i K b x H) me_is
-          ∙ ap₂ (λ (l : Letter) (h : Holding). rule_at (concerned w E) K b l h) letter_is held-is
+          ∙ ap₂ (λ (l : Letter) (h : Holding). rule_at (concerned w E) K b l h) letter_is held_is
 
-      comes-is : due_of named (rule_at me K k x H) st.condition ≡ comes w E
+      comes_is : due_of named (rule_at me K k x H) st.condition ≡ comes w E
       unfolding comes holding_of
-      comes-is =
-          ap (λ (c : Bool). due_of c (rule_at me K k x H) st.condition) named-is
-          ∙ ap₂ (λ (r : Rule) (h : Holding). due_of (exists w E) r h.condition) rule-is held-is
+      comes_is =
+          ap (λ (c : Bool). due_of c (rule_at me K k x H) st.condition) named_is
+          ∙ ap₂ (λ (r : Rule) (h : Holding). due_of (exists w E) r h.condition) rule_is held_is
 
-      done-is : done_by (network_of s.net) me H (comes w E).act ≡ done w E
+      done_is : done_by (network_of s.net) me H (comes w E).act ≡ done w E
       unfolding done
-      done-is =
+      done_is =
           ap₂ (λ (n : Network) (i : ℕ). done_by n i H (comes w E).act) (sym net_is) me_is
-          ∙ ap (λ (h : Holding). done_by w.net (concerned w E) h (comes w E).act) held-is
+          ∙ ap (λ (h : Holding). done_by w.net (concerned w E) h (comes w E).act) held_is
 
     -- ---- the plan is the world's
     planned : Planned s.net me st (room_of K st) (due_of named (rule_at me K k x H) st.condition) p
     planned =
         subst (λ (e : Kind). PlansAt n e own x st p) f.decodes f.plans s.net st
         (record { condition = refl; words = refl; size = (f.sized.each me within).counters }) f.mine
-        (ap (λ (i : ℕ). get_or st.counters i 0) (mod-eq_of_lt places.link)) (λ t. meant (subst T named-is t))
+        (ap (λ (i : ℕ). get_or st.counters i 0) (mod-eq_of_lt places.link)) (λ t. meant (subst T named_is t))
 
     pub number_is : p.answer ≡ (comes w E).number
     unfolding due_of
     number_is = go (exists w E) refl
       where
         go : (c : Bool) → exists w E ≡ c → p.answer ≡ (comes w E).number
-        go true e = planned.answer ∙ ap (λ (y : Due). y.number) (comes-is (is_T _ e))
+        go true e = planned.answer ∙ ap (λ (y : Due). y.number) (comes_is (is_T _ e))
         go false e =
-            planned.answer ∙ ap (λ (c : Bool). (due_of c (rule_at me K k x H) st.condition).number) (named-is ∙ e)
+            planned.answer ∙ ap (λ (c : Bool). (due_of c (rule_at me K k x H) st.condition).number) (named_is ∙ e)
             ∙ sym (ap (λ (y : Due). y.number) (absent_six w E (subst⁻¹ (λ (t : Bool). T (not t)) e tt)))
 
     -- where the plan refuses nothing
@@ -260,5 +260,5 @@ module _ {s : State} {kind a b : ℕ} {e : Kind} {place : ℕ} {n : Names} {own 
 
       pub acts : Acts s.net me st (room_of K st) (done w E) (comes w E).counts p
       acts =
-          subst (λ (d : Done). Acts s.net me st (room_of K st) d (comes w E).counts p) (done-is there)
-          ((subst (λ (y : Due). Planned s.net me st (room_of K st) y p) (comes-is there) planned).done z)
+          subst (λ (d : Done). Acts s.net me st (room_of K st) d (comes w E).counts p) (done_is there)
+          ((subst (λ (y : Due). Planned s.net me st (room_of K st) y p) (comes_is there) planned).done z)

@@ -174,13 +174,13 @@ module _ {s : State} {kind a b : ℕ} {e : Kind} {place : ℕ} {n : Names} {own 
     there : T (exists w E)
     there = K.there f.seen z
 
-    taken-there : leaves ≡ true → a < length w.letters
-    taken-there t = letter_there w E (is_T _ t) there
+    taken_there : leaves ≡ true → a < length w.letters
+    taken_there t = letter_there w E (is_T _ t) there
 
     left-length₀ : length (left w E) ≡ left₀
     unfolding left
     left-length₀ =
-        left_count leaves a w.letters taken-there ∙ ap (fewer_by leaves) flying_is ∙ sym stays
+        left_count leaves a w.letters taken_there ∙ ap (fewer_by leaves) flying_is ∙ sym stays
 
     sent_is : letters_of me told send ≡ (done w E).sent
     unfolding letters_by
@@ -226,15 +226,15 @@ module _ {s : State} {kind a b : ℕ} {e : Kind} {place : ℕ} {n : Names} {own 
 
   -- ---- where nothing refuses
   module _ (q : r.answer ≡ 0) where
-    none-planned : p.answer ≡ 0
-    none-planned = go (ℕ_discrete p.answer 0)
+    none_planned : p.answer ≡ 0
+    none_planned = go (ℕ_discrete p.answer 0)
       where
         go : Dec (p.answer ≡ 0) → p.answer ≡ 0
         go (yes n) = n
         go (no n) = sym (by_plan false (ne_eqb p.answer 0 n)) ∙ q
 
     z₀ : (comes w E).number ≡ 0
-    z₀ = sym planned ∙ none-planned
+    z₀ = sym planned ∙ none_planned
 
     named₀ : T (exists w E)
     named₀ = there z₀
@@ -262,7 +262,7 @@ module _ {s : State} {kind a b : ℕ} {e : Kind} {place : ℕ} {n : Names} {own 
       where
         nine : letter_room < left₀ + count → r.answer ≡ 9
         nine d =
-            by_plan true (eq-eqb p.answer 0 none-planned)
+            by_plan true (eq-eqb p.answer 0 none_planned)
             ∙ ap {B = ℕ} (λ (c : Bool). if c then 9 else 0) (lt-ltb letter_room (left₀ + count) d)
 
         go : Dec (letter_room < left₀ + count) → left₀ + count ≤ letter_room
@@ -270,18 +270,18 @@ module _ {s : State} {kind a b : ℕ} {e : Kind} {place : ℕ} {n : Names} {own 
         go (no d) = omega arith
 
     -- ---- the stations
-    old-stations : s.stations ≡ roomed station_room blank (map (laid s.net blank) w.holdings)
+    old_stations : s.stations ≡ roomed station_room blank (map (laid s.net blank) w.holdings)
     unfolding state_of
-    old-stations = ap (λ (x : State). x.stations) (M.determined s f.seen.sized f.seen.holds)
+    old_stations = ap (λ (x : State). x.stations) (M.determined s f.seen.sized f.seen.holds)
 
-    old-letters : s.letters ≡ roomed letter_room no_letter w.letters
+    old_letters : s.letters ≡ roomed letter_room no_letter w.letters
     unfolding state_of
-    old-letters = ap (λ (x : State). x.letters) (M.determined s f.seen.sized f.seen.holds)
+    old_letters = ap (λ (x : State). x.letters) (M.determined s f.seen.sized f.seen.holds)
 
-    station-is : (kept : List ℕ) → kept ≡ kept_by s.net me p.resets p.purges told
+    station_is : (kept : List ℕ) → kept ≡ kept_by s.net me p.resets p.purges told
         → stored p kept ≡ laid s.net blank (done w E).holding
     unfolding station_by
-    station-is kept e =
+    station_is kept e =
         ap (stored p) (e ∙ ap (kept_by s.net me p.resets p.purges) f.tells)
         ∙ (K.acts f.seen z₀).station
         ∙ room_spare s.net (kind_of kind) st (done w E).holding
@@ -291,14 +291,14 @@ module _ {s : State} {kind a b : ℕ} {e : Kind} {place : ℕ} {n : Names} {own 
         → set s.stations me (stored p kept) ≡ roomed station_room blank (map (laid s.net blank) (after w E).holdings)
     unfolding after
     stations_set kept e =
-        ap₂ (λ (l : List Station) (x : Station). set l me x) old-stations (station-is kept e)
-        ∙ roomed_set station_room blank (map (laid s.net blank) w.holdings) me (laid s.net blank (done w E).holding) there-laid
+        ap₂ (λ (l : List Station) (x : Station). set l me x) old_stations (station_is kept e)
+        ∙ roomed_set station_room blank (map (laid s.net blank) w.holdings) me (laid s.net blank (done w E).holding) there_laid
         ∙ ap (roomed station_room blank) (map_set (laid s.net blank) w.holdings me (done w E).holding)
         ∙ ap (λ (i : ℕ). roomed station_room blank (map (laid s.net blank) (set w.holdings i (done w E).holding)))
         (K.me_is f.seen named₀)
       where
-        there-laid : me < length (map (laid s.net blank) w.holdings)
-        there-laid =
+        there_laid : me < length (map (laid s.net blank) w.holdings)
+        there_laid =
             omega (
               arith,
               K.me_real f.seen named₀,
@@ -313,8 +313,8 @@ module _ {s : State} {kind a b : ℕ} {e : Kind} {place : ℕ} {n : Names} {own 
     closed_up =
         ap (λ (y : Room). set (closing y.from s.letters y.left) y.free y.unused) room_is
         ∙ ap (λ (l : List Letter). set (closing (if leaves then place else last) l last) (if leaves then last else place)
-        (if leaves then no_letter else get_or l place no_letter)) old-letters
-        ∙ closed_as w.letters (K.ok f.seen).room leaves a place last (λ t. (K.place_is f.seen named₀, taken-there z₀ t))
+        (if leaves then no_letter else get_or l place no_letter)) old_letters
+        ∙ closed_as w.letters (K.ok f.seen).room leaves a place last (λ t. (K.place_is f.seen named₀, taken_there z₀ t))
         (ap (fewer_by leaves) (sym flying_is))
 
     -- a loop that closes up stays within the room
@@ -326,7 +326,7 @@ module _ {s : State} {kind a b : ℕ} {e : Kind} {place : ℕ} {n : Names} {own 
             → (r.from ≤ left₀) × (r.from < left₀ → left₀ < letter_room)
         go true g x y =
             let i = K.place_is f.seen named₀ in
-            let j = taken-there z₀ g in
+            let j = taken_there z₀ g in
             (omega (arith, x, y, i, j, flying_is), λ h. omega (arith, y, j, (K.ok f.seen).room, flying_is))
         go false g x y = (omega (arith, x, y), λ h. absurd (never h))
           where
@@ -338,7 +338,7 @@ module _ {s : State} {kind a b : ℕ} {e : Kind} {place : ℕ} {n : Names} {own 
     free_within = go leaves refl (ap (λ (y : Room). y.free) room_is)
       where
         go : (c : Bool) → leaves ≡ c → r.free ≡ (if c then fewer_by c s.flying else place) → r.free < letter_room
-        go true g x = let j = taken-there z₀ g in omega (arith, x, j, (K.ok f.seen).room, flying_is)
+        go true g x = let j = taken_there z₀ g in omega (arith, x, j, (K.ok f.seen).room, flying_is)
         go false g x = omega (arith, x, K.place_is f.seen named₀, K.few_a f.seen named₀)
 
     -- ---- the state after the event
