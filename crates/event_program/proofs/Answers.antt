@@ -3,9 +3,11 @@ use Prim.Native.Nat.{ℕ, ◌+◌, ◌≤◌, ◌<◌, ◌^◌}
 use mathlib.Core.Path.{◌≡◌}
 use mathlib.Core.List.{List, [], ◌∷◌, ◌++◌, append_assoc}
 use native.Mathlib.Omega.{arith}
-use lib.ListN.{length, length-append}
-use Rattle.text.specs.Text.{digits}
-use Rattle.console.proofs.Puts.{count_digits}
+use lib.ListN.{length, set, length-append}
+use Rattle.text.specs.Text.{digits, place_after, put_at}
+use Rattle.text.proofs.Chains.{Chain, chain_none, chain_next, chain_room, chain_stored}
+use Rattle.console.specs.Outputs.{Put}
+use Rattle.console.proofs.Puts.{count_digits, put_done, put_same}
 use Rattle.event_program.specs.Events.{answer_text}
 
 -- what stands there before each of these bytes, and the whole
@@ -50,3 +52,40 @@ answer_room answer flying settled at old few room =
       second = second;
       third = third;
     }
+
+-- ---- the line, number by number, each put behind the byte before it
+module _ (answer flying settled at : ℕ) (old : List ℕ) (a64 : answer < 2 ^ 64) (f64 : flying < 2 ^ 64) (s64 : settled < 2 ^ 64)
+    (h : at + 63 ≤ length old) where
+  few : length (answer_parts answer flying settled) ≤ 63
+  few = answer_few answer flying settled a64 f64 s64
+
+  room : Roomy answer flying settled at old
+  room = answer_room answer flying settled at old few h
+
+  module _ (a : ℕ) (one : List ℕ) (p : (a ≡ place_after (digits answer) at old) × (one ≡ put_at (digits answer) at old)) where
+    first_put : Chain (first_part answer) at old a one
+    first_put = chain_next (digits answer) (chain_none at old (omega arith)) p
+
+    pub first_room : (a < length one) × (length one ≡ length old)
+    first_room = (chain_room first_put room.first, first_put.size)
+
+    module _ (c : ℕ) (two : List ℕ)
+        (q : (c ≡ place_after (digits flying) (a + 1) (set one a 32)) × (two ≡ put_at (digits flying) (a + 1) (set one a 32))) where
+      second_put : Chain (second_part answer flying) at old c two
+      second_put = chain_next (digits flying) (chain_stored first_put room.first 32) q
+
+      pub second_room : (c < length two) × (length two ≡ length old)
+      second_room = (chain_room second_put room.second, second_put.size)
+
+      module _ (e : ℕ) (three : List ℕ)
+          (r : (e ≡ place_after (digits settled) (c + 1) (set two c 32)) × (three ≡ put_at (digits settled) (c + 1) (set two c 32))) where
+        third_put : Chain (third_part answer flying settled) at old e three
+        third_put = chain_next (digits settled) (chain_stored second_put room.second 32) r
+
+        pub third_room : (e < length three) × (length three ≡ length old)
+        third_room = (chain_room third_put room.third, third_put.size)
+
+        pub line_put : Put (answer_text answer flying settled) 63 at old (e + 1) (set three e 10)
+        line_put =
+            put_same _ _ 63 at old _ _ (answer_whole answer flying settled)
+            (put_done _ 63 at old _ _ (chain_stored third_put room.third 10) few h)
