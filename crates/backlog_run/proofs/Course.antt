@@ -1,4 +1,5 @@
 -- What the loop over the events knows between two of them, whether it stops at a refusal or goes on; an event more, and the two ends.
+use Rattle.std.specs.Prelude.{if◌then◌else◌}
 use Prim.Native.Nat.{ℕ, ◌+◌, ◌*◌, ◌/◌, ◌%◌, ◌≤◌, ◌<◌}
 use mathlib.Core.Bool.{Bool, true, false}
 use mathlib.Core.Path.{◌≡◌, refl, sym, ap, ◌∙◌, subst⁻¹}
@@ -8,7 +9,6 @@ use native.Mathlib.Omega.{arith}
 use borrow.Author.Tests.{eq-eqb, ne_eqb, le-leb, lt-leb}
 use lib.Dec.{leb}
 use lib.ListN.{length}
-use Rattle.std.specs.Bool.{if◌then◌else◌}
 use Rattle.tally.specs.declared.Tally.{Tally}
 use Rattle.text.specs.Text.{put_at}
 use Rattle.text.proofs.Puts.{length_put}
@@ -109,17 +109,17 @@ module _ (stopping : Bool) (es old : List ℕ) (s₀ : State) (t₀ : Tally) (s 
     -- ---- the event is taken
     module _ (r : Stepped) (did : r ≡ stepped_of s e.kind e.a e.b) (z : r.answer ≡ 0) (net : r.state.net ≡ s.net)
         (u : Tally) (counts : u ≡ tallied_by r t) (new : List ℕ) (put : new ≡ put_at (turn_of r.answer u r.state) (3 * n) trace) where
-      came-on : {e : Asked} → Asks es n e → r ≡ stepped_of s e.kind e.a e.b → stopping ≡ true
+      came_on : {e : Asked} → Asks es n e → r ≡ stepped_of s e.kind e.a e.b → stopping ≡ true
           → CameTo (calls s₀ t₀ es) es r.state u (n + 1)
-      came-on (whole i) d q = goes_on _ es s t n (c.came q) _ _ _ r i refl refl refl d u counts z
-      came-on (over i j) d q =
+      came_on (whole i) d q = goes_on _ es s t n (c.came q) _ _ _ r i refl refl refl d u counts z
+      came_on (over i j) d q =
           absurd (omega (arith, z, ap (λ (x : Stepped). x.answer) d, names_nothing s 0 0 c.good.holds))
 
-      traced-on : {e : Asked} → Asks es n e → r ≡ stepped_of s e.kind e.a e.b → stopping ≡ false
+      traced_on : {e : Asked} → Asks es n e → r ≡ stepped_of s e.kind e.a e.b → stopping ≡ false
           → 3 * event_count (length es) ≤ length old → Traced es s₀ t₀ old r.state u (n + 1) new
-      traced-on (whole i) d q room =
+      traced_on (whole i) d q room =
           trace_more es s₀ t₀ old s t n trace (c.traced q room) (omega arith) _ _ _ i refl refl refl r d u counts new put
-      traced-on (over i j) d q room =
+      traced_on (over i j) d q room =
           absurd (omega (arith, z, ap (λ (x : Stepped). x.answer) d, names_nothing s 0 0 c.good.holds))
 
       pub course_taken : Course stopping es old s₀ t₀ r.state u (n + 1) new
@@ -128,8 +128,8 @@ module _ (stopping : Bool) (es old : List ℕ) (s₀ : State) (t₀ : Tally) (s 
             good = subst⁻¹ (λ (x : Stepped). Good x.state) did (is_step s e.kind e.a e.b c.good).good;
             net = net ∙ c.net;
             size = ap length put ∙ length_put _ (3 * n) trace ∙ c.size;
-            came = came-on (asks es n e is h) did;
-            traced = traced-on (asks es n e is h) did;
+            came = came_on (asks es n e is h) did;
+            traced = traced_on (asks es n e is h) did;
           }
 
     -- ---- or refused
@@ -140,12 +140,12 @@ module _ (stopping : Bool) (es old : List ℕ) (s₀ : State) (t₀ : Tally) (s 
           ap (λ (x : Stepped). x.answer) d ∙ ap (λ (x : Asked). (stepped_of s x.kind x.a x.b).answer) q
           ∙ names_nothing s 0 0 c.good.holds
 
-      traced-past : {e : Asked} → Asks es n e → refusing m s ≡ stepped_of s e.kind e.a e.b → stopping ≡ false
+      traced_past : {e : Asked} → Asks es n e → refusing m s ≡ stepped_of s e.kind e.a e.b → stopping ≡ false
           → 3 * event_count (length es) ≤ length old → Traced es s₀ t₀ old s t (n + 1) new
-      traced-past (whole i) d q room =
+      traced_past (whole i) d q room =
           trace_more es s₀ t₀ old s t n trace (c.traced q room) (omega arith) _ _ _ i refl refl refl (refusing m s) d t
           (refusal_counts_nothing (refusing m s) t z) new put
-      traced-past (over i j) d q room =
+      traced_past (over i j) d q room =
           trace_over es s₀ t₀ old s t n trace (c.traced q room) (omega arith) i j new
           (put ∙ ap (λ (k : ℕ). put_at (turn_of k t s) (3 * n) trace) (six refl d))
 
@@ -157,7 +157,7 @@ module _ (stopping : Bool) (es old : List ℕ) (s₀ : State) (t₀ : Tally) (s 
             net = c.net;
             size = ap length put ∙ length_put _ (3 * n) trace ∙ c.size;
             came = λ q. absurd (clash (sym q ∙ goes));
-            traced = traced-past (asks es n e is h) did;
+            traced = traced_past (asks es n e is h) did;
           }
         where
           clash : true ≡ false → ⊥

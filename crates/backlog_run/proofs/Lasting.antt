@@ -1,5 +1,6 @@
 -- An event of a kind from 4 on leaves its station's condition as it was. So where no counter is set either, it is enough to store the
 -- marks, word by word.
+use Rattle.std.specs.Prelude.{if◌then◌else◌}
 use Prim.Native.Nat.{ℕ, zero, suc}
 use mathlib.Core.Bool.{Bool, true, false, ◌||◌}
 use mathlib.Core.Path.{◌≡◌, refl, sym, ap, ◌∙◌}
@@ -8,7 +9,6 @@ use native.Mathlib.Omega.{arith}
 use lib.Dec.{T, ltb}
 use lib.ListN.{get_or, set}
 use lib.Seq.{set-get_or}
-use Rattle.std.specs.Bool.{if◌then◌else◌}
 use Rattle.lists.specs.Words.{bit}
 use Rattle.net.specs.declared.Letter.{Letter}
 use Rattle.counters.specs.Counters.{even}
