@@ -22,7 +22,8 @@ use Rattle.backlog_run.proofs.Course.{asked_kind, asked_place, course_taken, cou
 use Rattle.backlog_run.proofs.Turns.{told_same, told_long, sent_same, kept_same}
 use Rattle.backlog_run.proofs.Lasting.{stands_stored, plan_lasts, with_stations, words_stored, neither}
 use Rattle.backlog_run.proofs.take_events.Goals as goal
-use Rattle.backlog_run.proofs.take_events.Goals.{After-event_at-e, After-names_of-names, After-count-count, then-plan, else-plan, then-plan-2, else-plan-2}
+use Rattle.backlog_run.proofs.take_events.Goals.{After-event_at-e, After-names_of-names, After-count-count}
+use Rattle.backlog_run.proofs.take_events.Goals.{then-plan, else-plan, then-plan-2, else-plan-2}
 use Rattle.backlog_run.proofs.take_events.Goals.{then-either, else-either+then-either-2, else-either+else-either-2}
 
 -- ---- what is read is within its room
@@ -55,7 +56,8 @@ told_is c =
     ]
 
 sent_is : (c : After-count-count)
-    → c.if-plan-2.send ≡ narrowed c.plan_at-plan.result.knows (min c.loop-taken.s.net.links link_room) c.if-plan.told c.plan_at-plan.result.sends
+    → c.if-plan-2.send
+    ≡ narrowed c.plan_at-plan.result.knows (min c.loop-taken.s.net.links link_room) c.if-plan.told c.plan_at-plan.result.sends
 sent_is c =
     elim c.if-plan-2.branch [
       | then-plan-2 w ↦ w.send-is ∙ w.narrow-send.ensures
