@@ -28,7 +28,8 @@ use Rattle.run_rooms.specs.Rooms.{moving_room, moving_in, letters_in, state_in}
 use Rattle.run_rooms.proofs.Loops.{counter_of, counter_at}
 
 -- ---- what stands at a place
-pub held_at : (stations : List Station) (i : ℕ) → i < station_room → get_or (held_in stations) i no_held ≡ held_by (get_or stations i beyond)
+pub held_at : (stations : List Station) (i : ℕ) → i < station_room
+    → get_or (held_in stations) i no_held ≡ held_by (get_or stations i beyond)
 unfolding held_in
 held_at stations i h = get_or_map_below (λ i. held_by (get_or stations i beyond)) station_room i no_held h
 
@@ -53,7 +54,8 @@ letter_in_lem room start flying j h few = go (dec_lt j flying)
     f : ℕ → Letter
     f i = get_or room (start + i) no_letter
 
-    go : Dec (j < flying) → (if ltb j flying then f j else no_letter) ≡ get_or (roomed letter_room no_letter (map f (below flying))) j no_letter
+    go : Dec (j < flying)
+        → (if ltb j flying then f j else no_letter) ≡ get_or (roomed letter_room no_letter (map f (below flying))) j no_letter
     go (yes i) =
         ap (λ (c : Bool). if c then f j else no_letter) (lt-ltb j flying i)
         ∙ sym (roomed_at letter_room no_letter (map f (below flying)) j no_letter (omega (arith, i, length_map_below f flying))
@@ -73,7 +75,8 @@ stations_again stations e each =
   where
     table : (i : ℕ) → i < station_room → table_in (side_by_side stations) i ≡ (get_or stations i beyond).counters
     table i h =
-        map_below_same (λ k. get_or (side_by_side stations) (link_room * i + k) 0) (λ k. get_or (get_or stations i beyond).counters k 0) link_room
+        map_below_same (λ k. get_or (side_by_side stations) (link_room * i + k) 0)
+        (λ k. get_or (get_or stations i beyond).counters k 0) link_room
         (λ k l. get_or_map_below (counter_of stations) (station_room * link_room) (link_room * i + k) 0 (omega (arith, h, l))
         ∙ sym (counter_at stations i k l))
         ∙ sym (by_places 0 link_room (get_or stations i beyond).counters (each i h))
@@ -221,7 +224,8 @@ stored_in held tables new i h kept few e others mine =
         let q = ap (table_in new) x ∙ mine in
         (λ y. record { condition = (p y).condition; counters = q y; marks = (p y).marks })
         ∙ sym (ap (λ (n : ℕ). get_or (set (stations_in held tables) i st) n beyond) x
-        ∙ get_or-set_same (stations_in held tables) i st beyond (omega (arith, few, length_map_below (station_by held tables) station_room)))
+        ∙ get_or-set_same (stations_in held tables) i st beyond
+        (omega (arith, few, length_map_below (station_by held tables) station_room)))
     go j b (no n) =
         let p = get_or-set_other held i j h no_held n in
         let q : table_in new j ≡ table_in tables j =

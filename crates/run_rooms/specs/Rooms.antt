@@ -25,7 +25,8 @@ held_in stations = map (λ i. held_by (get_or stations i beyond)) (below station
 
 -- the tables side by side: as many places as stations and links have together
 unfoldable pub side_by_side : List Station → List ℕ
-side_by_side stations = map (λ j. get_or (get_or stations (j / link_room) beyond).counters (j % link_room) 0) (below (station_room * link_room))
+side_by_side stations =
+    map (λ j. get_or (get_or stations (j / link_room) beyond).counters (j % link_room) 0) (below (station_room * link_room))
 
 -- the table of station i
 unfoldable pub table_in : List ℕ → ℕ → List ℕ

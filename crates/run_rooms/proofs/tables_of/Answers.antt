@@ -15,7 +15,9 @@ loop-k-preserved c =
     let l = c.loop-k in
     record {
       few = omega arith;
-      filling = fills_same (fills_more l.invariant.filling (omega arith) _ (counter_at c.args.stations c.loop-i.i l.k (omega arith))) _ (omega arith);
+      filling =
+          fills_same (fills_more l.invariant.filling (omega arith) _ (counter_at c.args.stations c.loop-i.i l.k (omega arith))) _
+          (omega arith);
     }
 
 pub loop-i-preserved : goal.loop-i-preserved
