@@ -73,10 +73,10 @@ settled_so_far said st f =
 -- ---- three places of list and of trace for each byte of a piece, and 21 bytes of output for each number that is printed at a time, are
 -- enough: 10 is never said. `events` lends 49,152 places for at most 16,384 bytes, and 64,512 bytes for at most 3,072 numbers; `page`
 -- 24,576 places for at most 8,192 bytes
-pub room_suffices : (n : Ran) (bytes list trace : List ℕ) → 3 * length bytes ≤ length list → 3 * length bytes ≤ length trace
+pub room_enough : (n : Ran) (bytes list trace : List ℕ) → 3 * length bytes ≤ length list → 3 * length bytes ≤ length trace
     → running n.state n.tally n.reading bytes list trace ≡ traced n bytes
 unfolding running tracing fitting traced
-room_suffices n bytes list trace h e =
+room_enough n bytes list trace h e =
     let numbers = numbers_in n.reading bytes in
     let few : length numbers ≤ 3 * length bytes = numbers_few bytes n.reading in
     let all = turns n.state n.tally numbers in
@@ -85,9 +85,18 @@ room_suffices n bytes list trace h e =
     ∙ ap (λ (b : Bool). if state_holds n.state then (if b then denied 10 else writes all) else denied 11)
     (le-ltb (length trace) (length all) (omega (arith, few, trace_size_lem n.state n.tally n.reading bytes)))
 
-pub output_suffices : (trace out : List ℕ) → 21 * length trace ≤ length out
+pub output_enough : (trace out : List ℕ) → 21 * length trace ≤ length out
     → with_room (answers_most trace) (answers_text trace) out ≡ writes (answers_text trace)
-output_suffices trace out h = simp (le-ltb (length out) (21 * length trace) h)
+output_enough trace out h = simp (le-ltb (length out) (21 * length trace) h)
+
+-- so for a piece of at most 8,192 bytes 24,576 places of list and of trace, and 516,096 bytes of output for all of its numbers
+pub room_suffices : (n : Ran) (bytes list trace : List ℕ) → length bytes ≤ 8192 → length list ≡ 24576 → length trace ≡ 24576
+    → running n.state n.tally n.reading bytes list trace ≡ traced n bytes
+room_suffices n bytes list trace h e f = room_enough n bytes list trace (omega arith) (omega arith)
+
+pub output_suffices : (trace out : List ℕ) → length trace ≤ 24576 → length out ≡ 516096
+    → with_room (answers_most trace) (answers_text trace) out ≡ writes (answers_text trace)
+output_suffices trace out h e = output_enough trace out (omega arith)
 
 -- ---- PRINTED IN PARTS of whole events, a trace gives what it gives as a whole
 pub answers_joined : (n : ℕ) (xs ys : List ℕ) → length xs ≡ 3 * n → answers_text (xs ++ ys) ≡ answers_text xs ++ answers_text ys

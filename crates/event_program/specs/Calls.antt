@@ -15,7 +15,7 @@ use Rattle.event_program.specs.declared.Ran.{Ran}
 use Rattle.event_program.specs.Stations.{stations_text}
 use Rattle.event_program.specs.Runs.{ran_by, first_ran, answers_text}
 
--- a piece, with room enough in the list and the trace: 11, or the trace of its lines (proofs/Sayings.antt, `room_suffices`)
+-- a piece, with room enough in the list and the trace: 11, or the trace of its lines (proofs/Sayings.antt, `room_enough`)
 unfoldable pub traced : Ran → List ℕ → Writing
 traced n bytes = if state_holds n.state then writes (turns n.state n.tally (numbers_in n.reading bytes)) else denied 11
 
