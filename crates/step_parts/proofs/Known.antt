@@ -173,7 +173,8 @@ module _ {s : State} {kind a b : ℕ} {e : Kind} {place : ℕ} {n : Names} {own 
       pub me_is : me ≡ concerned w E
       unfolding concerned names_by
       me_is =
-          ap (λ (y : Names). y.station) names_are ∙ ap₂ (λ (n : Network) (l : Letter). in_room (concerned_by K n a l)) (sym net_is) letter_is
+          ap (λ (y : Names). y.station) names_are
+          ∙ ap₂ (λ (n : Network) (l : Letter). in_room (concerned_by K n a l)) (sym net_is) letter_is
           ∙ ap (λ (c : Bool). if c then concerned_by K w.net a (letter_at w a) else 0)
           (lt-ltb (concerned_by K w.net a (letter_at w a)) station_room
           (omega (arith, concerned_real w ok E q, stations_are.0, stations_are.1)))

@@ -92,7 +92,8 @@ module _ (xs : List Letter) (few : length xs ≤ letter_room) where
   room = roomed letter_room no_letter xs
 
   closed_as : (t : Bool) (a place last : ℕ) → (t ≡ true → (place ≡ a) × (a < length xs)) → last ≡ fewer_by t (length xs)
-      → set (closing (if t then place else last) room last) (if t then last else place) (if t then no_letter else get_or room place no_letter)
+      → set (closing (if t then place else last) room last) (if t then last else place)
+      (if t then no_letter else get_or room place no_letter)
       ≡ roomed letter_room no_letter (if t then without a xs else xs)
   closed_as true a place last f g =
       let h = f refl in
@@ -110,8 +111,8 @@ left_count false a xs h = refl
 pub posted_none : (ls new : List Letter) → roomed letter_room no_letter ls ≡ roomed letter_room no_letter (ls ++ take 0 new)
 posted_none ls new = ap (roomed letter_room no_letter) (sym (append-nil ls))
 
-pub posted_more : (ls new : List Letter) (k at : ℕ) (y : Letter) → length ls + length new ≤ letter_room → k < length new → at ≡ length ls + k
-    → y ≡ get_or new k no_letter
+pub posted_more : (ls new : List Letter) (k at : ℕ) (y : Letter) → length ls + length new ≤ letter_room → k < length new
+    → at ≡ length ls + k → y ≡ get_or new k no_letter
     → set (roomed letter_room no_letter (ls ++ take k new)) at y ≡ roomed letter_room no_letter (ls ++ take (k + 1) new)
 posted_more ls new k at y few h p q =
     let n : length (take k new) ≡ k = length-take-le k new (omega arith) in

@@ -1,5 +1,6 @@
 // What an event names, what it comes to at the station that it concerns, and what becomes of the list of letters: what a step asks of an
-// event before it changes anything. Each function takes the few values that it asks for, and no state. Every public function answers every input.
+// event before it changes anything. Each function takes the few values that it asks for, and no state. Every public function answers
+// every input.
 // Inner doors: the calls are in docs/CALLS.md.
 #![tactic(auto)]
 

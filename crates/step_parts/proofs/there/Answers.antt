@@ -22,15 +22,18 @@ returns-in-Recovery c =
 
 pub returns-in-IntervalEnd : goal.returns-in-IntervalEnd
 returns-in-IntervalEnd c =
-    c.link_named.ensures ∙ ap (λ (n : ℕ). ltb c.args.a n && is_link_at (network_of c.args.net) c.args.a c.args.b) (sym (stations_of c.args.net))
+    c.link_named.ensures
+    ∙ ap (λ (n : ℕ). ltb c.args.a n && is_link_at (network_of c.args.net) c.args.a c.args.b) (sym (stations_of c.args.net))
     ∙ ap (λ (e : Kind). exists_as e (network_of c.args.net) c.args.flying c.args.a c.args.b) (sym c.in-IntervalEnd.is)
 
 pub returns-in-TimeoutEnd : goal.returns-in-TimeoutEnd
 returns-in-TimeoutEnd c =
-    c.link_named-in-TimeoutEnd.ensures ∙ ap (λ (n : ℕ). ltb c.args.a n && is_link_at (network_of c.args.net) c.args.a c.args.b) (sym (stations_of c.args.net))
+    c.link_named-in-TimeoutEnd.ensures
+    ∙ ap (λ (n : ℕ). ltb c.args.a n && is_link_at (network_of c.args.net) c.args.a c.args.b) (sym (stations_of c.args.net))
     ∙ ap (λ (e : Kind). exists_as e (network_of c.args.net) c.args.flying c.args.a c.args.b) (sym c.in-TimeoutEnd.is)
 
 pub returns-in-QuietEnd : goal.returns-in-QuietEnd
 returns-in-QuietEnd c =
-    c.link_named-in-QuietEnd.ensures ∙ ap (λ (n : ℕ). ltb c.args.a n && is_link_at (network_of c.args.net) c.args.a c.args.b) (sym (stations_of c.args.net))
+    c.link_named-in-QuietEnd.ensures
+    ∙ ap (λ (n : ℕ). ltb c.args.a n && is_link_at (network_of c.args.net) c.args.a c.args.b) (sym (stations_of c.args.net))
     ∙ ap (λ (e : Kind). exists_as e (network_of c.args.net) c.args.flying c.args.a c.args.b) (sym c.in-QuietEnd.is)
