@@ -4,47 +4,42 @@
 
 use backlog_program::Ran;
 use state::State;
+use std::io;
+use std::io::{Input, Read};
 
 // A file that can't be opened or read counts as empty, as in `events`.
-fn main() {
+fn main(rt: HostRuntime) -> io::Result<()> {
     let mut file = [0u8; 4097];
-    let fd = os::open_read(b"network.sheet");
-    let n = io::read_full(fd, &mut file);
-    libc::close(fd);
-    answer_backlog(&file[..n]);
+    let n = inputs::read_sheet(&rt, &mut file);
+    answer_backlog(&rt, &file[..n])
 }
 
-// A proved loop has to end, and nothing says that an input does: it counts its turns down, from a number that no run uses up.
-fn answer_backlog(file: &[u8]) {
+// A proved loop has to end, and nothing says that an input does: its turns are counted, as in `events`.
+fn answer_backlog(rt: &(impl Input + Print), file: &[u8]) -> io::Result<()> {
     let opened = console::open_sheet(file);
     if opened.number != 0 {
-        refuse(opened.number);
-        return;
+        return refuse(rt, opened.number);
     }
     // three numbers for each byte of a piece
     let mut list = [0u32; 196608];
-    let net = opened.net;
-    let mut ran = backlog_program::begin(net);
-    let mut turns = u64::MAX;
-    while turns > 0 {
-        let done = take_turn(ran, &mut list);
-        let after = done.ran;
-        ran = after;
+    let mut input = rt.reader();
+    let mut ran = backlog_program::begin(opened.net);
+    for _ in 0..u64::MAX {
+        let done = take_turn(&mut input, ran, &mut list)?;
+        ran = done.ran;
         if !done.more {
             break;
         }
-        turns -= 1;
     }
     let last = ran.state;
-    print_backlog(ran.taken, ran.answer, last.flying, ran.tally.settled);
-    print_stations(last);
+    print_backlog(rt, ran.taken, ran.answer, last.flying, ran.tally.settled)?;
+    print_stations(rt, last)
 }
 
-fn refuse(number: u8) {
-    let mut out = io::buffer();
+fn refuse(rt: &impl Print, number: u8) -> io::Result<()> {
+    let mut out = [0u8; 4096];
     let wrote = console::put_refusal(number, &mut out);
-    let written = wrote.written;
-    io::write_all(1, &out[..written]);
+    rt.write_all(&out[..wrote.written])
 }
 
 #[derive(Clone, Copy)]
@@ -54,28 +49,31 @@ struct Turn {
 }
 
 // One read and its events. Nothing is read behind an answer that is not 0.
-fn take_turn(before: Ran, list: &mut [u32]) -> Turn {
-    let mut room = io::large_buffer();
-    let got = libc::read(0, &mut room);
-    let n = io::count(got, &room);
+fn take_turn(input: &mut impl Read, before: Ran, list: &mut [u32]) -> io::Result<Turn> {
+    let mut room = [0u8; 65536];
+    let n = input.read(&mut room)?;
     let size = console::put_piece(n, event_lines::is_begun(before.reading), &mut room);
     let ran = backlog_program::take_lines(before, &room[..size], list);
-    Turn {
+    Ok(Turn {
         more: sets::both(0 < n, ran.answer == 0),
         ran,
-    }
+    })
 }
 
-fn print_backlog(taken: u64, answer: u8, flying: u16, settled: u64) {
-    let mut out = io::buffer();
+fn print_backlog(
+    rt: &impl Print,
+    taken: u64,
+    answer: u8,
+    flying: u16,
+    settled: u64,
+) -> io::Result<()> {
+    let mut out = [0u8; 4096];
     let wrote = backlog_program::put_backlog(taken, answer, flying, settled, &mut out);
-    let written = wrote.written;
-    io::write_all(1, &out[..written]);
+    rt.write_all(&out[..wrote.written])
 }
 
-fn print_stations(state: State) {
-    let mut out = io::large_buffer();
+fn print_stations(rt: &impl Print, state: State) -> io::Result<()> {
+    let mut out = [0u8; 65536];
     let wrote = event_program::put_stations(state, &mut out);
-    let written = wrote.written;
-    io::write_all(1, &out[..written]);
+    rt.write_all(&out[..wrote.written])
 }

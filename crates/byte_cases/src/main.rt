@@ -5,6 +5,8 @@
 ghost use Rattle.std.specs.Prelude.{◌≤◌, ◌≡◌, length};
 
 use net::{Body, LINK_ROOM, Letter, Net};
+use std::io;
+use std::io::{Input, Read};
 
 // A case is six bytes and what follows them: its kind, how many bytes follow (in three bytes), and the length of the output to
 // write to (in two); high bytes first.
@@ -41,24 +43,24 @@ fn long(top: u8, high: u8, low: u8) -> usize
 
 // ---- what is printed
 
-fn print(n: u64) {
-    io::write_all(1, b" ");
-    io::print_decimal(1, n);
+fn print(rt: &impl Print, n: u64) -> io::Result<()> {
+    print!(rt; " {n}")
 }
 
-fn print_byte(n: u8) {
-    print(n as u64);
+fn print_byte(rt: &impl Print, n: u8) -> io::Result<()> {
+    print(rt, n as u64)
 }
 
-fn print_hex(n: u8) {
-    io::print_hex(1, n as u64, 2);
+fn print_hex(rt: &impl Print, n: u8) -> io::Result<()> {
+    print!(rt; "{n:02x}")
 }
 
-fn print_bytes(bytes: &[u8]) {
-    io::write_all(1, b" ");
+fn print_bytes(rt: &impl Print, bytes: &[u8]) -> io::Result<()> {
+    print!(rt; " ")?;
     for i in 0..bytes.len() {
-        print_hex(bytes[i]);
+        print_hex(rt, bytes[i])?;
     }
+    Ok(())
 }
 
 // Whether a place is shown: it is used, or not zero though it should be.
@@ -72,35 +74,33 @@ fn is_shown(i: usize, links: u8, low: u8, high: u8) -> bool {
     high != 0
 }
 
-fn print_net(net: Net) {
-    print_byte(net.stations);
-    print_byte(net.links);
+fn print_net(rt: &impl Print, net: Net) -> io::Result<()> {
+    print_byte(rt, net.stations)?;
+    print_byte(rt, net.links)?;
     for i in 0..LINK_ROOM {
         let low = net.low[i];
         let high = net.high[i];
         if is_shown(i, net.links, low, high) {
-            print_byte(low);
-            print_byte(high);
+            print_byte(rt, low)?;
+            print_byte(rt, high)?;
         }
     }
+    Ok(())
 }
 
-fn print_letter(letter: Letter) {
-    print(letter.link as u64);
-    print(letter.sender as u64);
-    let body = letter.body;
-    match body {
-        Body::Request => {
-            io::write_all(1, b" request");
-        }
+fn print_letter(rt: &impl Print, letter: Letter) -> io::Result<()> {
+    print(rt, letter.link as u64)?;
+    print(rt, letter.sender as u64)?;
+    match letter.body {
+        Body::Request => print!(rt; " request"),
         Body::Reply(c) => {
-            io::write_all(1, b" reply");
-            print(c as u64);
+            print!(rt; " reply")?;
+            print(rt, c as u64)
         }
         Body::Notice(subject, c) => {
-            io::write_all(1, b" notice");
-            print_byte(subject);
-            print(c as u64);
+            print!(rt; " notice")?;
+            print_byte(rt, subject)?;
+            print(rt, c as u64)
         }
     }
 }
@@ -118,107 +118,91 @@ fn number_of(answer: sheet::Answer) -> u64 {
     }
 }
 
-fn print_sheet_wrote(wrote: sheet::Wrote) {
+fn print_sheet_wrote(rt: &impl Print, wrote: sheet::Wrote) -> io::Result<()> {
     match wrote {
         sheet::Wrote::Bytes(n) => {
-            print(0);
-            print(n as u64);
+            print(rt, 0)?;
+            print(rt, n as u64)
         }
-        sheet::Wrote::OutputShort => {
-            print(10);
-        }
-        sheet::Wrote::BadNetwork => {
-            print(11);
-        }
+        sheet::Wrote::OutputShort => print(rt, 10),
+        sheet::Wrote::BadNetwork => print(rt, 11),
     }
 }
 
-fn write_sheet(net: Net, out: &mut [u8]) {
-    io::write_all(1, b"write");
-    print_sheet_wrote(sheet::write(net, out));
-    print_bytes(out);
-    io::write_all(1, b"\n");
+fn write_sheet(rt: &impl Print, net: Net, out: &mut [u8]) -> io::Result<()> {
+    print!(rt; "write")?;
+    print_sheet_wrote(rt, sheet::write(net, out))?;
+    print_bytes(rt, out)?;
+    println!(rt;)
 }
 
-fn show_sheet_write(net: Net, room: usize) {
+fn show_sheet_write(rt: &impl Print, net: Net, room: usize) -> io::Result<()> {
     let mut out = output_room();
     if room <= ROOM {
-        write_sheet(net, &mut out[..room]);
+        write_sheet(rt, net, &mut out[..room])?;
     }
+    Ok(())
 }
 
-fn show_sheet_read(bytes: &[u8], room: usize) {
+fn show_sheet_read(rt: &impl Print, bytes: &[u8], room: usize) -> io::Result<()> {
     let reading = sheet::read(bytes);
     let answer = reading.answer;
     let net = reading.net;
-    io::write_all(1, b"read");
-    print(number_of(answer));
-    print_net(net);
-    io::write_all(1, b"\n");
-    show_sheet_write(net, room);
+    print!(rt; "read")?;
+    print(rt, number_of(answer))?;
+    print_net(rt, net)?;
+    println!(rt;)?;
+    show_sheet_write(rt, net, room)
 }
 
 // ---- letters
 
-fn print_letter_wrote(wrote: letters::Wrote) {
+fn print_letter_wrote(rt: &impl Print, wrote: letters::Wrote) -> io::Result<()> {
     match wrote {
         letters::Wrote::Bytes(n) => {
-            print(0);
-            print(n as u64);
+            print(rt, 0)?;
+            print(rt, n as u64)
         }
-        letters::Wrote::OutOfRange => {
-            print(3);
-        }
-        letters::Wrote::OutputShort => {
-            print(10);
-        }
-        letters::Wrote::BadNetwork => {
-            print(11);
-        }
+        letters::Wrote::OutOfRange => print(rt, 3),
+        letters::Wrote::OutputShort => print(rt, 10),
+        letters::Wrote::BadNetwork => print(rt, 11),
     }
 }
 
-fn write_letter(net: Net, letter: Letter, out: &mut [u8]) {
-    io::write_all(1, b"write");
-    print_letter_wrote(letters::write(net, letter, out));
-    print_bytes(out);
-    io::write_all(1, b"\n");
+fn write_letter(rt: &impl Print, net: Net, letter: Letter, out: &mut [u8]) -> io::Result<()> {
+    print!(rt; "write")?;
+    print_letter_wrote(rt, letters::write(net, letter, out))?;
+    print_bytes(rt, out)?;
+    println!(rt;)
 }
 
-fn show_letter_write(net: Net, letter: Letter, room: usize) {
+fn show_letter_write(rt: &impl Print, net: Net, letter: Letter, room: usize) -> io::Result<()> {
     let mut out = output_room();
     if room <= ROOM {
-        write_letter(net, letter, &mut out[..room]);
+        write_letter(rt, net, letter, &mut out[..room])?;
     }
+    Ok(())
 }
 
-fn print_refusal(n: u64) {
-    io::write_all(1, b"read");
-    print(n);
-    io::write_all(1, b"\n");
+fn print_refusal(rt: &impl Print, n: u64) -> io::Result<()> {
+    print!(rt; "read")?;
+    print(rt, n)?;
+    println!(rt;)
 }
 
-fn show_letter_read(net: Net, bytes: &[u8], room: usize) {
+fn show_letter_read(rt: &impl Print, net: Net, bytes: &[u8], room: usize) -> io::Result<()> {
     match letters::read(net, bytes) {
         letters::Answer::Good(letter) => {
-            io::write_all(1, b"read");
-            print(0);
-            print_letter(letter);
-            io::write_all(1, b"\n");
-            show_letter_write(net, letter, room);
+            print!(rt; "read")?;
+            print(rt, 0)?;
+            print_letter(rt, letter)?;
+            println!(rt;)?;
+            show_letter_write(rt, net, letter, room)
         }
-        letters::Answer::Short => {
-            print_refusal(1);
-        }
-        letters::Answer::Malformed => {
-            print_refusal(2);
-        }
-        letters::Answer::OutOfRange => {
-            print_refusal(3);
-        }
-        letters::Answer::BadNetwork => {
-            print_refusal(11);
-        }
+        letters::Answer::Short => print_refusal(rt, 1),
+        letters::Answer::Malformed => print_refusal(rt, 2),
+        letters::Answer::OutOfRange => print_refusal(rt, 3),
+        letters::Answer::BadNetwork => print_refusal(rt, 11),
     }
 }
 
@@ -266,57 +250,62 @@ fn net_of(case: &[u8]) -> Net
 }
 
 // A case of the kinds that begin with a network.
-fn run_with(net: Net, kind: u8, room: usize, rest: &[u8]) {
+fn run_with(rt: &impl Print, net: Net, kind: u8, room: usize, rest: &[u8]) -> io::Result<()> {
     if kind == 1 {
-        show_sheet_write(net, room);
-        return;
+        return show_sheet_write(rt, net, room);
     }
     if kind == 2 {
-        show_letter_read(net, rest, room);
-        return;
+        return show_letter_read(rt, net, rest, room);
     }
     if rest.len() == 8 {
-        show_letter_write(net, letter_of(rest), room);
+        show_letter_write(rt, net, letter_of(rest), room)?;
     }
+    Ok(())
 }
 
-fn run(kind: u8, room: usize, case: &[u8]) {
+fn run(rt: &impl Print, kind: u8, room: usize, case: &[u8]) -> io::Result<()> {
     if kind == 0 {
-        show_sheet_read(case, room);
-        return;
+        return show_sheet_read(rt, case, room);
     }
     if 130 <= case.len() {
-        run_with(net_of(case), kind, room, &case[130..]);
+        run_with(rt, net_of(case), kind, room, &case[130..])?;
     }
+    Ok(())
 }
 
 // Reads what follows the six bytes, and runs the case.
-fn run_in(kind: u8, room: usize, case: &mut [u8]) {
-    let got = io::read_full(0, case);
-    run(kind, room, &case[..got]);
+fn run_in(
+    rt: &impl Print,
+    input: &mut impl Read,
+    kind: u8,
+    room: usize,
+    case: &mut [u8],
+) -> io::Result<()> {
+    let got = inputs::read_full(input, case);
+    run(rt, kind, room, &case[..got])
 }
 
 // Reads a case into the buffer and runs it; false where there is none, or none that fits.
-fn run_next(buf: &mut [u8]) -> bool {
+fn run_next(rt: &impl Print, input: &mut impl Read, buf: &mut [u8]) -> io::Result<bool> {
     let mut head = [0u8; 6];
-    if io::read_full(0, &mut head) < 6 {
-        return false;
+    if inputs::read_full(input, &mut head) < 6 {
+        return Ok(false);
     }
     let size = long(head[1], head[2], head[3]);
     if buf.len() < size {
-        return false;
+        return Ok(false);
     }
-    run_in(head[0], wide(head[4], head[5]), &mut buf[..size]);
-    true
+    run_in(rt, input, head[0], wide(head[4], head[5]), &mut buf[..size])?;
+    Ok(true)
 }
 
-fn main() {
+fn main(rt: HostRuntime) -> io::Result<()> {
     let mut buf = case_room();
-    let mut left: u32 = 1000000;
-    while 0 < left {
-        if !run_next(&mut buf) {
-            return;
+    let mut input = rt.reader();
+    for _ in 0..1000000 {
+        if !run_next(&rt, &mut input, &mut buf)? {
+            break;
         }
-        left -= 1;
     }
+    Ok(())
 }

@@ -7,6 +7,8 @@ ghost use Rattle.net.specs.Sizes.{link_room};
 
 use counters::Counters;
 use net::{LINK_ROOM, MOST_LINKS, Net};
+use std::io;
+use std::io::Input;
 
 // A case is 259 bytes: stations, links, 64 lower ends, 64 higher ends, 64 counters (high byte first), the asking station.
 const SIZE: usize = 259;
@@ -42,13 +44,12 @@ fn counters_of(case: &[u8]) -> Counters
     counters
 }
 
-fn print(n: u64) {
-    io::write_all(1, b" ");
-    io::print_decimal(1, n);
+fn print(rt: &impl Print, n: u64) -> io::Result<()> {
+    print!(rt; " {n}")
 }
 
-fn print_counter(c: u16) {
-    print(c as u64);
+fn print_counter(rt: &impl Print, c: u16) -> io::Result<()> {
+    print(rt, c as u64)
 }
 
 // How many links are there.
@@ -62,63 +63,62 @@ fn shown_links(links: u8) -> u8
     }
 }
 
-fn print_counters(counters: Counters, links: u8)
+fn print_counters(rt: &impl Print, counters: Counters, links: u8) -> io::Result<()>
     requires { links ≤ link_room }
 {
     for k in 0..links {
         let i = k as usize;
-        print_counter(counters[i]);
+        print_counter(rt, counters[i])?;
     }
+    Ok(())
 }
 
-fn print_links(net: Net, working: u64, word: u32, links: u8)
+fn print_links(rt: &impl Print, net: Net, working: u64, word: u32, links: u8) -> io::Result<()>
     requires { links ≤ link_room }
 {
     for k in 0..links {
         let i = k as usize;
         let shown = reach::link_shown(net.low[i], net.high[i], sets::has(working, k), word);
-        print(shown as u64);
+        print(rt, shown as u64)?;
     }
+    Ok(())
 }
 
-fn run(case: &[u8])
+fn run(rt: &impl Print, case: &[u8]) -> io::Result<()>
     requires { length case.now ≡ 259 }
 {
     let net = net_of(case);
     let counters = counters_of(case);
     let s = case[258];
     let links = shown_links(net.links);
-    io::write_all(1, b"rules");
+    print!(rt; "rules")?;
     if sheet_rules::keeps_sheet_rules(net) {
-        io::write_all(1, b" kept");
+        print!(rt; " kept")?;
     } else {
-        io::write_all(1, b" broken");
+        print!(rt; " broken")?;
     }
     let working = reach::working_links(net.links, counters);
     let got = reach::reach_of(net, working, s);
-    io::write_all(1, b"\nreach");
-    print(got.word as u64);
-    print(got.ones as u64);
-    print(got.lowest as u64);
-    io::write_all(1, b"\npurged");
-    print_counters(reach::purged(net, working, counters, s), links);
-    io::write_all(1, b"\nlinks");
-    print_links(net, working, got.word, links);
-    io::write_all(1, b"\n");
+    print!(rt; "\nreach")?;
+    print(rt, got.word as u64)?;
+    print(rt, got.ones as u64)?;
+    print(rt, got.lowest as u64)?;
+    print!(rt; "\npurged")?;
+    print_counters(rt, reach::purged(net, working, counters, s), links)?;
+    print!(rt; "\nlinks")?;
+    print_links(rt, net, working, got.word, links)?;
+    println!(rt;)
 }
 
-fn run_all(cases: &[u8]) {
-    let mut left = cases.len() / SIZE;
-    let mut at: usize = 0;
-    while 0 < left {
-        run(&cases[at..at + SIZE]);
-        at += SIZE;
-        left -= 1;
+fn run_all(rt: &impl Print, cases: &[u8]) -> io::Result<()> {
+    for case in cases.chunks_exact(SIZE) {
+        run(rt, case)?;
     }
+    Ok(())
 }
 
-fn main() {
-    let mut buf = io::large_buffer();
-    let n = io::read_full(0, &mut buf);
-    run_all(&buf[..n]);
+fn main(rt: HostRuntime) -> io::Result<()> {
+    let mut buf = [0u8; 65536];
+    let n = inputs::read_full(&mut rt.reader(), &mut buf);
+    run_all(&rt, &buf[..n])
 }

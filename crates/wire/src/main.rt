@@ -3,45 +3,43 @@
 
 use hex_lines::HexReading;
 use net::Net;
+use std::io;
+use std::io::{Input, Read};
 
 // A file that can't be opened or read counts as empty, as in `events`.
-fn main() {
+fn main(rt: HostRuntime) -> io::Result<()> {
     let mut file = [0u8; 4097];
-    let fd = os::open_read(b"network.sheet");
-    let n = io::read_full(fd, &mut file);
-    libc::close(fd);
-    write_back(&file[..n]);
+    let n = inputs::read_sheet(&rt, &mut file);
+    write_back(&rt, &file[..n])
 }
 
-fn write_back(file: &[u8]) {
-    print_sheet(file);
+fn write_back(rt: &(impl Input + Print), file: &[u8]) -> io::Result<()> {
+    print_sheet(rt, file)?;
     let opened = console::open_sheet(file);
     if opened.number == 0 {
-        let net = opened.net;
-        pass_letters(net);
+        pass_letters(rt, opened.net)?;
     }
+    Ok(())
 }
 
-fn print_sheet(file: &[u8]) {
-    let mut out = io::buffer();
+fn print_sheet(rt: &impl Print, file: &[u8]) -> io::Result<()> {
+    let mut out = [0u8; 4096];
     let wrote = wire_program::put_sheet(file, &mut out);
-    let written = wrote.written;
-    io::write_all(1, &out[..written]);
+    rt.write_all(&out[..wrote.written])
 }
 
-// A proved loop has to end, and nothing says that an input does: it counts its turns down, from a number that no run uses up.
-fn pass_letters(net: Net) {
+// A proved loop has to end, and nothing says that an input does: its turns are counted, as in `events`.
+fn pass_letters(rt: &(impl Input + Print), net: Net) -> io::Result<()> {
+    let mut input = rt.reader();
     let mut reading = hex_lines::begin_hex();
-    let mut turns = u64::MAX;
-    while turns > 0 {
-        let done = take_turn(net, reading);
-        let read = done.reading;
-        reading = read;
+    for _ in 0..u64::MAX {
+        let done = take_turn(rt, &mut input, net, reading)?;
+        reading = done.reading;
         if !done.more {
             break;
         }
-        turns -= 1;
     }
+    Ok(())
 }
 
 #[derive(Clone, Copy)]
@@ -51,18 +49,20 @@ struct Turn {
 }
 
 // One read, its letters, and what they print: written before the next read, so that a pipe stays live.
-fn take_turn(net: Net, before: HexReading) -> Turn {
+fn take_turn(
+    rt: &impl Print,
+    input: &mut impl Read,
+    net: Net,
+    before: HexReading,
+) -> io::Result<Turn> {
     let mut room = [0u8; 1024];
-    let got = libc::read(0, &mut room);
-    let n = io::count(got, &room);
+    let n = input.read(&mut room)?;
     let size = console::put_piece(n, hex_lines::is_hex_begun(before), &mut room);
-    let mut out = io::large_buffer();
+    let mut out = [0u8; 65536];
     let passed = wire_program::run_letters(net, before, &room[..size], &mut out);
-    let written = passed.written;
-    io::write_all(1, &out[..written]);
-    let reading = passed.reading;
-    Turn {
+    rt.write_all(&out[..passed.written])?;
+    Ok(Turn {
         more: 0 < n,
-        reading,
-    }
+        reading: passed.reading,
+    })
 }

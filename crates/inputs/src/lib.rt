@@ -1,0 +1,36 @@
+// What the programs read by: an input, up to the room that there is for it, and the sheet's file.
+#![tactic(auto)]
+
+ghost use Rattle.std.specs.Prelude.{◌≤◌, length, take};
+ghost use Rattle.std.specs.Io.KnownBytes.{Consumes};
+
+use std::fs;
+use std::io::Read;
+use std::rt::Files;
+
+// Reads until the room is full, the input ends or a read fails.
+// Promise: how many bytes came; they stand at the room's front, and are the next of the input, where those are known.
+pub fn read_full<R: Read>(from: &mut R, room: &mut [u8]) -> usize
+    ensures counts { result ≤ length room.new }
+    ensures bytes { Consumes (R.remaining from.old) (R.remaining from.new) (take result room.new) }
+{
+    let mut done = 0;
+    while done < room.len() {
+        match from.read(&mut room[done..]) {
+            Ok(0) | Err(_) => break,
+            Ok(n) => done += n,
+        }
+    }
+    done
+}
+
+// A file that can't be opened or read counts as empty.
+// Promise: how many bytes of the sheet's file stand at the room's front.
+pub fn read_sheet(files: &impl Files, room: &mut [u8]) -> usize
+    ensures { result ≤ length room.new }
+{
+    match fs::open(files, "network.sheet") {
+        Ok(mut file) => read_full(&mut file, room),
+        Err(_) => 0,
+    }
+}
