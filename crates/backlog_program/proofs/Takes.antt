@@ -2,7 +2,7 @@
 use Rattle.std.specs.Prelude.{if◌then◌else◌}
 use Prim.Native.Nat.{ℕ, ◌*◌, ◌≤◌}
 use mathlib.Core.Bool.{Bool, true, false}
-use mathlib.Core.Path.{◌≡◌, refl, sym, ap, ◌∙◌}
+use mathlib.Core.Path.{◌≡◌, sym, ap, ◌∙◌}
 use mathlib.Core.List.{List}
 use native.Mathlib.Decide.{ℕ_discrete}
 use native.Mathlib.Omega.{arith}
@@ -25,10 +25,6 @@ module _ (n : Ran) (bytes old : List ℕ) where
   abbrev Takes : Ran → List ℕ → Type 0
   Takes r new = (r ≡ ran_by (listing_of n bytes old) n bytes) × (new ≡ writing_output (listing_of n bytes old) old)
 
-  -- after an answer that is not 0
-  pub takes_nothing : (n.answer ≡ 0 → ⊥) → Takes n old
-  takes_nothing h = simp (ne_eqb n.answer 0 h) (refl, refl)
-
   -- what `list_lines` promises, by whether the list is too short
   abbrev numbers : List ℕ
   numbers = numbers_in n.reading bytes
@@ -40,20 +36,6 @@ module _ (n : Ran) (bytes old : List ℕ) where
   Lists short l new = (l ≡ listed_by (listing_by short) n.reading bytes) × (new ≡ writing_output (listing_by short) old)
 
   module _ (z : n.answer ≡ 0) (l : Listed) (new : List ℕ) where
-    -- it says no
-    abbrev denying : ℕ → Ran
-    denying k = ran_by (denied k) n bytes
-
-    pub takes_short : l ≡ listed_by (listing n.reading bytes old) n.reading bytes
-        → new ≡ writing_output (listing n.reading bytes old) old → (l.answer ≡ 0 → ⊥) → Takes (denying l.answer) new
-    unfolding listing
-    takes_short is w h = simp (eq-eqb n.answer 0 z) (go (ltb (length old) (3 * length bytes)) (is, w))
-      where
-        go : (short : Bool) → Lists short l new
-            → (denying l.answer ≡ ran_by (listing_by short) n bytes) × (new ≡ writing_output (listing_by short) old)
-        go true w = (ap (λ (x : Listed). denying x.answer) w.0, w.1)
-        go false w = absurd (h (ap (λ (x : Listed). x.answer) w.0))
-
     -- the call over what was listed
     module _ (x : Taken) (called : x ≡ backlog_of n.state n.tally (take l.size new)) (k : ℕ) (sum : k ≡ added n.taken x.taken)
       where
