@@ -93,8 +93,8 @@ module _ (s : State) (t : Tally) (g : Good s) where
     stays : (y.answer ≡ 0 → ⊥) → calls s t (xs ++ more) ≡ y
     stays h = stopped_whole s t xs more a.whole.count a.whole.size h
 
-    stands-more : Stands (xs ++ more) (line_after r bytes) (ran_after n given)
-    stands-more = go (ℕ_discrete y.answer 0)
+    stands_more : Stands (xs ++ more) (line_after r bytes) (ran_after n given)
+    stands_more = go (ℕ_discrete y.answer 0)
       where
         go : Dec (y.answer ≡ 0) → Stands (xs ++ more) (line_after r bytes) (ran_after n given)
         go (yes z) = record { line = line_after r bytes; same = goes_on z; reading = λ e. refl; whole = threes }
@@ -116,7 +116,7 @@ module _ (s : State) (t : Tally) (g : Good s) where
   stands_all (p ∷ pieces) xs r n a =
       subst (λ (l : List ℕ). Stands l (line_all (line_after r p) pieces) (pieces_ran (ran_after n p) pieces))
       (append_assoc xs (numbers_in r p) (numbers_all (line_after r p) pieces))
-      (stands_all pieces (xs ++ numbers_in r p) (line_after r p) (ran_after n p) (stands-more xs r n a p p (λ z. refl)))
+      (stands_all pieces (xs ++ numbers_in r p) (line_after r p) (ran_after n p) (stands_more xs r n a p p (λ z. refl)))
 
   -- ---- the whole input: at its end a line that is begun ends too
   pub stands_whole : (pieces : List (List ℕ)) (n : Ran) → Stands [] start n
@@ -125,5 +125,5 @@ module _ (s : State) (t : Tally) (g : Good s) where
   stands_whole pieces n a =
       let all = stands_all pieces [] start n a in
       let last : Reading → List ℕ = λ q. closing_by (is_begun q) in
-      ap ran_text (stands-more (numbers_all start pieces) (line_all start pieces) (pieces_ran n pieces) all (last (line_all start pieces))
+      ap ran_text (stands_more (numbers_all start pieces) (line_all start pieces) (pieces_ran n pieces) all (last (line_all start pieces))
       (last (pieces_ran n pieces).reading) (λ z. ap last (ap (λ (m : Ran). m.reading) all.same ∙ all.reading z))).same

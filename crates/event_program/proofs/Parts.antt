@@ -88,26 +88,26 @@ module _ (s : State) (t : Tally) (r : Reading) (bytes list trace : List ℕ) whe
               ap (λ (x : Listed). x.answer) said ∙ simp (lt-ltb (length list) (3 * length bytes) (omega arith)) in
               absurd (omega arith)
 
-      is-listed : (l ≡ listed_by (writes (numbers_in r bytes)) r bytes) × (list' ≡ onto (numbers_in r bytes) list)
+      is_listed : (l ≡ listed_by (writes (numbers_in r bytes)) r bytes) × (list' ≡ onto (numbers_in r bytes) list)
       unfolding listing
-      is-listed =
+      is_listed =
           let w = le-ltb (length list) (3 * length bytes) roomy in (
             said ∙ ap (λ (b : Bool). listed_by (if b then denied 10 else writes (numbers_in r bytes)) r bytes) w,
             filled ∙ ap (λ (b : Bool). writing_output (if b then denied 10 else writes (numbers_in r bytes)) list) w,
           )
 
-      is-running : running s t r bytes list trace ≡ tracing s t (numbers_in r bytes) trace
+      is_running : running s t r bytes list trace ≡ tracing s t (numbers_in r bytes) trace
       unfolding running
-      is-running =
+      is_running =
           ap (λ (b : Bool). if b then denied 10 else tracing s t (numbers_in r bytes) trace) (le-ltb (length list) (3 * length bytes) roomy)
 
       size_is : l.size ≡ length (numbers_in r bytes)
-      size_is = ap (λ (x : Listed). x.size) is-listed.0
+      size_is = ap (λ (x : Listed). x.size) is_listed.0
 
       front : take l.size list' ≡ numbers_in r bytes
       front =
           let numbers = numbers_in r bytes in
-          ap (take l.size) is-listed.1 ∙ take_at numbers (drop (length numbers) list) l.size (sym size_is)
+          ap (take l.size) is_listed.1 ∙ take_at numbers (drop (length numbers) list) l.size (sym size_is)
 
       module _ (d : Answered) (trace' : List ℕ)
           (did : (d ≡ answered_by (tracing s t (take l.size list') trace) s t (take l.size list'))
@@ -127,7 +127,7 @@ module _ (s : State) (t : Tally) (r : Reading) (bytes list trace : List ℕ) whe
         -- where the call refuses, or does all
         pub ran_refused : (d.answer ≡ 0 → ⊥) → RanLines (ran_as d.answer 0 r d.tally d.state) list' trace'
         ran_refused q =
-            subst⁻¹ (λ (w : Writing). RanBy w (ran_as d.answer 0 r d.tally d.state)) is-running
+            subst⁻¹ (λ (w : Writing). RanBy w (ran_as d.answer 0 r d.tally d.state)) is_running
             (go (ways s t (numbers_in r bytes) trace) done.0 done.1)
           where
             go : {w : Writing} → Ways s t (numbers_in r bytes) trace w → d ≡ answered_by w s t (numbers_in r bytes)
@@ -138,7 +138,7 @@ module _ (s : State) (t : Tally) (r : Reading) (bytes list trace : List ℕ) whe
 
         pub ran_all : d.answer ≡ 0 → RanLines (ran_as 0 l.size l.reading d.tally d.state) list' trace'
         ran_all q =
-            subst⁻¹ (λ (w : Writing). RanBy w (ran_as 0 l.size l.reading d.tally d.state)) is-running
+            subst⁻¹ (λ (w : Writing). RanBy w (ran_as 0 l.size l.reading d.tally d.state)) is_running
             (go (ways s t (numbers_in r bytes) trace) done.0 done.1)
           where
             size : l.size ≡ length (turns s t (numbers_in r bytes))
@@ -152,7 +152,7 @@ module _ (s : State) (t : Tally) (r : Reading) (bytes list trace : List ℕ) whe
                 let text = turns s t (numbers_in r bytes) in
                 let within : l.size ≤ length trace' =
                 omega (arith, size, ap length o ∙ length-append text (drop (length text) trace)) in (
-                  (λ i. ran_as 0 (size i) (ap (λ (x : Listed). x.reading) is-listed.0 i) (e i).tally (e i).state),
+                  (λ i. ran_as 0 (size i) (ap (λ (x : Listed). x.reading) is_listed.0 i) (e i).tally (e i).state),
                   (filled, (o, (within, sym (length-take-le l.size trace' within)))),
                 )
 

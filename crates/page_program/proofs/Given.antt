@@ -41,10 +41,10 @@ module _ (s : State) (i : ℕ) where
         (output_of s i report_room))
         (pw ∙ ap (λ (j : ℕ). is_waiting (station_in s j).condition) here)
 
-    by-there : (b : Bool) → is_there (asked_of s i).answer ≡ b
+    by_there : (b : Bool) → is_there (asked_of s i).answer ≡ b
         → part_writing asked.answer given old ≡ part_writing (asked_of s i).answer (station_part s i) old
-    by-there true e = ap₂ (λ (x : Asked) (y : List ℕ). part_writing x.answer y old) pa (same_text e)
-    by-there false e = ap (λ (x : Asked). part_writing x.answer given old) pa ∙ simp e
+    by_there true e = ap₂ (λ (x : Asked) (y : List ℕ). part_writing x.answer y old) pa (same_text e)
+    by_there false e = ap (λ (x : Asked). part_writing x.answer given old) pa ∙ simp e
 
     pub station_given : part_writing asked.answer given old ≡ part_writing (asked_of s i).answer (station_part s i) old
-    station_given = by-there (is_there (asked_of s i).answer) refl
+    station_given = by_there (is_there (asked_of s i).answer) refl
