@@ -110,7 +110,8 @@ module _ {Y R A : Type 0} (fresh : R) (on : R → ℕ → R) (ends : R → A) (a
         go false (no h) p q = simp (ne_eqb b 10 h) q
 
     closed_held : (bytes : List ℕ) (y : Y) (r : R) (t : Bool) → begun r ≡ t
-        → held (held y r bytes) (read y r bytes) (last (read y r bytes)) ≡ held_all fresh on ends act say y (answers fresh on ends r t bytes)
+        → held (held y r bytes) (read y r bytes) (last (read y r bytes))
+        ≡ held_all fresh on ends act say y (answers fresh on ends r t bytes)
     unfolding held_after read_after held_all
     closed_held [] y r true e = ap (λ (b : Bool). held y r (if b then 10 ∷ [] else [])) e
     closed_held [] y r false e = ap (λ (b : Bool). held y r (if b then 10 ∷ [] else [])) e

@@ -88,7 +88,8 @@ pub put_of : (text : List ℕ) (most at : ℕ) (old : List ℕ) (r : ℕ) (new :
     → (r ≡ place_after text at old) × (new ≡ put_at text at old) → Put text most at old r new
 put_of text most at old r new few h p = record { place = p.0 ∙ place_fits text at old (omega arith); output = p.1; few = few }
 
-pub put_size_lem : {text : List ℕ} {most at : ℕ} {old : List ℕ} {r : ℕ} {new : List ℕ} → Put text most at old r new → length new ≡ length old
+pub put_size_lem : {text : List ℕ} {most at : ℕ} {old : List ℕ} {r : ℕ} {new : List ℕ} → Put text most at old r new
+    → length new ≡ length old
 put_size_lem {text} {most} {at} {old} p = ap length p.output ∙ length_put text at old
 
 pub put_wider : {text : List ℕ} {less at : ℕ} {old : List ℕ} {r : ℕ} {new : List ℕ} (most : ℕ) → less ≤ most → Put text less at old r new

@@ -55,7 +55,8 @@ module _ {Y R A : Type 0} (fresh : R) (on : R → ℕ → R) (ends : R → A) (a
 
     unfoldable pub whole_text : Y → List (List ℕ) → List ℕ
     whole_text y pieces =
-        pieces_text y fresh pieces ++ text_after (pieces_held y fresh pieces) (pieces_read y fresh pieces) (closing (pieces_read y fresh pieces))
+        pieces_text y fresh pieces
+        ++ text_after (pieces_held y fresh pieces) (pieces_read y fresh pieces) (closing (pieces_read y fresh pieces))
 
     unfoldable pub whole_held : Y → List (List ℕ) → Y
     whole_held y pieces = held_after (pieces_held y fresh pieces) (pieces_read y fresh pieces) (closing (pieces_read y fresh pieces))

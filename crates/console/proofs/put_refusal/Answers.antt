@@ -14,7 +14,8 @@ returns-then-out-lt4 c =
 pub returns : goal.returns
 returns c =
     let a = c.args in
-    let n1 = chain_next (digits a.n) (chain_none 0 a.out.now (omega arith)) (c.put_number-at.ensures.place, c.put_number-at.ensures.output) in
+    let n1 = chain_next (digits a.n) (chain_none 0 a.out.now (omega arith))
+    (c.put_number-at.ensures.place, c.put_number-at.ensures.output) in
     let n2 = chain_next (10 ∷ []) n1 (c.put_word-end.ensures.place, c.put_word-end.ensures.output) in
     let t = wrote_all 4 (refusal_text a.n) a.out.now _ _ (omega arith) (put_same _ _ 4 0 a.out.now _ _ (refusal_whole a.n)
     (put_done _ 4 0 a.out.now _ _ n2 (refusal_few a.n (omega arith)) (omega arith))) in
