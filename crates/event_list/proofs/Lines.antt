@@ -19,13 +19,20 @@ use Rattle.event_list.specs.declared.Asked.{Asked}
 use Rattle.event_list.specs.Lines.{three_of, asked_by, passes, lists, listing, listed_by}
 
 -- ---- one line
+pub line_put : (said : List ℕ) (at : ℕ) (old : List ℕ) (kind a b : ℕ) → at + 3 ≤ length old → kind ∷ a ∷ b ∷ [] ≡ three_of said
+    → Put (three_of said) 3 at old (at + 3) (set (set (set old at kind) (at + 1) a) (at + 2) b)
+line_put said at old kind a b h is =
+    subst (λ (text : List ℕ). Put text 3 at old (at + 3) (set (set (set old at kind) (at + 1) a) (at + 2) b)) is
+    (put_done (kind ∷ a ∷ b ∷ []) 3 at old (at + 3) _ (stored_three old at kind a b h) (omega arith) h)
+
+-- three numbers are a line's that says them
 pub event_put : (at : ℕ) (old : List ℕ) (kind a b : ℕ) → at + 3 ≤ length old
     → Put (kind ∷ a ∷ b ∷ []) 3 at old (at + 3) (set (set (set old at kind) (at + 1) a) (at + 2) b)
-event_put at old kind a b h = put_done (kind ∷ a ∷ b ∷ []) 3 at old (at + 3) _ (stored_three old at kind a b h) (omega arith) h
+event_put at old kind a b h = line_put (0 ∷ kind ∷ a ∷ b ∷ []) at old kind a b h refl
 
-pub line_put : (said : List ℕ) (at : ℕ) (old : List ℕ) (n : ℕ) (new : List ℕ) (e : Asked) → e ≡ asked_by said
+pub asked_put : (said : List ℕ) (at : ℕ) (old : List ℕ) (n : ℕ) (new : List ℕ) (e : Asked) → e ≡ asked_by said
     → Put (e.kind ∷ e.a ∷ e.b ∷ []) 3 at old n new → Put (three_of said) 3 at old n new
-line_put said at old n new e is put = subst (λ (x : Asked). Put (x.kind ∷ x.a ∷ x.b ∷ []) 3 at old n new) is put
+asked_put said at old n new e is put = subst (λ (x : Asked). Put (x.kind ∷ x.a ∷ x.b ∷ []) 3 at old n new) is put
 
 -- ---- the loop: between two turns, three places for each byte
 abbrev pub Going : List ℕ → List ℕ → Reading → List ℕ → Reading → ℕ → ℕ → Type 0

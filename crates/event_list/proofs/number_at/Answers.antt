@@ -1,5 +1,4 @@
-use Rattle.event_list.proofs.Wholes.{not_good, digits_none, digits_small, digits_more, numbered}
-use mathlib.Core.Path.{refl}
+use Rattle.event_list.proofs.Wholes.{digits_none, digits_small, digits_more, numbered}
 use native.Mathlib.Omega.{arith}
 use borrow.Author.Tests.{ltb-true, eqb-true}
 use Rattle.event_list.proofs.number_at.Goals as goal
@@ -19,17 +18,11 @@ returns-then-byte-close c =
     let l = c.loop-i in
     λ good. numbered _ _ _ l.value l.i l.invariant.3 (ltb-true _ _ good) (omega arith) c.if-byte-close.true
 
-pub returns-then-byte-lt48 : goal.returns-then-byte-lt48
-returns-then-byte-lt48 c = not_good _ refl
-
-pub returns-then-byte-gt57 : goal.returns-then-byte-gt57
-returns-then-byte-gt57 c = not_good _ refl
-
 pub overflow_mul-value : goal.overflow_mul-value
-overflow_mul-value c = omega (arith, (let l = c.loop-i in digits_small _ _ l.value l.i l.invariant.3 (omega arith)))
+overflow_mul-value c = let l = c.loop-i in omega (arith, digits_small _ _ l.value l.i l.invariant.3 (omega arith))
 
 pub overflow_add-value : goal.overflow_add-value
-overflow_add-value c = omega (arith, (let l = c.loop-i in digits_small _ _ l.value l.i l.invariant.3 (omega arith)))
+overflow_add-value c = let l = c.loop-i in omega (arith, digits_small _ _ l.value l.i l.invariant.3 (omega arith))
 
 pub loop-i-preserved : goal.loop-i-preserved
 loop-i-preserved c =
@@ -44,6 +37,3 @@ pub returns-then-i-bytes : goal.returns-then-i-bytes
 returns-then-i-bytes c =
     let l = c.loop-i in
     λ good. numbered _ _ _ l.value l.i l.invariant.3 (omega (arith, l.invariant.2 (omega arith))) (omega arith) (eqb-true _ _ good)
-
-pub returns : goal.returns
-returns c = not_good _ refl
