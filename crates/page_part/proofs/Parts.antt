@@ -107,5 +107,6 @@ module _ (net : Net) (report : List ℕ) (n m : ℕ) (en : n ≡ min net.station
       let l3 : c ≤ 897 = omega (arith, p3.place, p3.few) in
       let c4 = chain_next (collect link_line (below m)) c3 (put_next (omega (arith, c3.size)) p4) in
       let l4 : r ≤ 3713 = omega (arith, p4.place, p4.few) in
-      put_lines (live_text (network_of net) s ones lowest report) part_most 0 old r o4 (chain_same (live_whole s ones lowest) c4) (omega arith)
+      put_lines (live_text (network_of net) s ones lowest report) part_most 0 old r o4
+      (chain_same (live_whole s ones lowest) c4) (omega arith)
       (omega arith)

@@ -48,8 +48,8 @@ unfolding still_text
 still_few s w h = simp length-append (omega (arith, byte_digits s h, condition_few w))
 
 -- ---- a live one
-pub reach_whole : (s ones n : ℕ) → ((((([] ++ station_word) ++ digits s) ++ live_word) ++ digits ones) ++ of_word) ++ digits n ≡ reach_text s
-    ones n
+pub reach_whole : (s ones n : ℕ)
+    → ((((([] ++ station_word) ++ digits s) ++ live_word) ++ digits ones) ++ of_word) ++ digits n ≡ reach_text s ones n
 unfolding reach_text
 reach_whole s ones n = simp append_assoc
 

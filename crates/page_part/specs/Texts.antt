@@ -39,7 +39,8 @@ unfoldable pub stations_seen : ℕ → List ℕ → List ℕ
 stations_seen stations report = collect (λ t. seen_text t (get_or report t 0)) (below stations)
 
 unfoldable pub links_seen : Network → List ℕ → List ℕ
-links_seen net report = collect (λ k. link_text k (ends net k).low (ends net k).high (get_or report (net.stations + k) 0)) (link_numbers net)
+links_seen net report =
+    collect (λ k. link_text k (ends net k).low (ends net k).high (get_or report (net.stations + k) 0)) (link_numbers net)
 
 unfoldable pub live_text : Network → ℕ → ℕ → ℕ → List ℕ → List ℕ
 live_text net s ones lowest report =

@@ -5,14 +5,16 @@ use Rattle.page_part.proofs.put_part.Goals as goal
 
 pub returns-then-not-is_there : goal.returns-then-not-is_there
 returns-then-not-is_there c =
-    let t = let a = c.args in part_refused a.number
+    let a = c.args in
+    let t = part_refused a.number
     (part_text a.number a.net a.s a.ones a.lowest a.waiting a.seen) a.out.now _ c.is_there.ensures
     c.if-not-is_there.true in
     record { answer = t.0; output = t.1.0; room = t.1.1 }
 
 pub returns-then-out-lt4096 : goal.returns-then-out-lt4096
 returns-then-out-lt4096 c =
-    let t = let a = c.args in part_short a.number
+    let a = c.args in
+    let t = part_short a.number
     (part_text a.number a.net a.s a.ones a.lowest a.waiting a.seen) a.out.now _
     c.is_there.ensures c.if-not-is_there.false c.if-out-lt4096.true in
     record { answer = t.0; output = t.1.0; room = t.1.1 }
