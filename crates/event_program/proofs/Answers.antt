@@ -62,30 +62,31 @@ module _ (answer flying settled at : ℕ) (old : List ℕ) (a64 : answer < 2 ^ 6
   room : Roomy answer flying settled at old
   room = answer_room answer flying settled at old few h
 
-  module _ (a : ℕ) (one : List ℕ) (p : (a ≡ place_after (digits answer) at old) × (one ≡ put_at (digits answer) at old)) where
+  module _ (a : ℕ) (one : List ℕ) (here : a ≡ place_after (digits answer) at old) (put : one ≡ put_at (digits answer) at old) where
     first_put : Chain (first_part answer) at old a one
-    first_put = chain_next (digits answer) (chain_none at old (omega arith)) p
+    first_put = chain_next (digits answer) (chain_none at old (omega arith)) (here, put)
 
     pub first_room : (a < length one) × (length one ≡ length old)
     first_room = (chain_room first_put room.first, first_put.size)
 
     module _ (c : ℕ) (two : List ℕ)
-        (q : (c ≡ place_after (digits flying) (a + 1) (set one a 32)) × (two ≡ put_at (digits flying) (a + 1) (set one a 32))) where
+        (here₂ : c ≡ place_after (digits flying) (a + 1) (set one a 32)) (put₂ : two ≡ put_at (digits flying) (a + 1) (set one a 32)) where
       second_put : Chain (second_part answer flying) at old c two
-      second_put = chain_next (digits flying) (chain_stored first_put room.first 32) q
+      second_put = chain_next (digits flying) (chain_stored first_put room.first 32) (here₂, put₂)
 
       pub second_room : (c < length two) × (length two ≡ length old)
       second_room = (chain_room second_put room.second, second_put.size)
 
       module _ (e : ℕ) (three : List ℕ)
-          (r : (e ≡ place_after (digits settled) (c + 1) (set two c 32)) × (three ≡ put_at (digits settled) (c + 1) (set two c 32))) where
-        third_put : Chain (third_part answer flying settled) at old e three
-        third_put = chain_next (digits settled) (chain_stored second_put room.second 32) r
+          (here₃ : e ≡ place_after (digits settled) (c + 1) (set two c 32)) (put₃ : three ≡ put_at (digits settled) (c + 1) (set two c 32))
+        where
+          third_put : Chain (third_part answer flying settled) at old e three
+          third_put = chain_next (digits settled) (chain_stored second_put room.second 32) (here₃, put₃)
 
-        pub third_room : (e < length three) × (length three ≡ length old)
-        third_room = (chain_room third_put room.third, third_put.size)
+          pub third_room : (e < length three) × (length three ≡ length old)
+          third_room = (chain_room third_put room.third, third_put.size)
 
-        pub line_put : Put (answer_text answer flying settled) 63 at old (e + 1) (set three e 10)
-        line_put =
-            put_same _ _ 63 at old _ _ (answer_whole answer flying settled)
-            (put_done _ 63 at old _ _ (chain_stored third_put room.third 10) few h)
+          pub line_put : Put (answer_text answer flying settled) 63 at old (e + 1) (set three e 10)
+          line_put =
+              put_same _ _ 63 at old _ _ (answer_whole answer flying settled)
+              (put_done _ 63 at old _ _ (chain_stored third_put room.third 10) few h)

@@ -72,7 +72,8 @@ module _ (s : State) (t : Tally) (r : Reading) where
 
   -- the line ends: its step stands first in the run
   ends : (b : ℕ) (bytes : List ℕ) → b ≡ 10
-      → SameLines (acted (desk_of s t) (line_end r)).state (acted (desk_of s t) (line_end r)).tally start bytes → SameLines s t r (b ∷ bytes)
+      → SameLines (acted (desk_of s t) (line_end r)).state (acted (desk_of s t) (line_end r)).tally start bytes
+      → SameLines s t r (b ∷ bytes)
   unfolding turns last_state last_tally answers_text acted spoken
   ends b bytes h v =
       let w = at_newline acted spoken (desk_of s t) r b bytes h in

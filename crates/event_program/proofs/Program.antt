@@ -99,7 +99,8 @@ module _ (net : Network) (t : T (sheet_holds net)) where
       ∙ ap₂ (λ (a b : List ℕ). a ++ b)
       (whole_text_lem start read_on line_end acted spoken is_begun not_first byte_begins event_line event_lines y pieces
       ∙ lines_print v (fresh net) no_tally first_carried no_fits said)
-      (ap (λ (d : Desk). stations_text d.state) (whole_held_lem start read_on line_end acted spoken is_begun not_first byte_begins event_line
+      (ap (λ (d : Desk). stations_text d.state)
+      (whole_held_lem start read_on line_end acted spoken is_begun not_first byte_begins event_line
       event_lines y pieces)
       ∙ ap stations_text ends.state ∙ end_prints v (done_all (begins net) said).world ends.carried)
 

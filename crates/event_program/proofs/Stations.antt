@@ -69,7 +69,8 @@ stations_whole s n i e h = ap (λ (k : ℕ). collect (station_line s) (below k))
 pub same_table : (s : State) (i m : ℕ) → m ≡ min s.net.links 64
     → collect (station_line s) (below i) ++ station_text i (take m (station_in s i).counters) ≡ collect (station_line s) (below (i + 1))
 same_table s i m e =
-    ap (λ (k : ℕ). collect (station_line s) (below i) ++ station_text i (take k (station_in s i).counters)) e ∙ texts_more (station_line s) i
+    ap (λ (k : ℕ). collect (station_line s) (below i) ++ station_text i (take k (station_in s i).counters)) e
+    ∙ texts_more (station_line s) i
 
 -- what fits is no longer than the place behind it
 pub stations_few : (text : List ℕ) (most : ℕ) (old : List ℕ) (r : ℕ) (new : List ℕ) → Chain text 0 old r new → r ≤ most → most ≤ length old

@@ -137,7 +137,8 @@ module _ (v : Net) (w : World) (c : Carried v w) (t : Tally) (f : Fits t) (said 
   line_refused n p h =
       let z : refusal w ev ≡ 0 → ⊥ = λ q. h (sym p ∙ q) in
       let d = stepped_refused v w c (get_or said 1 0) (get_or said 2 0) (get_or said 3 0) n p h in
-      let uncounted : tallied_by (Step.refusing n (state_of v w)) t ≡ t = sym (refusal_counts_nothing (Step.refusing n (state_of v w)) t h) in
+      let uncounted : tallied_by (Step.refusing n (state_of v w)) t ≡ t =
+      sym (refusal_counts_nothing (Step.refusing n (state_of v w)) t h) in
       let world : next w ev ≡ w = step_refuses w ev z in
       let tally : tally_by (accepted w ev) t (accepted_counts w ev) ≡ t = ap (λ (x : Bool). tally_by x t (accepted_counts w ev))
       (is_refused w ev z) in

@@ -22,7 +22,8 @@ loop-k-preserved c =
     let a = c.args in (
       omega arith,
       λ xs old h. chain_same (counters_more xs a.counters l.k (let size : length a.counters ≡ 64 = search rules in omega arith))
-          (chain_next (digits (get_or a.counters l.k 0)) (chain_next (32 ∷ []) (l.invariant.1 xs old h) (c.put_word-behind.ensures.place, c.put_word-behind.ensures.output))
+          (chain_next (digits (get_or a.counters l.k 0))
+          (chain_next (32 ∷ []) (l.invariant.1 xs old h) (c.put_word-behind.ensures.place, c.put_word-behind.ensures.output))
           (c.put_number-to-in-loop-k.ensures.place, c.put_number-to-in-loop-k.ensures.output)),
     )
 
@@ -30,10 +31,12 @@ pub returns : goal.returns
 returns c =
     let l = c.loop-k in
     let a = c.args in
-    let n1 = chain_next (digits a.i) (chain_none a.at a.out.now (omega arith)) (c.put_number-to.ensures.place, c.put_number-to.ensures.output) in
+    let n1 = chain_next (digits a.i) (chain_none a.at a.out.now (omega arith))
+    (c.put_number-to.ensures.place, c.put_number-to.ensures.output) in
     let n2 = chain_next (10 ∷ []) (l.invariant.1 (digits a.i) a.out.now n1) (c.put_word.ensures.place, c.put_word.ensures.output) in
     let done : l.k ≡ a.links = omega arith in
     let size : length a.counters ≡ 64 = search rules in
     let small : (k : ℕ) → get_or a.counters k 0 < 65536 = λ k. (let f : Fits w16 (get_or a.counters k 0) = search rules in f.fits) in
-    put_done (station_text a.i (take a.links a.counters)) station_most a.at a.out.now _ _ (chain_same (station_done a.i a.counters l.k a.links done) n2)
+    put_done (station_text a.i (take a.links a.counters)) station_most a.at a.out.now _ _
+    (chain_same (station_done a.i a.counters l.k a.links done) n2)
     (station_few a.i a.links a.counters (omega arith) (omega arith) size small) (omega arith)

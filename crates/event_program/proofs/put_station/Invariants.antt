@@ -8,4 +8,5 @@ use Rattle.event_program.proofs.put_station.Given as goal
 
 abbrev pub invariant-loop-k : goal.invariant-loop-k
 invariant-loop-k l =
-    (l.k ≤ l.links) × ((xs old : List ℕ) → Chain xs l.at old l.initial.to l.initial.out → Chain (xs ++ collect counter_text (take l.k l.counters)) l.at old l.to l.out)
+    (l.k ≤ l.links) × ((xs old : List ℕ) → Chain xs l.at old l.initial.to l.initial.out
+    → Chain (xs ++ collect counter_text (take l.k l.counters)) l.at old l.to l.out)
