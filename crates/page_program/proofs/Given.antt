@@ -5,12 +5,12 @@ use mathlib.Core.Path.{◌≡◌, refl, sym, ap, ap₂, ◌∙◌, subst}
 use mathlib.Core.List.{List}
 use native.Mathlib.Omega.{arith}
 use lib.Dec.{T}
+use borrow.Author.Tests.{lt-ltb}
 use Rattle.net.proofs.ValueLaws.{stations_few}
 use Rattle.station.specs.Holding.{is_waiting}
 use Rattle.state.specs.declared.State.{State}
 use Rattle.state.specs.State.{station_in}
 use Rattle.sets.specs.Rooms.{in_room}
-use Rattle.report.proofs.AskingHelpers.{place_there}
 use Rattle.report.proofs.Refusals.{Why, none, eleven, six, seven, number_why, stations_are}
 use Rattle.report.specs.declared.Asked.{Asked}
 use Rattle.report.specs.Answers.{asked_of}
@@ -18,6 +18,10 @@ use Rattle.report.proofs.WordShown.{answer_number}
 use Rattle.report.specs.ReportsAnswers.{output_of}
 use Rattle.page_part.specs.Parts.{is_there, part_text, part_writing}
 use Rattle.page_program.specs.Page.{report_room, station_part}
+
+-- a station's place is its number
+place_there : (i : ℕ) → i < 32 → i ≡ in_room i
+place_there i h = simp (lt-ltb i 32 h)
 
 module _ (s : State) (i : ℕ) where
   few_there : {n : ℕ} → Why s i n → is_there n ≡ true → i < 32

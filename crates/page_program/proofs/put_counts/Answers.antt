@@ -9,13 +9,15 @@ use Rattle.page_program.proofs.put_counts.Goals as goal
 
 pub returns-then-out-lt64 : goal.returns-then-out-lt64
 returns-then-out-lt64 c =
-    let t = let a = c.args in wrote_short 64 (counts_text a.a.taken a.a.refused) a.out.now c.if-out-lt64.true in
+    let a = c.args in
+    let t = wrote_short 64 (counts_text a.a.taken a.a.refused) a.out.now c.if-out-lt64.true in
     record { answer = t.0; output = t.1.0; room = t.1.1 }
 
 pub returns : goal.returns
 returns c =
     let a = c.args in
-    let n1 = chain_next (digits a.a.taken) (chain_none 0 a.out.now (omega arith)) (c.put_number-b.ensures.place, c.put_number-b.ensures.output) in
+    let n1 = chain_next (digits a.a.taken) (chain_none 0 a.out.now (omega arith))
+    (c.put_number-b.ensures.place, c.put_number-b.ensures.output) in
     let n2 = chain_next events_taken n1 (c.put_word-c.ensures.place, c.put_word-c.ensures.output) in
     let n3 = chain_next (digits a.a.refused) n2 (c.put_number-d.ensures.place, c.put_number-d.ensures.output) in
     let n4 = chain_next refused_word n3 (c.put_word-end.ensures.place, c.put_word-end.ensures.output) in
