@@ -12,7 +12,8 @@ pub returns : goal.returns
 returns c =
     let a = c.args in
     let text = first_text a.taken a.answer a.flying a.settled in
-    let n1 = chain_next (digits a.taken) (chain_none 0 a.out.now (omega arith)) (c.put_number-a.ensures.place, c.put_number-a.ensures.output) in
+    let n1 = chain_next (digits a.taken) (chain_none 0 a.out.now (omega arith))
+    (c.put_number-a.ensures.place, c.put_number-a.ensures.output) in
     let n2 = chain_next (32 ∷ []) n1 (c.put_word-b.ensures.place, c.put_word-b.ensures.output) in
     let n3 = chain_next (field_text a.answer) n2 (c.put_field-c.ensures.place, c.put_field-c.ensures.output) in
     let n4 = chain_next (field_text a.flying) n3 (c.put_field-d.ensures.place, c.put_field-d.ensures.output) in
