@@ -1,20 +1,25 @@
-// One call for many events: the state is tested once and then changed in place. Only `take_events` changes a state: no helper takes or
-// returns one, nor the letters' room, and no event copies or tests it. That the test need not be repeated is the theorem that a step keeps
-// well-formedness. What an event comes to is the plan in words of one station, as in the network's step, whose parts these are too
-// (crate `step_parts`); a turn differs from the step where a copy of a table can be spared.
+// One call for many events: the state is tested once and then changed in place, in parts (crate `run_rooms`). Only `take_events` changes
+// them: between the first event and the last no helper takes or returns a state or the letters' room, and no event copies or tests one.
+// That the test need not be repeated is the theorem that a step keeps well-formedness. What an event comes to is the plan in words of one
+// station, as in the network's step, whose parts these are too (crate `step_parts`); a turn differs from the step where a copy of a table
+// can be spared.
 #![tactic(auto)]
 
-ghost use Rattle.std.specs.Prelude.{◌≡◌, ◌||◌, [], ◌∷◌, ◌*◌};
+ghost use Rattle.std.specs.Prelude.{◌≡◌, ◌&&◌, ◌||◌, [], ◌∷◌, ◌*◌, ◌-◌, ltb, if◌then◌else◌};
+ghost use Rattle.world.specs.World.{no_letter};
 ghost use Rattle.fields.specs.Output.{writing_output};
 ghost use Rattle.text.specs.Text.{put_at};
 ghost use Rattle.step_rules.proofs.Bridge.{Good};
+ghost use Rattle.run_rooms.specs.Rooms.{spare_room};
 ghost use Rattle.backlog_rules.specs.Backlog.{backlog_of};
 ghost use Rattle.backlog_rules.specs.Answers.{tracing, answered_by};
 ghost use Rattle.backlog_run.specs.Events.{asked_at, event_count, Went};
 
 use backlog_rules::{Answered, Taken};
+use net::{Body, LINK_ROOM, Letter, MOST_LINKS};
+use run_rooms::{Held, SPARE_ROOM};
 use state::State;
-use station::{Kind, Station};
+use station::Kind;
 use tally::Tally;
 
 // ---- the list of events
@@ -91,13 +96,50 @@ fn either(a: bool, b: bool) -> bool
 
 // ---- the call
 
-// The events of a state that is well formed. It owns the state and alone changes it. It stops at the first refused event, or goes on.
-fn take_events(mut s: State, t: Tally, events: &[u32], stops: bool, trace: &mut [u64]) -> Taken
+// The letter at a place of those in flight, where there is one; else that of an unused place.
+fn in_flight(flies: bool, y: Letter) -> Letter
+    ensures { result ≡ (if flies then y else no_letter) }
+{
+    if flies {
+        return y;
+    }
+    Letter {
+        link: 0,
+        sender: 0,
+        body: Body::Request,
+    }
+}
+
+// Whether the front of the letters in flight closes up where one leaves: it is the shorter side, and has room to move up to.
+fn front_closes(place: usize, left: u16, start: usize) -> bool
+    ensures { result ≡ (ltb start spare_room && ltb place (left - place)) }
+{
+    if SPARE_ROOM <= start {
+        return false;
+    }
+    let behind = left as usize;
+    if behind < place {
+        return false;
+    }
+    place < behind - place
+}
+
+// The events of a state that is well formed. Between the first and the last of them the state is held in parts: what the stations hold
+// beside their tables; the tables of all of them side by side, so that no event copies one; and the letters in flight anywhere in their
+// room, so that where one leaves, the shorter side closes up. It stops at the first refused event, or goes on.
+fn take_events(s: State, t: Tally, events: &[u32], stops: bool, trace: &mut [u64]) -> Taken
     requires { Good s }
     ensures { Went stops s t events.now trace.old result trace.new }
 {
     let net = s.net;
     let owns = marks::own_words(net); // the same for every event, so they are found once
+    let stations = s.stations;
+    let mut held = run_rooms::held_of(stations);
+    let mut tables = run_rooms::tables_of(stations);
+    let letters = s.letters;
+    let mut room = run_rooms::moving_room(letters);
+    let mut start: usize = 0;
+    let mut flying = s.flying;
     let mut tally = t;
     let n = event_count(events.len());
     for taken in 0..n {
@@ -105,92 +147,121 @@ fn take_events(mut s: State, t: Tally, events: &[u32], stops: bool, trace: &mut 
         let e = event_at(events, taken);
         let what = e.what;
         let place = e.place;
-        let x = s.letters[place];
-        let flying = s.flying;
+        let at = start + place;
+        let y = room[at];
+        let x = in_flight(place < flying as usize, y);
         let names = step_parts::names_of(net, flying, what, e.a, e.b, x);
         let me = names.station;
         // what it comes to at the station that it concerns
         let who = me as usize;
-        let st = s.stations[who];
-        let plan = step_parts::plan_at(names, what, owns[who], x, st);
-        let table = st.counters;
-        // what is told and sent; a table is copied only where it changes or is looked through
-        let mut told = table;
-        if plan.sets {
-            told = station_table::told_table(plan.sets, plan.at, plan.counter, table);
-        }
+        let first = LINK_ROOM * who;
+        let on = first + names.link as usize;
+        let of = first + names.subject as usize;
+        let h = held[who];
+        let condition = h.condition;
+        let marks = h.marks;
+        let plan = station_event::events::plan_event(
+            names.there,
+            what,
+            owns[who],
+            me,
+            names.link,
+            x,
+            tables[on],
+            tables[of],
+            condition,
+            marks,
+        );
+        // what is sent; a table is copied only where it is looked through
         let mut send = plan.sends;
         if plan.knows {
+            let table = run_rooms::table_at(&tables, me);
+            let told = station_table::told_table(plan.sets, plan.at, plan.counter, table);
             send = station_table::narrow(plan.knows, net.links, told, send);
         }
         let count = post::count(send);
-        let room = step_parts::room_of(what, flying, place, plan.answer, count, x);
-        if room.answer != 0 {
+        let fate = step_parts::room_of(what, flying, place, plan.answer, count, x);
+        if fate.answer != 0 {
             // it changes nothing, and the numbers stand as they stood
-            put_turn(trace, taken, room.answer, flying, tally.settled);
+            put_turn(trace, taken, fate.answer, flying, tally.settled);
             if stops {
+                let after = run_rooms::stations_of(held, &tables);
+                let flown = run_rooms::gathered(room, start, flying);
                 return Taken {
-                    answer: room.answer,
+                    answer: fate.answer,
                     taken, // the refused one is not among them
                     tally,
-                    state: s,
+                    state: State {
+                        net,
+                        flying,
+                        stations: after,
+                        letters: flown,
+                    },
                 };
             }
             continue;
         }
-        // nothing refuses it: from here on the state is changed, in place; first the later letters close up
-        let last = room.left as usize;
-        let from = room.from;
-        for i in from..last {
-            let j = i + 1;
-            let y = s.letters[j];
-            s.letters[i] = y;
+        // nothing refuses it: from here on the parts are changed
+        if sets::both(plan.sets, plan.at < MOST_LINKS) {
+            let set = first + plan.at as usize;
+            tables[set] = plan.counter;
         }
-        let unused = room.unused;
-        let free = room.free;
-        s.letters[free] = unused;
+        let left = fate.left as usize;
+        if fate.left < flying {
+            // a letter leaves, and the shorter side closes up
+            if front_closes(place, fate.left, start) {
+                for i in 0..place {
+                    let to = at - i;
+                    let z = room[to - 1];
+                    room[to] = z;
+                }
+                start = start + 1;
+            } else {
+                let end = start + left;
+                for i in at..end {
+                    let z = room[i + 1];
+                    room[i] = z;
+                }
+            }
+        }
         // new letters go to the end
+        let behind = start + left;
         let mut post = post::begun(send);
         for i in 0..count {
-            let at = last + i as usize;
-            let subject = post::subject(post) as usize;
-            let y = post::first(post, me, told[subject]);
-            s.letters[at] = y;
+            let to = behind + i as usize;
+            let subject = first + post::subject(post) as usize;
+            let z = post::first(post, me, tables[subject]);
+            room[to] = z;
             post = post::rest(post);
         }
-        s.flying = room.left + count;
-        // the station is stored last, since what is told is told as it was before a reset or a purge; where no counter is set and the
-        // condition stays, as from kind 4 on, only its marks
+        flying = fate.left + count;
+        // the table is purged last, since what is told is told as it was before
+        if either(plan.resets, plan.purges) {
+            let table = run_rooms::table_at(&tables, me);
+            let kept = station_table::kept_table(net, me, plan.resets, plan.purges, table);
+            run_rooms::put_table(&mut tables, me, kept);
+        }
         let turned = plan.condition;
         let marked = plan.marks;
-        if either(plan.resets, plan.purges) {
-            let kept = station_table::kept_table(net, me, plan.resets, plan.purges, told);
-            s.stations[who] = Station {
-                condition: turned,
-                counters: kept,
-                marks: marked,
-            };
-        } else if either(plan.sets, e.kind < 4) {
-            s.stations[who] = Station {
-                condition: turned,
-                counters: told,
-                marks: marked,
-            };
-        } else {
-            s.stations[who].marks.token = marked.token;
-            s.stations[who].marks.turn = marked.turn;
-            s.stations[who].marks.testing = marked.testing;
-            s.stations[who].marks.asked = marked.asked;
-            s.stations[who].marks.quiet = marked.quiet;
-        }
+        held[who] = Held {
+            condition: turned,
+            marks: marked,
+        };
         tally = tally::added(tally, plan.counts);
-        put_turn(trace, taken, 0, s.flying, tally.settled);
+        put_turn(trace, taken, 0, flying, tally.settled);
     }
+    let after = run_rooms::stations_of(held, &tables);
+    let flown = run_rooms::gathered(room, start, flying);
     Taken {
         answer: 0,
         taken: n,
         tally,
-        state: s,
+        state: State {
+            net,
+            flying,
+            stations: after,
+            letters: flown,
+        },
     }
 }
 

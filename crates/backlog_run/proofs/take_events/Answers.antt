@@ -1,30 +1,46 @@
--- What `take_events` has seen of an event when it has its answer (`facts`), and what it then makes of the state: the step (`after_turn`).
-use Rattle.std.proofs.Common.{◌≡◌, ℕ, ◌+◌, ◌<◌, List, length, get_or, min, sym, ap, ◌∙◌, refl, arith}
-use Rattle.net.specs.declared.Net.{Net}
+-- What `take_events` has seen of an event when it has its answer (`facts`), and what it then makes of the parts in which it holds the
+-- state: they mean the state that the step leaves.
+use Rattle.std.proofs.Common.{◌≡◌, ℕ, ◌+◌, ◌*◌, ◌<◌, ◌≤◌, List, ◌++◌, length, get_or, min, sym, ap, ◌∙◌, refl, arith}
+use lib.ListN.{length-set}
 use Rattle.net.specs.Sizes.{link_room, letter_room}
 use Rattle.sets.specs.Sets.{word_by}
 use Rattle.marks.specs.Marks.{own_at}
 use Rattle.marks.proofs.OwnLinks.{own_word}
-use Rattle.station_plan.specs.Carrying.{narrowed, kept_by}
-use Rattle.station_plan.specs.Plans.{told_in}
-use Rattle.state.specs.declared.State.{State}
-use Rattle.state.specs.State.{letter_in, station_in}
+use Rattle.station.specs.Values.{letters_of}
+use Rattle.station_plan.specs.Carrying.{told_by, narrowed, kept_by}
+use Rattle.state.specs.State.{letter_in}
 use Rattle.post.proofs.PostLaws as P
 use Rattle.step_rules.specs.Step.{refusing, stepped_of}
 use Rattle.step_parts.specs.declared.Room.{Room}
 use Rattle.step_parts.specs.Parts.{names_by, room_by}
 use Rattle.step_parts.proofs.Helpers.{place_few, Placed, placed}
-use Rattle.step_parts.proofs.Made.{Facts, refused_event, answer_refusal, free_within}
-use Rattle.step_parts.proofs.Loops.{closes_more, puts_more}
-use Rattle.step_parts.proofs.Turned.{closing_begins, putting_begins, stores_again}
+use Rattle.step_parts.proofs.Made.{Facts, refused_event, answer_refusal, left_letters, few_after}
+use Rattle.run_rooms.specs.Rooms.{table_in, in_flight, state_in}
+use Rattle.run_rooms.proofs.Moves.{rises_more, falls_none, falls_more}
+use Rattle.run_rooms.proofs.Parts.{letter_in_lem, counter_in_lem}
 use Rattle.backlog_run.specs.Events.{event_count}
 use Rattle.backlog_run.proofs.Course.{asked_kind, asked_place, course_taken, course_refused, course_stops, course_ends}
-use Rattle.backlog_run.proofs.Turns.{told_same, told_long, sent_same, kept_same}
-use Rattle.backlog_run.proofs.Lasting.{stands_stored, plan_lasts, with_stations, words_stored, neither}
+use Rattle.backlog_run.proofs.Posting.{posts_none, posts_more, posts_end}
+use Rattle.backlog_run.proofs.Running.{running_begins, begun_is, running_on, few_fly, telling, Told, at_few, told_set, told_as_is}
+use Rattle.backlog_run.proofs.Running.{table_kept, table_stays, front_few, Closed, plans_at, tells_at, one_leaves, none_closes}
+use Rattle.backlog_run.proofs.Running.{front_closed, back_closed, kept_long, turned, went_back}
+use Rattle.backlog_run.proofs.Turns.{sent_same, kept_same}
 use Rattle.backlog_run.proofs.take_events.Goals as goal
-use Rattle.backlog_run.proofs.take_events.Goals.{After-event_at-e, After-names_of-names, After-count-count}
-use Rattle.backlog_run.proofs.take_events.Goals.{then-plan, else-plan, then-plan-2, else-plan-2}
-use Rattle.backlog_run.proofs.take_events.Goals.{then-either, else-either+then-either-2, else-either+else-either-2}
+use Rattle.backlog_run.proofs.take_events.Goals.{After-event_at-e, After-names_of-names, After-count-count, After-begun-post}
+use Rattle.backlog_run.proofs.take_events.Goals.{After-added-tally}
+use Rattle.backlog_run.proofs.take_events.Goals.{then-plan, else-plan, then-both, else-both, then-either, else-either}
+use Rattle.backlog_run.proofs.take_events.Goals.{then-fate-flying+then-front_closes+else-loop-i-test}
+use Rattle.backlog_run.proofs.take_events.Goals.{then-fate-flying+else-front_closes+else-loop-i-else-front_closes-test, else-fate-flying}
+
+-- at first the parts are those of the state that was given
+pub loop-taken-init : goal.loop-taken-init
+loop-taken-init c =
+    record {
+      within = omega arith;
+      whole = c.event_count-n.ensures;
+      running = running_begins c.args.s _ _ _ c.held_of-held.ensures c.tables_of-tables.ensures c.moving_room-room.ensures
+          c.requires _ _ _ _;
+    }
 
 -- ---- what is read is within its room
 place_within : (c : After-event_at-e) → c.event_at-e.result.place < letter_room
@@ -34,93 +50,116 @@ place_within c =
 names_within : (c : After-names_of-names) → Placed c.names_of-names.result
 names_within c = placed _ _ _ _ _ _ _ c.names_of-names.ensures
 
-pub offset_bounds-s-place : goal.offset_bounds-s-place
-offset_bounds-s-place c = omega (arith, place_within (goal.at.offset_bounds-s-place c).After-event_at-e)
+pub overflow_add-at : goal.overflow_add-at
+overflow_add-at c =
+    omega (arith, place_within (goal.at.overflow_add-at c).After-event_at-e, c.loop-taken.invariant.running.front)
 
-pub bounds-s-place : goal.bounds-s-place
-bounds-s-place c = place_within (goal.at.bounds-s-place c).After-event_at-e
+pub offset_bounds-room-at : goal.offset_bounds-room-at
+offset_bounds-room-at c =
+    omega (arith, place_within (goal.at.offset_bounds-room-at c).After-event_at-e, c.loop-taken.invariant.running.front)
 
-pub bounds-s-who : goal.bounds-s-who
-bounds-s-who c = (names_within (goal.at.bounds-s-who c).After-names_of-names).station
+pub bounds-room-at : goal.bounds-room-at
+bounds-room-at c =
+    omega (arith, place_within (goal.at.bounds-room-at c).After-event_at-e, c.loop-taken.invariant.running.front)
+
+pub bounds-held-who : goal.bounds-held-who
+bounds-held-who c = (names_within (goal.at.bounds-held-who c).After-names_of-names).station
 
 pub bounds-owns-who : goal.bounds-owns-who
 bounds-owns-who c = (names_within (goal.at.bounds-owns-who c).After-names_of-names).station
 
--- ---- what the code has seen when it has counted the letters
-told_is : (c : After-count-count)
-    → c.if-plan.told ≡ told_in c.plan_at-plan.result (station_in c.loop-taken.s c.names_of-names.result.station)
-told_is c =
-    elim c.if-plan.branch [
-      | then-plan w ↦ w.told-is ∙ w.told_table-told.ensures
-      | else-plan w ↦ w.told-is ∙ told_same _ _ _ _ w.if-plan.false
-    ]
+pub bounds-tables-on : goal.bounds-tables-on
+bounds-tables-on c =
+    let w = names_within (goal.at.bounds-tables-on c).After-names_of-names in
+    omega (arith, w.station, w.link)
 
+pub bounds-tables-of : goal.bounds-tables-of
+bounds-tables-of c =
+    let w = names_within (goal.at.bounds-tables-of c).After-names_of-names in
+    omega (arith, w.station, w.subject)
+
+-- ---- what the code has seen when it has counted the letters
+-- the letter is that of the state
+letter_is : (c : After-count-count)
+    → c.in_flight-x.result
+    ≡ letter_in (state_in c.args.s.net c.loop-taken.held c.loop-taken.tables c.loop-taken.room c.loop-taken.start c.loop-taken.flying)
+    c.event_at-e.result.place
+letter_is c =
+    let l = c.loop-taken in
+    let e = c.event_at-e.result in
+    c.in_flight-x.ensures
+    ∙ letter_in_lem l.room l.start l.flying e.place (place_few e.a e.place (asked_place _ _ e c.event_at-e.ensures))
+    (few_fly l.invariant.running)
+
+-- what is sent, by a test or by its function
 sent_is : (c : After-count-count)
-    → c.if-plan-2.send
-    ≡ narrowed c.plan_at-plan.result.knows (min c.loop-taken.s.net.links link_room) c.if-plan.told c.plan_at-plan.result.sends
+    → c.if-plan.send
+    ≡ narrowed c.plan_event-plan.result.knows (min c.args.s.net.links link_room)
+    (telling c.loop-taken.tables c.names_of-names.result.station c.plan_event-plan.result) c.plan_event-plan.result.sends
 sent_is c =
-    elim c.if-plan-2.branch [
-      | then-plan-2 w ↦ w.send-is ∙ w.narrow-send.ensures
-      | else-plan-2 w ↦ w.send-is ∙ sent_same _ _ c.if-plan.told _ w.if-plan-2.false
+    let p = c.plan_event-plan.result in
+    let told = telling c.loop-taken.tables c.names_of-names.result.station p in
+    elim c.if-plan.branch [
+      | then-plan w ↦
+          w.send-is ∙ w.narrow-send.ensures
+          ∙ ap (λ (t : List ℕ). narrowed p.knows (min c.args.s.net.links link_room) t p.sends)
+          (w.told_table-told.ensures ∙ ap (told_by p.sets p.at p.counter) w.table_at-table.ensures)
+      | else-plan w ↦ w.send-is ∙ sent_same _ _ told _ w.if-plan.false
     ]
-    ∙ ap (λ (n : Net). narrowed c.plan_at-plan.result.knows (min n.links link_room) c.if-plan.told c.plan_at-plan.result.sends)
-    (sym c.loop-taken.invariant.course.net)
 
 own_is : (c : After-count-count)
-    → get_or c.own_words-owns.result c.names_of-names.result.station 0
-    ≡ word_by (own_at c.loop-taken.s.net c.names_of-names.result.station)
+    → get_or c.own_words-owns.result c.names_of-names.result.station 0 ≡ word_by (own_at c.args.s.net c.names_of-names.result.station)
 own_is c =
     ap (λ (l : List ℕ). get_or l c.names_of-names.result.station 0) c.own_words-owns.ensures
     ∙ own_word _ c.names_of-names.result.station (placed _ _ _ _ _ _ _ c.names_of-names.ensures).station
-    ∙ ap (λ (n : Net). word_by (own_at n c.names_of-names.result.station)) (sym c.loop-taken.invariant.course.net)
 
 -- and its answer
 facts : (c : After-count-count) (r : Room)
-    → r ≡ room_by c.event_at-e.result.what c.loop-taken.s.flying c.event_at-e.result.place c.plan_at-plan.result.answer
-    c.count-count.result (letter_in c.loop-taken.s c.event_at-e.result.place)
-    → Facts c.loop-taken.s c.event_at-e.result.kind c.event_at-e.result.a c.event_at-e.result.b c.event_at-e.result.what
-    c.event_at-e.result.place c.names_of-names.result (get_or c.own_words-owns.result c.names_of-names.result.station 0)
-    c.plan_at-plan.result c.if-plan.told c.if-plan-2.send c.count-count.result r
+    → r ≡ room_by c.event_at-e.result.what c.loop-taken.flying c.event_at-e.result.place c.plan_event-plan.result.answer
+    c.count-count.result c.in_flight-x.result
+    → Facts
+    (state_in c.args.s.net c.loop-taken.held c.loop-taken.tables c.loop-taken.room c.loop-taken.start c.loop-taken.flying)
+    c.event_at-e.result.kind c.event_at-e.result.a c.event_at-e.result.b c.event_at-e.result.what c.event_at-e.result.place
+    c.names_of-names.result (get_or c.own_words-owns.result c.names_of-names.result.station 0) c.plan_event-plan.result
+    (telling c.loop-taken.tables c.names_of-names.result.station c.plan_event-plan.result) c.if-plan.send c.count-count.result r
 facts c r is =
     let l = c.loop-taken in
+    let g = l.invariant.running.course.good in
     let e = c.event_at-e.result in
+    let net = c.args.s.net in
+    let n = c.names_of-names.result in
+    let w = placed _ _ _ _ _ _ _ c.names_of-names.ensures in
+    let p = c.plan_event-plan.result in
     record {
       seen = record {
-        sized = l.invariant.course.good.sized;
-        holds = l.invariant.course.good.holds;
+        sized = g.sized;
+        holds = g.holds;
         decodes = asked_kind _ _ e c.event_at-e.ensures;
         at = asked_place _ _ e c.event_at-e.ensures;
-        names =
-            c.names_of-names.ensures
-            ∙ ap (λ (n : Net). names_by n l.s.flying e.what e.a e.b (letter_in l.s e.place)) (sym l.invariant.course.net);
+        names = c.names_of-names.ensures ∙ ap (names_by net l.flying e.what e.a e.b) (letter_is c);
         mine = own_is c;
-        plans = c.plan_at-plan.ensures.1;
+        plans = plans_at net l.held l.tables l.room l.start l.flying n w e.what _ c.in_flight-x.result _ p (letter_is c)
+            c.plan_event-plan.ensures.1;
       };
-      tells = told_is c;
+      tells = tells_at net l.held l.tables l.room l.start l.flying n.station w.station p;
       sends = sent_is c;
-      counts = c.count-count.ensures c.names_of-names.result.station c.if-plan.told;
-      room = is;
+      counts = c.count-count.ensures n.station (telling l.tables n.station p);
+      room = is ∙ ap (room_by e.what l.flying e.place p.answer c.count-count.result) (letter_is c);
     }
-
--- the table that is told has its room
-told_size : (c : After-count-count) → length c.if-plan.told ≡ link_room
-told_size c =
-    let p = c.plan_at-plan.result in
-    let me = c.names_of-names.result.station in
-    ap length (told_is c)
-    ∙ told_long p.sets p.at p.counter link_room (station_in c.loop-taken.s me).counters
-    (c.loop-taken.invariant.course.good.sized.each me (placed _ _ _ _ _ _ _ c.names_of-names.ensures).station).counters
 
 -- ---- the event is refused
 no_step : (c : After-count-count) (r : Room)
-    → r ≡ room_by c.event_at-e.result.what c.loop-taken.s.flying c.event_at-e.result.place c.plan_at-plan.result.answer
-    c.count-count.result (letter_in c.loop-taken.s c.event_at-e.result.place) → (r.answer ≡ 0 → ⊥)
-    → refusing r.answer c.loop-taken.s
-    ≡ stepped_of c.loop-taken.s c.event_at-e.result.kind c.event_at-e.result.a c.event_at-e.result.b
+    → r ≡ room_by c.event_at-e.result.what c.loop-taken.flying c.event_at-e.result.place c.plan_event-plan.result.answer
+    c.count-count.result c.in_flight-x.result → (r.answer ≡ 0 → ⊥)
+    → refusing r.answer
+    (state_in c.args.s.net c.loop-taken.held c.loop-taken.tables c.loop-taken.room c.loop-taken.start c.loop-taken.flying)
+    ≡ stepped_of
+    (state_in c.args.s.net c.loop-taken.held c.loop-taken.tables c.loop-taken.room c.loop-taken.start c.loop-taken.flying)
+    c.event_at-e.result.kind c.event_at-e.result.a c.event_at-e.result.b
 no_step c r is n =
     let e = c.event_at-e.result in
     let f = facts c r is in
-    refused_event c.loop-taken.s e.kind e.a e.b f.seen.holds _ (answer_refusal f) n
+    refused_event _ e.kind e.a e.b f.seen.holds _ (answer_refusal f) n
 
 within : (c : After-count-count) → c.loop-taken.taken < event_count (length c.args.events.now)
 within c = omega (arith, c.loop-taken-test.true, c.loop-taken.invariant.whole)
@@ -129,104 +168,216 @@ pub returns-then-stops : goal.returns-then-stops
 returns-then-stops c =
     let n = (goal.at.returns-then-stops c).After-count-count in
     let l = c.loop-taken in
-    course_stops _ _ _ _ _ l.s l.tally l.taken l.trace l.invariant.course c.event_at-e.result c.event_at-e.ensures (within n)
-    c.room_of-room.result.answer (no_step n c.room_of-room.result c.room_of-room.ensures c.if-room-ne0.true) c.if-room-ne0.true _
-    c.put_turn.ensures c.if-stops.true
+    let fate = c.room_of-fate.result in
+    went_back _ _ c.args.s _ _ _ _ _ _ _ c.args.s.net l.held l.tables l.room l.start l.flying _ _
+    (begun_is c.args.s _ _ _ c.held_of-held.ensures c.tables_of-tables.ensures c.moving_room-room.ensures c.requires)
+    c.stations_of-after.ensures c.gathered-flown.ensures (few_fly l.invariant.running) l.invariant.running.front
+    (course_stops _ _ _ _ _ _ l.tally l.taken l.trace l.invariant.running.course c.event_at-e.result c.event_at-e.ensures (within n)
+    fate.answer (no_step n fate c.room_of-fate.ensures c.if-fate-ne0.true) c.if-fate-ne0.true _ c.put_turn.ensures c.if-stops.true)
 
-pub loop-taken-preserved-then-room-ne0 : goal.loop-taken-preserved-then-room-ne0
-loop-taken-preserved-then-room-ne0 c =
-    let n = (goal.at.loop-taken-preserved-then-room-ne0 c).After-count-count in
+pub loop-taken-preserved-then-fate-ne0 : goal.loop-taken-preserved-then-fate-ne0
+loop-taken-preserved-then-fate-ne0 c =
+    let n = (goal.at.loop-taken-preserved-then-fate-ne0 c).After-count-count in
     let l = c.loop-taken in
+    let fate = c.room_of-fate.result in
     record {
       within = omega (arith, c.loop-taken-test.true);
       whole = l.invariant.whole;
-      course = course_refused _ _ _ _ _ l.s l.tally l.taken l.trace l.invariant.course c.event_at-e.result c.event_at-e.ensures (within n)
-          c.room_of-room.result.answer (no_step n c.room_of-room.result c.room_of-room.ensures c.if-room-ne0.true) c.if-room-ne0.true _
-          c.put_turn.ensures c.if-stops.false;
+      running = running_on l.invariant.running
+          (course_refused _ _ _ _ _ _ l.tally l.taken l.trace l.invariant.running.course c.event_at-e.result c.event_at-e.ensures
+          (within n) fate.answer (no_step n fate c.room_of-fate.ensures c.if-fate-ne0.true) c.if-fate-ne0.true _ c.put_turn.ensures
+          c.if-stops.false);
     }
 
-pub loop-i-init : goal.loop-i-init
-loop-i-init c =
-    let f = facts (goal.at.loop-i-init c).After-count-count c.room_of-room.result c.room_of-room.ensures in
-    closing_begins f c.if-room-ne0.false c.loop-taken.s (station_in c.loop-taken.s c.names_of-names.result.station)
-    (stands_stored c.loop-taken.s c.names_of-names.result.station)
+-- ---- the event is taken: where a counter is set
+pub bounds-tables-set : goal.bounds-tables-set
+bounds-tables-set c =
+    let p = c.plan_event-plan.result in
+    let w = names_within (goal.at.bounds-tables-set c).After-names_of-names in
+    let few = at_few p.sets p.at (sym c.both.ensures ∙ c.if-both.true) in
+    omega (arith, w.station, few)
+
+told_now : (c : After-begun-post)
+    → Told c.loop-taken.tables c.if-both.tables c.names_of-names.result.station
+    (telling c.loop-taken.tables c.names_of-names.result.station c.plan_event-plan.result)
+told_now c =
+    let p = c.plan_event-plan.result in
+    let t = c.loop-taken.tables in
+    let me = c.names_of-names.result.station in
+    let few = (placed _ _ _ _ _ _ _ c.names_of-names.ensures).station in
+    let room : link_room * me + link_room ≤ length t = omega (arith, few, c.loop-taken.invariant.running.tables_size) in
+    elim c.if-both.branch [
+      | then-both w ↦ told_set t me p.at p.counter room p.sets (sym c.both.ensures ∙ w.if-both.true) _ w.tables-is
+      | else-both w ↦ told_as_is t me p.at p.counter room p.sets (sym c.both.ensures ∙ w.if-both.false) _ w.tables-is
+    ]
+
+-- ---- where the letters close up
+pub bounds-room-to : goal.bounds-room-to
+bounds-room-to c =
+    omega (arith, place_within (goal.at.bounds-room-to c).After-event_at-e, c.loop-taken.invariant.running.front)
+
+pub bounds-room-to-in-loop-i : goal.bounds-room-to-in-loop-i
+bounds-room-to-in-loop-i c =
+    omega (arith, place_within (goal.at.bounds-room-to-in-loop-i c).After-event_at-e, c.loop-taken.invariant.running.front)
 
 pub loop-i-preserved : goal.loop-i-preserved
-loop-i-preserved c = closes_more c.loop-i.invariant c.loop-i-test.true
+loop-i-preserved c =
+    let r = c.loop-taken.invariant.running in
+    let few = place_within (goal.at.loop-i-preserved c).After-event_at-e in
+    record {
+      within = omega (arith, c.loop-i-test.true);
+      moved = rises_more c.loop-i.invariant.moved (omega (arith, c.loop-i-test.true)) (omega (arith, few, r.front, r.room_size));
+    }
 
-pub offset_bounds-s-free : goal.offset_bounds-s-free
-offset_bounds-s-free c =
-    let f = facts (goal.at.offset_bounds-s-free c).After-count-count c.room_of-room.result c.room_of-room.ensures in
-    let h = free_within f c.if-room-ne0.false in
-    omega (arith, h)
+pub loop-i-else-front_closes-init : goal.loop-i-else-front_closes-init
+loop-i-else-front_closes-init c =
+    let l = c.loop-taken in
+    let f = facts (goal.at.loop-i-else-front_closes-init c).After-count-count c.room_of-fate.result c.room_of-fate.ensures in
+    let less = (one_leaves c.args.s.net l.held l.tables l.room l.start l.flying f c.if-fate-ne0.false c.if-fate-flying.true).0 in
+    record { within = omega (arith, less); moved = falls_none _ _ }
 
-pub bounds-s-free : goal.bounds-s-free
-bounds-s-free c =
-    free_within (facts (goal.at.bounds-s-free c).After-count-count c.room_of-room.result c.room_of-room.ensures) c.if-room-ne0.false
+pub bounds-room-i : goal.bounds-room-i
+bounds-room-i c =
+    let r = c.loop-taken.invariant.running in
+    omega (arith, few_fly r, r.front, c.if-fate-flying.true, c.loop-i-else-front_closes-test.true)
 
+pub bounds-room-i-in-loop-i-else-front_closes : goal.bounds-room-i-in-loop-i-else-front_closes
+bounds-room-i-in-loop-i-else-front_closes c =
+    let r = c.loop-taken.invariant.running in
+    omega (arith, few_fly r, r.front, c.if-fate-flying.true, c.loop-i-else-front_closes-test.true)
+
+pub loop-i-else-front_closes-preserved : goal.loop-i-else-front_closes-preserved
+loop-i-else-front_closes-preserved c =
+    let r = c.loop-taken.invariant.running in
+    let t = c.loop-i-else-front_closes-test.true in
+    record {
+      within = omega (arith, t);
+      moved = falls_more c.loop-i-else-front_closes.invariant.moved
+          (omega (arith, few_fly r, r.front, r.room_size, c.if-fate-flying.true, t));
+    }
+
+closed : (c : After-begun-post) (own : ℕ)
+    (f : Facts (state_in c.args.s.net c.loop-taken.held c.loop-taken.tables c.loop-taken.room c.loop-taken.start c.loop-taken.flying)
+    c.event_at-e.result.kind c.event_at-e.result.a c.event_at-e.result.b c.event_at-e.result.what c.event_at-e.result.place
+    c.names_of-names.result own c.plan_event-plan.result
+    (telling c.loop-taken.tables c.names_of-names.result.station c.plan_event-plan.result) c.if-plan.send c.count-count.result
+    c.room_of-fate.result) (q : c.room_of-fate.result.answer ≡ 0)
+    → Closed (left_letters f q) c.room_of-fate.result.left c.if-fate-flying.room c.if-fate-flying.start
+closed c own f q =
+    let l = c.loop-taken in
+    let r = l.invariant.running in
+    let net = c.args.s.net in
+    let place = c.event_at-e.result.place in
+    let left = c.room_of-fate.result.left in
+    elim c.if-fate-flying.branch [
+      | then-fate-flying+then-front_closes+else-loop-i-test w ↦
+          front_closed net l.held l.tables l.room l.start l.flying f q r.room_size r.front w.if-fate-flying.true
+          (front_few l.start place left (sym w.front_closes.ensures ∙ w.if-front_closes.true)) w.loop-i.invariant.moved refl
+          (omega (arith, w.loop-i.invariant.within, w.loop-i-test.false)) _ _ w.room-is w.start-is
+      | then-fate-flying+else-front_closes+else-loop-i-else-front_closes-test w ↦
+          back_closed net l.held l.tables l.room l.start l.flying f q r.room_size r.front w.if-fate-flying.true
+          w.loop-i-else-front_closes.invariant.moved refl
+          (omega (arith, w.loop-i-else-front_closes.invariant.within, w.loop-i-else-front_closes-test.false)) _ _ w.room-is w.start-is
+      | else-fate-flying w ↦
+          none_closes net l.held l.tables l.room l.start l.flying f q r.room_size r.front w.if-fate-flying.false _ _ w.room-is w.start-is
+    ]
+
+-- ---- where new ones are put
 pub loop-i-2-init : goal.loop-i-2-init
 loop-i-2-init c =
-    let n = (goal.at.loop-i-2-init c).After-count-count in
-    putting_begins (facts n c.room_of-room.result c.room_of-room.ensures) c.if-room-ne0.false c.loop-i.s c.begun-post.result
-    (told_size n) c.begun-post.ensures
+    let f = facts (goal.at.loop-i-2-init c).After-count-count c.room_of-fate.result c.room_of-fate.ensures in
+    let few = few_after f c.if-fate-ne0.false in
+    let k = closed (goal.at.loop-i-2-init c).After-begun-post _ f c.if-fate-ne0.false in
+    let told = table_in c.if-both.tables c.names_of-names.result.station in
+    posts_none _ _ _ told _ c.if-plan.send _ c.begun-post.ensures (c.count-count.ensures c.names_of-names.result.station told)
+    (omega (arith, few, k.front, k.size))
 
-pub bounds-told-subject : goal.bounds-told-subject
-bounds-told-subject c = P.subject_few c.loop-i-2.post _ c.subject-subject.ensures
+pub bounds-tables-subject : goal.bounds-tables-subject
+bounds-tables-subject c =
+    let few = (names_within (goal.at.bounds-tables-subject c).After-names_of-names).station in
+    let j = P.subject_few c.loop-i-2.post _ c.subject.ensures in
+    omega (arith, few, j)
 
 pub loop-i-2-preserved : goal.loop-i-2-preserved
 loop-i-2-preserved c =
-    puts_more c.loop-i-2.invariant c.loop-i-2-test.true _ _ _ c.subject-subject.ensures c.first-y.ensures c.rest-post.ensures
+    let j = c.subject in
+    let few = P.subject_few c.loop-i-2.post _ j.ensures in
+    posts_more c.loop-i-2.invariant c.loop-i-2-test.true j.result _ _ _ j.ensures
+    (sym (counter_in_lem c.if-both.tables c.names_of-names.result.station j.result few)) c.first-z.ensures c.rest-post.ensures
 
--- ---- the event is taken
--- a state with so many letters in flight, and with these stations
-abbrev flies : State → ℕ → State
-flies s m = record { net = s.net; flying = m; stations = s.stations; letters = s.letters }
+-- ---- the table that is kept
+pub bounds-held-who-in-loop-taken : goal.bounds-held-who-in-loop-taken
+bounds-held-who-in-loop-taken c = (names_within (goal.at.bounds-held-who-in-loop-taken c).After-names_of-names).station
 
--- whichever way the station was stored, it is the step's
+kept_now : (c : After-added-tally) (told kept : List ℕ) → length kept ≡ link_room
+    → Told c.loop-taken.tables c.if-both.tables c.names_of-names.result.station told
+    → kept ≡ kept_by c.args.s.net c.names_of-names.result.station c.plan_event-plan.result.resets c.plan_event-plan.result.purges told
+    → Told c.if-both.tables c.if-either.tables c.names_of-names.result.station kept
+kept_now c told kept long t is =
+    let net = c.args.s.net in
+    let p = c.plan_event-plan.result in
+    let me = c.names_of-names.result.station in
+    let few = (placed _ _ _ _ _ _ _ c.names_of-names.ensures).station in
+    let tables = c.if-both.tables in
+    let room : link_room * me + link_room ≤ length tables =
+    omega (arith, few, t.others.size, c.loop-taken.invariant.running.tables_size) in
+    let same = ap (kept_by net me p.resets p.purges) t.mine ∙ sym is in
+    elim c.if-either.branch [
+      | then-either w ↦
+          table_kept tables me told kept _ _ room long
+          (w.kept_table-kept.ensures ∙ ap (kept_by net me p.resets p.purges) w.table_at-table-then-either.ensures ∙ same)
+          (w.tables-is ∙ w.put_table.ensures)
+      | else-either w ↦
+          table_stays tables me kept _
+          (kept_same net me p.resets p.purges (table_in tables me) (sym c.either.ensures ∙ w.if-either.false) ∙ same) w.tables-is
+    ]
+
+-- ---- the turn: the parts mean the state that the step leaves
 pub loop-taken-preserved : goal.loop-taken-preserved
 loop-taken-preserved c =
-    let n = (goal.at.loop-taken-preserved c).After-count-count in
+    let at = goal.at.loop-taken-preserved c in
+    let n = at.After-count-count in
     let l = c.loop-taken in
-    let s = l.s in
+    let r = l.invariant.running in
+    let net = c.args.s.net in
     let e = c.event_at-e.result in
-    let names = c.names_of-names.result in
-    let me = names.station in
-    let p = c.plan_at-plan.result in
-    let told = c.if-plan.told in
-    let room = c.room_of-room.result in
-    let q = c.if-room-ne0.false in
-    let f = facts n room c.room_of-room.ensures in
-    let m = c.loop-i in
-    let k = c.loop-i-2 in
-    let closed : m.i ≡ room.left = omega arith in
-    let all_put : k.i ≡ c.count-count.result = omega arith in
-    let net = ap (λ (x : Net). kept_by x me p.resets p.purges told) (sym l.invariant.course.net) in
-    let stores = stores_again f q s (station_in s me) (stands_stored s me) m.s k.s c.begun-post.result k.post m.i k.i m.invariant
-    c.begun-post.ensures k.invariant closed all_put in
-    let same = kept_same s.net me p.resets p.purges told in
-    let alone = ap (λ (x : State). x.stations) k.invariant.others ∙ ap (λ (x : State). x.stations) m.invariant.so_far in
-    let turned : (c.if-either.s.net ≡ s.net)
-    × (record { answer = 0; counts = p.counts; state = c.if-either.s } ≡ stepped_of s e.kind e.a e.b) =
-    elim c.if-either.branch [
-      | then-either w ↦ stores w.kept_table-kept.result (w.kept_table-kept.ensures ∙ net) c.if-either.s w.s-is
-      | else-either+then-either-2 w ↦ stores told (same (sym c.either.ensures ∙ w.if-either.false)) c.if-either.s w.s-is
-      | else-either+else-either-2 w ↦
-          let z = neither p.sets _ (sym w.either-else-either.ensures ∙ w.if-either-2.false) in
-          let lasts = plan_lasts names e.kind e.what _ (letter_in s e.place) (station_in s me) p (asked_kind _ _ e c.event_at-e.ensures)
-          c.plan_at-plan.ensures.0 z.1 in
-          stores told (same (sym c.either.ensures ∙ w.if-either.false)) c.if-either.s
-          (w.s-is ∙ ap (with_stations (flies k.s (room.left + c.count-count.result)))
-          (words_stored k.s.stations s.stations alone me p told lasts z.0 f.tells))
-    ] in
+    let me = c.names_of-names.result.station in
+    let few = (placed _ _ _ _ _ _ _ c.names_of-names.ensures).station in
+    let p = c.plan_event-plan.result in
+    let told = telling l.tables me p in
+    let fate = c.room_of-fate.result in
+    let q = c.if-fate-ne0.false in
+    let f = facts n fate c.room_of-fate.ensures in
+    let k = closed at.After-begun-post _ f q in
+    let t = told_now at.After-begun-post in
+    let kept = kept_by net me p.resets p.purges told in
+    let long = kept_long net l.held l.tables l.room l.start l.flying f q r.course.good few in
+    let u = kept_now at.After-added-tally told kept long t refl in
+    let start = c.if-fate-flying.start in
+    let room = c.if-fate-flying.room in
+    let posted = posts_end c.loop-i-2.invariant (omega (arith, c.loop-i-2.invariant.ahead, c.loop-i-2-test.false)) start fate.left refl
+    c.if-plan.send c.begun-post.ensures
+    ∙ ap (λ (t : List ℕ). in_flight room start fate.left ++ letters_of me t c.if-plan.send) t.mine in
+    let did = turned net l.held l.tables l.room l.start l.flying f q room c.loop-i-2.room start c.if-both.tables c.if-either.tables k
+    posted few r.held_size t u in
     record {
       within = omega (arith, c.loop-taken-test.true);
       whole = l.invariant.whole;
-      course = course_taken _ _ _ _ _ l.s l.tally l.taken l.trace l.invariant.course e c.event_at-e.ensures (within n)
-          (record { answer = 0; counts = p.counts; state = c.if-either.s }) turned.1 refl turned.0 c.added-tally.result
-          c.added-tally.ensures _ c.put_turn-in-loop-taken.ensures;
+      running = record {
+        course = course_taken _ _ _ _ _ _ l.tally l.taken l.trace r.course e c.event_at-e.ensures (within n) _ did refl refl
+            c.added-tally.result c.added-tally.ensures _ c.put_turn-in-loop-taken.ensures;
+        held_size = length-set l.held me _ ∙ r.held_size;
+        tables_size = u.others.size ∙ t.others.size ∙ r.tables_size;
+        room_size = c.loop-i-2.invariant.size ∙ k.size;
+        front = k.front;
+      };
     }
 
 pub returns : goal.returns
 returns c =
     let l = c.loop-taken in
-    course_ends _ _ _ _ _ l.s l.tally l.taken l.trace l.invariant.course _ (omega arith) l.invariant.whole
+    let r = l.invariant.running in
+    went_back _ _ c.args.s _ _ _ _ _ _ _ c.args.s.net l.held l.tables l.room l.start l.flying _ _
+    (begun_is c.args.s _ _ _ c.held_of-held.ensures c.tables_of-tables.ensures c.moving_room-room.ensures c.requires)
+    c.stations_of-after-2.ensures c.gathered-flown-2.ensures (few_fly r) r.front
+    (course_ends _ _ _ _ _ _ l.tally l.taken l.trace r.course _ (omega arith) l.invariant.whole)
