@@ -84,7 +84,7 @@ answers_lent (A.more {s = s} {t = t} {e = e} p) =
     C.more here (answers_lent p)
 
 -- what they leave in the trace for the event e, with ds before it: three numbers of the world that the state means
-answers_told : {s u : State} {t v : Tally} {ns : List ℕ} (ds fs : List Event) (e : Event) (more : List ℕ)
+answers_told : {s u : State} {t v : Tally} (ds fs : List Event) (e : Event) (more : List ℕ) {ns : List ℕ}
     → Answers s t (ds ++ (e ∷ fs)) ns u v → Good s
     → take 3 (drop (3 * length ds) (ns ++ more))
     ≡ refusal (run (world_of s) ds) e ∷ length (run (world_of s) (ds ++ (e ∷ []))).letters ∷ (tally_after t (world_of s) (ds ++ (e ∷ []))
@@ -102,7 +102,7 @@ answers_told {s} {t = t} (d ∷ ds) fs e more (A.more {ns = ns} p) g =
     let l = one_lent s t d r.state (tallied_by r t) g (record { answer = r; promised = refl; state = refl; tally = refl }) in
     let three : 3 * length (d ∷ ds) ≡ suc (suc (suc (3 * length ds))) = omega arith in
     ap (λ (k : ℕ). take 3 (drop k (r.answer ∷ r.state.flying ∷ (tallied_by r t).settled ∷ (ns ++ more)))) three
-    ∙ answers_told ds fs e more p l.fit
+    ∙ answers_told {s = r.state} ds fs e more p l.fit
     ∙ ap₂ (λ (w : World) (x : Tally). refusal (run w ds) e ∷ length (run w (ds ++ (e ∷ []))).letters
     ∷ (tally_after x w (ds ++ (e ∷ []))).settled ∷ []) l.world l.tally
 

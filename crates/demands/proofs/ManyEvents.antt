@@ -19,7 +19,7 @@ use Rattle.step_rules.proofs.Bridge.{Good}
 use Rattle.backlog_rules.specs.Backlog.{stopping, and_before}
 use Rattle.backlog_rules.proofs.Threes.{stopped_at}
 use Rattle.backlog_rules.proofs.OneByOne.{taken_by, OneByOne}
-use Rattle.backlog_rules.proofs.Tracing.{no_kind}
+use Rattle.backlog_rules.proofs.Tracing.{no_kind as no_kind_lem}
 use Rattle.backlog_rules.proofs.Answering.{no_kind, all_events, Answers}
 use Rattle.laws.specs.Flood.{only_notices}
 use Rattle.laws.specs.Tallied.{ever_counted}
@@ -62,7 +62,7 @@ demand1 =
       backlog_bad = Backlogs.backlog_bad;
       backlog_keeps = Backlogs.backlog_keeps;
       run_number = AnsweredRuns.run_numbers;
-      left_over_six = λ w. no_kind w 0 0;
+      left_over_six = λ w. no_kind_lem w 0 0;
       run_refused = AnsweredRuns.run_refused;
       run_tail = AnsweredRuns.run_tail;
     }

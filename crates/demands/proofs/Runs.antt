@@ -130,8 +130,8 @@ pub record Moment {s u : State} {es : List Event} {n : Tally} (r : Calls s es n 
 
 pub every_moment : {s u : State} {n : Tally} (ds fs : List Event) (r : Calls s (ds ++ fs) n u) → Moment r ds
 every_moment {s} [] fs r = record { state = s; counts = _; comes = C.here }
-every_moment (e ∷ ds) fs (C.more c r) =
-    let m = every_moment ds fs r in
+every_moment (e ∷ ds) fs (C.more {t = t} c r) =
+    let m = every_moment {s = t} ds fs r in
     record { state = m.state; counts = _; comes = C.on m.comes }
 
 -- ---- from a freshly read sheet: bytes are read, the fresh state of the network is made, and a run begins there
