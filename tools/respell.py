@@ -13,6 +13,7 @@ on the structs and enums of src/, and `#![tactic(auto)]` at the head of each cra
 
 import os
 import re
+import shutil
 import sys
 
 ID = r"[^\s(){}\[\],;.:λ@`\"]+"
@@ -112,7 +113,7 @@ def table(root):
 def library():
     """The names of the kit's library, of which a lemma here may have the same."""
     found = set()
-    kit = os.environ.get("RATTLE", "/opt/rattle")
+    kit = os.path.dirname(os.path.dirname(os.path.realpath(shutil.which("rt"))))
     for top in ("rattle/logic", "rattle/std", "rattle/core", "rattle/std_alloc", "rattle/antt"):
         for p in texts(kit, ".antt", top):
             found.update(TOKEN.findall(read(p)))

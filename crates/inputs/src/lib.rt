@@ -9,7 +9,8 @@ use std::io::Read;
 use std::rt::Files;
 
 // Reads until the room is full, the input ends or a read fails.
-// Promise: how many bytes came; they stand at the room's front, and are the next of the input, where those are known.
+// Promise: the count is within the room, and so many bytes at its front are the next of the input, where those are known. How many come is
+// not promised, since any read may fail.
 pub fn read_full<R: Read>(from: &mut R, room: &mut [u8]) -> usize
     ensures counts { result ≤ length room.new }
     ensures bytes { Consumes (R.remaining from.old) (R.remaining from.new) (take result room.new) }
@@ -24,8 +25,8 @@ pub fn read_full<R: Read>(from: &mut R, room: &mut [u8]) -> usize
     done
 }
 
-// A file that can't be opened or read counts as empty.
-// Promise: how many bytes of the sheet's file stand at the room's front.
+// Reads the sheet's file to the room's front. One that can't be opened or read counts as empty.
+// Promise: the count is within the room, and no more: no clause can say what a file gives.
 pub fn read_sheet(files: &impl Files, room: &mut [u8]) -> usize
     ensures { result ≤ length room.new }
 {
