@@ -8,35 +8,24 @@
 #![tactic(auto)]
 
 ghost use Rattle.std.specs.Prelude.{◌≡◌};
-ghost use Rattle.tally.specs.Sums.{added, tallied};
+ghost use Rattle.tally.specs.Sums.{tallied};
 
-#[derive(Clone, Copy)]
+#[derive(Debug, Clone, Copy, PartialEq, Eq, Default)]
 pub struct Tally {
     pub settled: u64,
     pub raised: u64,
     pub dropped: u64,
 }
 
-// One count with n more. The test comes first, so that no sum wraps.
-fn count_on(count: u64, n: u64) -> u64
-    ensures { result ≡ added count n }
-{
-    if 18446744073709551615 - count < n {
-        18446744073709551615
-    } else {
-        count + n
-    }
-}
-
-// The tally with one step's counts added, by value.
+// The tally with one step's counts added, by value: what a loop of events keeps.
 // Promise: each of the three counts is the old one plus that of the record n, and stays at its largest value once there (`Sums.tallied`).
 pub fn added(t: Tally, n: Tally) -> Tally
     ensures { result ≡ tallied t n }
 {
     Tally {
-        settled: count_on(t.settled, n.settled),
-        raised: count_on(t.raised, n.raised),
-        dropped: count_on(t.dropped, n.dropped),
+        settled: t.settled.saturating_add(n.settled),
+        raised: t.raised.saturating_add(n.raised),
+        dropped: t.dropped.saturating_add(n.dropped),
     }
 }
 
@@ -46,14 +35,4 @@ pub fn add(t: &mut Tally, n: Tally)
     ensures { t.new ≡ tallied t.old n }
 {
     *t = added(*t, n);
-}
-
-// The same for a caller that holds its tally by value, as a loop of events does: its own copy is lent to `add`.
-// Promise: the same as `added`.
-pub fn with_step(given: Tally, n: Tally) -> Tally
-    ensures { result ≡ tallied given n }
-{
-    let mut mine = given;
-    add(&mut mine, n);
-    mine
 }
