@@ -19,7 +19,9 @@ use Rattle.world.specs.World.{World, holding_at, ask_refusal}
 use Rattle.state.specs.declared.State.{State}
 use Rattle.state.specs.State.{station_in, world_of, state_holds, Sized}
 use Rattle.state.proofs.Meaning as M
-use Rattle.report.specs.Asking.{number_of, number_by}
+use Rattle.report.specs.Asking.{number_of, number_by, refusal_number}
+use Rattle.report.specs.declared.Refusal.{Refusal}
+use Rattle.report.specs.declared.Refusal.TheVariants.{BadState, NoStation, NotLive, OutputShort}
 use Rattle.sets.specs.Rooms.{in_room}
 
 -- ---- a well-formed state
@@ -64,6 +66,13 @@ module _ (s : State) (z : Sized s) (t : T (state_holds s)) where
             else (if not (is_live (holding_at w a).condition) then 7 else 0))
         go (yes h) = simp (lt-ltb a s.net.stations h, condition_is h) (flip (is_live (station_in s me).condition))
         go (no h) = let l = le-ltb a s.net.stations (omega arith) in simp l
+
+-- ---- no refusal has the number 0
+pub refuses : (e : Refusal) → refusal_number e ≡ 0 → ⊥
+refuses BadState z = omega arith
+refuses NoStation z = omega arith
+refuses NotLive z = omega arith
+refuses OutputShort z = omega arith
 
 -- ---- what a call read: the test's answer, the place, and the number
 pub record Read (s : State) (a : ℕ) (good : Bool) (me number : ℕ) : Type 0 where

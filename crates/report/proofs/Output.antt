@@ -6,7 +6,7 @@ use mathlib.Core.List.{List, [], ◌++◌, map, append_assoc, append-nil}
 use native.Mathlib.Omega.{arith}
 use lib.ListN.{length, get_or, take, drop, set, length-append, length-drop, drop_of_length-le}
 use lib.Seq.{take_at, drop_at, take_all, drop-drop}
-use borrow.Author.Tests.{eq-eqb, lt-ltb, le-ltb}
+use borrow.Author.Tests.{lt-ltb, le-ltb}
 use Rattle.lists.specs.Lists.{below, filled}
 use Rattle.lists.specs.Words.{bit, bit_at, in_word, word_of}
 use Rattle.lists.proofs.Numbers.{length_map_below}
@@ -19,7 +19,7 @@ use Rattle.net.specs.Sizes.{station_room}
 use Rattle.net.proofs.ValueLaws.{stations_of, links_of_lem, ends_of}
 use Rattle.reach.specs.Reach.{has, near, link_value, report}
 use Rattle.reach.specs.Values.{reach_of}
-use Rattle.fields.specs.Output.{Writing, denied, writes, fitting, fitting_unless, writing_number, writing_output}
+use Rattle.fields.specs.Output.{Writing, denied, writes, fitting, writing_number, writing_output}
 use Rattle.report.specs.Steps.{link_shown, report_in}
 
 -- a turn of a loop that stores g k at place k
@@ -36,16 +36,14 @@ pub denied_keeps : (w : Writing) (old : List ℕ) → (writing_number w ≡ 0 �
 denied_keeps (denied k) old h = refl
 denied_keeps (writes new) old h = absurd (h refl)
 
-module _ (number : ℕ) (new old : List ℕ) where
-  module _ (z : number ≡ 0) where
-    pub too_short : length old < length new → Wrote (fitting_unless number new old) old 10 old
-    unfolding fitting
-    too_short h = let e = eq-eqb number 0 z in let l = lt-ltb (length old) (length new) h in (simp (e, l), simp (e, l))
+module _ (new old : List ℕ) where
+  pub too_short : length old < length new → Wrote (fitting new old) old 10 old
+  unfolding fitting
+  too_short h = let l = lt-ltb (length old) (length new) h in (simp l, simp l)
 
-    pub in_room_lem : (out : List ℕ) → length new ≤ length old → out ≡ new ++ drop (length new) old
-        → Wrote (fitting_unless number new old) old 0 out
-    unfolding fitting
-    in_room_lem out h p = let e = eq-eqb number 0 z in let l = le-ltb (length old) (length new) h in (simp (e, l), p ∙ simp (e, l))
+  pub in_room_lem : (out : List ℕ) → length new ≤ length old → out ≡ new ++ drop (length new) old → Wrote (fitting new old) old 0 out
+  unfolding fitting
+  in_room_lem out h p = let l = le-ltb (length old) (length new) h in (simp l, p ∙ simp l)
 
 -- a link's byte, b being whether it works as the code has it
 pub link_seen : (net : Net) (works : ℕ → Bool) (word k v : ℕ) (b : Bool)
@@ -134,8 +132,8 @@ module _ (net : Net) (works : ℕ → Bool) (s : ℕ) where
           ap₂ (λ (i j : ℕ). map (bit_at word) (below i) ++ map (link_shown net works word) (below j)) ne me
           ∙ ap₂ (λ (x y : List ℕ). x ++ y) stations_are links_are ∙ sym parts
 
-      pub report_put : (number : ℕ) → number ≡ 0 → Wrote (fitting_unless number (report_in net works s) old) old 0 two
-      report_put number z =
+      pub report_put : Wrote (fitting (report_in net works s) old) old 0 two
+      report_put =
           let l : length (report_in net works s) ≡ n + m = length_in ∙ omega arith in
-          in_room_lem number (report_in net works s) old z two (omega arith)
+          in_room_lem (report_in net works s) old two (omega arith)
           (two_is ∙ ap₂ (λ (x : List ℕ) (k : ℕ). x ++ drop k old) bytes_are (sym l))

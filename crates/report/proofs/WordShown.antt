@@ -24,8 +24,7 @@ use Rattle.state.specs.declared.State.{State}
 use Rattle.state.specs.State.{station_in, world_of}
 use Rattle.report.specs.Asking.{number_of}
 use Rattle.report.proofs.Refusals.{Asks, none, why_number, asks, net_is, stations_are, table_is}
-use Rattle.report.specs.declared.Asked.{Asked}
-use Rattle.report.specs.Answers.{no_reach, asked_of}
+use Rattle.report.specs.Answers.{Asked, no_reach, asked_of}
 
 -- ---- the words of the theorem
 module _ (s : State) (a : ℕ) where

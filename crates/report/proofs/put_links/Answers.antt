@@ -1,4 +1,4 @@
-use Rattle.std.proofs.Common.{arith, ◌∙◌, length-set}
+use Rattle.std.proofs.Common.{arith}
 use Rattle.lists.specs.Words.{in_word}
 use Rattle.report.proofs.Output.{fill_turn, link_seen}
 use Rattle.report.specs.Steps.{link_shown}
@@ -8,9 +8,4 @@ pub loop-k-preserved : goal.loop-k-preserved
 loop-k-preserved c =
     let a = c.args in
     let seen = link_seen a.net (in_word a.working) a.word c.loop-k.k _ _ c.link_shown.ensures c.has.ensures in
-    record {
-      within = omega arith;
-      size = length-set c.loop-k.out c.loop-k.k _ ∙ c.loop-k.invariant.size;
-      put = fill_turn (link_shown a.net (in_word a.working) a.word) a.out.now c.loop-k.out c.loop-k.k _ c.loop-k.invariant.put seen
-          (omega arith);
-    }
+    fill_turn (link_shown a.net (in_word a.working) a.word) _ _ c.loop-k.k _ c.loop-k.invariant seen (omega arith)
