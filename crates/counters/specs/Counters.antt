@@ -1,8 +1,6 @@
 -- A link's counter: 1 to 65,535; even = working, odd = unresponsive. The rules that stand alone.
-use Rattle.std.specs.Prelude.{ℕ, ◌+◌, ◌%◌, max, Bool, not, List, [], ◌∷◌, eqb, ltb, if◌then◌else◌}
+use Rattle.std.specs.Prelude.{ℕ, ◌+◌, ◌%◌, max, Bool, not, List, [], ◌∷◌, eqb, ltb, if◌then◌else◌, Option, Some, None}
 use Rattle.net.specs.Sizes.{largest_counter}
-use Rattle.counters.specs.declared.Healed.{Healed}
-use Rattle.counters.specs.declared.Healed.TheVariants.{To, TooHigh}
 
 abbrev pub even : ℕ → Bool
 even c = eqb (c % 2) 0
@@ -18,14 +16,14 @@ timed_out c = if even c then c + 1 else c
 unfoldable pub healed : ℕ → ℕ → ℕ
 healed own carried = if even (max own carried) then max own carried else max own carried + 1
 
--- a reply's new counter, or that it would be 65,536
-unfoldable pub healing : ℕ → ℕ → Healed
-healing own carried = if ltb largest_counter (healed own carried) then TooHigh else To (healed own carried)
+-- a reply's new counter, none where it would be 65,536
+unfoldable pub healing : ℕ → ℕ → Option ℕ
+healing own carried = if ltb largest_counter (healed own carried) then None else Some (healed own carried)
 
 -- the paper's number and values of that answer
-abbrev pub healed_numbers : Healed → List ℕ
-healed_numbers (To c) = 0 ∷ c ∷ []
-healed_numbers TooHigh = 8 ∷ []
+abbrev pub healed_numbers : Option ℕ → List ℕ
+healed_numbers (Some c) = 0 ∷ c ∷ []
+healed_numbers None = 8 ∷ []
 
 -- a notice is newer only if its counter is above the own one
 abbrev pub newer : ℕ → ℕ → Bool

@@ -2,20 +2,13 @@
 // Inner doors: the calls are in docs/CALLS.md.
 #![tactic(auto)]
 
-ghost use Rattle.std.specs.Prelude.{◌≡◌, max};
+ghost use Rattle.std.specs.Prelude.{◌≡◌};
 ghost use Rattle.counters.specs.Counters.{even, timed_out, healing, newer};
 
-use net::{LARGEST_COUNTER, LINK_ROOM};
+use net::LINK_ROOM;
 
 // A station's table: the counter of link k at place k.
 pub type Counters = [u16; LINK_ROOM];
-
-// A reply's new counter, or that it would be 65,536.
-#[derive(Clone, Copy)]
-pub enum Healed {
-    To(u16),
-    TooHigh,
-}
 
 // Working, or unresponsive.
 // Promise: equals `Counters.even`: the link works.
@@ -34,18 +27,13 @@ pub fn timed_out(own: u16) -> u16
 }
 
 // The counter after a reply: even again, and never below the larger of the two.
-// Promise: equals `Counters.healing`: the larger of the two, or one more if that is odd; 8 where that is 65,536.
-pub fn heal(own: u16, carried: u16) -> Healed
+// Promise: equals `Counters.healing`: the larger of the two, or one more if that is odd; none where that is 65,536.
+#[tactic(auto, unfolding(crate::specs::Counters::healing, crate::specs::Counters::healed))]
+pub fn heal(own: u16, carried: u16) -> Option<u16>
     ensures { result ≡ healing own carried }
 {
-    let larger = larger_of(own, carried);
-    if larger % 2 == 0 {
-        return Healed::To(larger);
-    }
-    if larger == LARGEST_COUNTER {
-        return Healed::TooHigh;
-    }
-    Healed::To(larger + 1)
+    let larger = own.max(carried);
+    larger.checked_add(larger % 2)
 }
 
 // Whether a notice is taken: an equal one must not be, or it would circle for ever.
@@ -54,10 +42,4 @@ pub fn is_newer(own: u16, carried: u16) -> bool
     ensures { result ≡ newer own carried }
 {
     own < carried
-}
-
-fn larger_of(a: u16, b: u16) -> u16
-    ensures { result ≡ max a b }
-{
-    if a < b { b } else { a }
 }

@@ -12,8 +12,7 @@ use Rattle.net.specs.declared.Body.TheVariants.{Request, Reply, Notice}
 use Rattle.net.specs.declared.Letter.{Letter}
 use Rattle.net.specs.Network.{Network, is_end}
 use Rattle.net.specs.Letters.{is_counter, body_holds, letter_holds}
-use Rattle.counters.specs.declared.Healed.{Healed}
-use Rattle.counters.specs.declared.Healed.TheVariants.{To, TooHigh}
+use Rattle.std.specs.Prelude.{Option, Some, None}
 use Rattle.counters.specs.Counters.{even, odd, healed, healing, newer}
 use Rattle.station.specs.declared.Effect.{Effect}
 use Rattle.station.specs.declared.Effect.TheVariants.{Defers, Answers, Heals, Levels, Equal, Takes}
@@ -78,7 +77,7 @@ module _ (s : ℕ) (x : Letter) (h : Holding) where
     over = ltb 65535 (healed own c)
 
     abbrev by_healing : Bool → Heard
-    by_healing b = replied_by own c (if b then TooHigh else To (healed own c))
+    by_healing b = replied_by own c (if b then None else Some (healed own c))
 
     pub reply_cases : (P : Heard → Type 0) → (T (not (heard x h)) → P Gone)
         → (T (heard x h) → T (not (mark h x.link).testing) → P Nothing)
@@ -90,7 +89,7 @@ module _ (s : ℕ) (x : Letter) (h : Holding) where
     unfolding healing
     reply_cases P gone idle too fits =
         by_hearing P (Reply c) e gone
-        (λ t. if_elim P tests (λ u. if_elim (λ (y : Healed). P (replied_by own c y)) over (too t u) (fits t u)) (idle t))
+        (λ t. if_elim P tests (λ u. if_elim (λ (y : Option ℕ). P (replied_by own c y)) over (too t u) (fits t u)) (idle t))
 
     pub reply_idle : T (heard x h) → T (not (mark h x.link).testing) → answer s x h ≡ Nothing
     reply_idle t u =

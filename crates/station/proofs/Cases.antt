@@ -19,7 +19,7 @@ use Rattle.station.specs.declared.Condition.TheVariants.{Live}
 use Rattle.station.specs.declared.Kind.TheVariants.{TimeoutEnd}
 use Rattle.station.specs.Holding.{Holding, no_marks, counter, set_testing, holding_holds}
 use Rattle.station.specs.Done.{Done, letter, known, done_by, own_links}
-use Rattle.station.proofs.Doing.{open_links, timeout, answer, effect_on, received}
+use Rattle.station.proofs.Doing.{answer, received}
 use Rattle.station.specs.Events.{rule_at}
 use Rattle.station.specs.Numbers.{heard_numbers}
 

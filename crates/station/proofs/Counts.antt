@@ -25,7 +25,7 @@ use Rattle.station.specs.declared.Effect.TheVariants.{Defers, Answers, Heals, Le
 use Rattle.station.specs.declared.Heard.{Heard}
 use Rattle.station.specs.Holding.{Holding, counter, mark}
 use Rattle.station.specs.Acts.{interval_tests}
-use Rattle.station.specs.Done.{Done, letter, on_each, tell, less, known, done_by, own_links}
+use Rattle.station.specs.Done.{letter, on_each, tell, less, known, done_by, own_links}
 use Rattle.station.specs.Acts.{Sends, Act}
 use Rattle.station.specs.Done.{sent_of}
 use Rattle.station.proofs.Doing.{own, open_links, stopped, started, recovered, interval, timeout, spoken, replied, effect_on}

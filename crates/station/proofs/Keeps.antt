@@ -8,7 +8,7 @@ use mathlib.Core.Path.{subst⁻¹}
 use mathlib.Core.List.{List, [], ◌∷◌, ◌++◌, map}
 use lib.Dec.{T, ltb, lt→ltb}
 use lib.ListN.{length}
-use Rattle.lists.specs.Lists.{keep, every}
+use Rattle.lists.specs.Lists.{every}
 use Rattle.lists.proofs.Tests.{T_is, and_l, and_r, and_i, if_elim}
 use Rattle.lists.proofs.Numbers.{get_or_map_below, length_map_below}
 use Rattle.lists.proofs.Kept.{every_joined}
@@ -36,7 +36,7 @@ use Rattle.station.proofs.Slots.{all_marks, rule, slot_counter, slot_together, o
 use Rattle.station.proofs.Slots.{recovered_slot, counter_next}
 use Rattle.station.proofs.Answers.{EffectFits, HeardFits, letter_link, answer_fits}
 use Rattle.station.proofs.HoldingLaws.{Formed, formed, holds, marked_formed, recounted_formed, purged_formed, anew_formed, own_link}
-use Rattle.station.proofs.HoldingLaws.{own_is, own_kept, on_each_holds, tell_holds, own_links_own, open_less_own, known_tell}
+use Rattle.station.proofs.HoldingLaws.{own_is, on_each_holds, tell_holds, own_links_own, open_less_own, known_tell}
 use Rattle.station.proofs.HoldingLaws.{known_less_tell}
 
 module _ (net : Network) (s : ℕ) where

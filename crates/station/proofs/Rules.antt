@@ -11,12 +11,11 @@ use native.Mathlib.Omega.{arith}
 use borrow.Author.Tests.{lt-ltb, le-ltb}
 use lib.Dec.{T, ltb}
 use lib.ListN.{length}
-use Rattle.lists.specs.Lists.{sum_of}
 use Rattle.lists.specs.Words.{bit}
 use Rattle.lists.proofs.Tests.{T_is, T_not_is, if_elim}
 use Rattle.lists.proofs.OneSum.{sum_none, sum_only}
 use Rattle.net.specs.declared.Letter.{Letter}
-use Rattle.net.specs.Network.{Network, is_end, link_numbers}
+use Rattle.net.specs.Network.{Network, is_end}
 use Rattle.net.specs.Letters.{letter_holds}
 use Rattle.counters.specs.Counters.{even}
 use Rattle.reach.specs.Reach.{counter_in}
@@ -30,7 +29,6 @@ use Rattle.station.specs.declared.Kind.TheVariants.{NoSuch, Start, Stop, Recover
 use Rattle.station.specs.Holding.{Holding, counter, mark, higher, holding_holds}
 use Rattle.station.specs.Done.{Done}
 use Rattle.station.proofs.Doing.{unchanged, delivery_act, stopped, started, recovered, interval, timeout, spoken, answer, effect_on}
-use Rattle.station.proofs.Doing.{heard_on, received}
 use Rattle.station.specs.Events.{raised_effect, heard_rule, Rule, rule_at, Due, refusing, due_of}
 use Rattle.station.specs.Acts.{Act, idle}
 use Rattle.station.specs.Done.{done_by}

@@ -2,16 +2,16 @@
 use Rattle.std.specs.Prelude.{if◌then◌else◌}
 use Prim.Native.Nat.{ℕ}
 use mathlib.Core.Path.{subst⁻¹}
-use mathlib.Core.Bool.{Bool, ◌&&◌}
+use mathlib.Core.Bool.{Bool}
 use mathlib.Core.List.{List, [], ◌∷◌}
 use lib.Dec.{T, eqb, eqb_refl}
-use Rattle.lists.specs.Lists.{keep, every}
+use Rattle.lists.specs.Lists.{every}
 use Rattle.lists.proofs.Tests.{and_i, if_elim}
 use Rattle.lists.proofs.Kept.{every_joined}
 use Rattle.net.specs.declared.Body.{Body}
 use Rattle.net.specs.declared.Body.TheVariants.{Request, Reply, Notice}
 use Rattle.net.specs.declared.Letter.{Letter}
-use Rattle.net.specs.Network.{Network, is_end, link_numbers}
+use Rattle.net.specs.Network.{Network}
 use Rattle.counters.specs.Counters.{even, odd, timed_out}
 use Rattle.station.specs.declared.Effect.{Effect}
 use Rattle.station.specs.declared.Effect.TheVariants.{Defers, Answers, Heals, Levels, Equal, Takes}

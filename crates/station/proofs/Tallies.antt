@@ -2,7 +2,7 @@
 -- lost, or delivered where it is not heard, is dropped. A delivery that is not heard is as a loss in all else too.
 use Rattle.std.specs.Prelude.{if◌then◌else◌}
 use Prim.Native.Nat.{ℕ}
-use mathlib.Core.Bool.{Bool, true, false, not, ◌&&◌, ◌||◌}
+use mathlib.Core.Bool.{Bool, not, ◌&&◌, ◌||◌}
 use mathlib.Core.Path.{◌≡◌, refl, sym, ap}
 use lib.Dec.{T, eqb}
 use Rattle.lists.specs.Words.{bit}
@@ -10,7 +10,6 @@ use Rattle.lists.proofs.Tests.{T_is, if_elim}
 use Rattle.net.specs.declared.Body.{Body}
 use Rattle.net.specs.declared.Body.TheVariants.{Request, Reply, Notice}
 use Rattle.net.specs.declared.Letter.{Letter}
-use Rattle.net.specs.Network.{Network}
 use Rattle.counters.specs.Counters.{odd}
 use Rattle.station.specs.declared.Heard.{Heard}
 use Rattle.station.specs.declared.Heard.TheVariants.{Gone, Nothing, Overflows, Does}

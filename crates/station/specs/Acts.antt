@@ -1,12 +1,10 @@
 -- The rules of document 01, "The eight events" and the three kinds of letter, each said once: what an event does at the one station that
 -- it concerns, as an act. An act is carried out on what a station holds (Done.antt), and the code's plan is the same act in words
 -- (station_plan). Which event does which act, and when it may: Events.antt.
-use Rattle.std.specs.Prelude.{ℕ, Bool, true, false, not, ◌&&◌, ◌||◌, eqb, ltb, if◌then◌else◌}
+use Rattle.std.specs.Prelude.{ℕ, Bool, true, false, not, ◌&&◌, ◌||◌, eqb, ltb, if◌then◌else◌, Option, Some, None}
 use Rattle.net.specs.declared.Body.{Body}
 use Rattle.net.specs.declared.Body.TheVariants.{Request, Reply, Notice}
 use Rattle.net.specs.declared.Letter.{Letter}
-use Rattle.counters.specs.declared.Healed.{Healed}
-use Rattle.counters.specs.declared.Healed.TheVariants.{To, TooHigh}
 use Rattle.counters.specs.Counters.{even, odd, timed_out, healing, newer}
 use Rattle.marks.specs.declared.Marks.{Marks}
 use Rattle.station.specs.declared.Condition.{Condition}
@@ -134,9 +132,9 @@ module _ (x : Condition) (k : ℕ) where
 
 -- ---- the receiver's answer to a letter
 -- a reply with c to a test at this own counter, by the new counter: if either of the two was odd it heals
-abbrev pub replied_by : ℕ → ℕ → Healed → Heard
-replied_by own c TooHigh = Overflows
-replied_by own c (To new) = if odd own || odd c then Does (Heals new) else (if eqb own c then Does Equal else Does (Levels new))
+abbrev pub replied_by : ℕ → ℕ → Option ℕ → Heard
+replied_by own c None = Overflows
+replied_by own c (Some new) = if odd own || odd c then Does (Heals new) else (if eqb own c then Does Equal else Does (Levels new))
 
 -- at the station s, from the station p, by the marks and the counter of the link and the counter of the link that is told of: the
 -- higher-numbered of two testers puts a request off

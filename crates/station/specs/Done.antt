@@ -1,5 +1,5 @@
 -- An act carried out: what the station holds after it, and the letters that it sends, in order. What the acts are: Acts.antt.
-use Rattle.std.specs.Prelude.{ℕ, Bool, true, false, not, ◌&&◌, List, [], ◌∷◌, ◌++◌, map, eqb, ltb, set, if◌then◌else◌}
+use Rattle.std.specs.Prelude.{ℕ, Bool, not, ◌&&◌, List, [], ◌∷◌, ◌++◌, map, eqb, ltb, set, if◌then◌else◌}
 use Rattle.lists.specs.Lists.{keep}
 use Rattle.lists.specs.Places.{collect}
 use Rattle.net.specs.declared.Body.{Body}

@@ -7,8 +7,9 @@ use counters::Counters;
 use marks::Words;
 
 // The first condition is what an unused place holds.
-#[derive(Clone, Copy)]
+#[derive(Debug, Clone, Copy, PartialEq, Eq, Default)]
 pub enum Condition {
+    #[default]
     Down,
     Waiting,
     Live,
@@ -23,7 +24,7 @@ pub struct Station {
 }
 
 // The eight kinds of event, and what is none of them.
-#[derive(Clone, Copy)]
+#[derive(Debug, Clone, Copy, PartialEq, Eq)]
 pub enum Kind {
     NoSuch,
     Start,
@@ -38,7 +39,7 @@ pub enum Kind {
 
 // What a letter that is heard does: a request is put off or answered; a reply heals, levels two even counters or finds them equal; a
 // notice is taken.
-#[derive(Clone, Copy)]
+#[derive(Debug, Clone, Copy, PartialEq, Eq)]
 pub enum Effect {
     Defers,
     Answers,
@@ -49,7 +50,7 @@ pub enum Effect {
 }
 
 // The receiver's answer to a letter: gone unheard, no effect, refused since a counter would be 65,536, or what it does.
-#[derive(Clone, Copy)]
+#[derive(Debug, Clone, Copy, PartialEq, Eq)]
 pub enum Heard {
     Gone,
     Nothing,
@@ -60,8 +61,7 @@ pub enum Heard {
 // ---- What a station sends, as a small description that the network expands: no list of letters is built before it is appended.
 // What a station sends: a request on each link of the first word; a notice of each subject on each way, with the counter that the
 // station's table has for it; and last a reply on one link.
-
-#[derive(Clone, Copy)]
+#[derive(Debug, Clone, Copy, PartialEq, Eq, Default)]
 pub struct Sending {
     pub requests: u64,
     pub subjects: u64,

@@ -18,7 +18,6 @@ ghost use Rattle.station_plan.specs.Comes.{event_plan};
 ghost use Rattle.counters.specs.Counters.{healing};
 ghost use Rattle.station.specs.declared.Heard.TheVariants.{Gone, Does};
 
-use counters::Healed;
 use marks::{Marks, Words};
 use net::{Body, Letter};
 use station::{Condition, Effect, Heard, Sending};
@@ -129,19 +128,16 @@ fn telling(
 fn reply_heard(own: u16, c: u16) -> Heard
     ensures { result ≡ replied_by own c (healing own c) }
 {
-    let new = counters::heal(own, c);
-    let Healed::To(to) = new else {
+    let Some(to) = counters::heal(own, c) else {
         return Heard::Overflows;
     };
-    if counters::is_even(own) {
-        if counters::is_even(c) {
-            if own == c {
-                return Heard::Does(Effect::Equal);
-            }
-            return Heard::Does(Effect::Levels(to));
-        }
+    if !counters::is_even(own) || !counters::is_even(c) {
+        Heard::Does(Effect::Heals(to))
+    } else if own == c {
+        Heard::Does(Effect::Equal)
+    } else {
+        Heard::Does(Effect::Levels(to))
     }
-    Heard::Does(Effect::Heals(to))
 }
 
 // Whether a request is put off: the higher-numbered of two testers only marks it.

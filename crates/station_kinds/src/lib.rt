@@ -12,11 +12,7 @@ use station::{Condition, Kind};
 pub fn is_live(c: Condition) -> bool
     ensures { result ≡ is_live c }
 {
-    match c {
-        Condition::Down => false, // nothing is heard
-        Condition::Waiting => false,
-        Condition::Live => true,
-    }
+    matches!(c, Condition::Live)
 }
 
 // Whether it is down: nothing but a start moves it.
@@ -24,11 +20,7 @@ pub fn is_live(c: Condition) -> bool
 pub fn is_down(c: Condition) -> bool
     ensures { result ≡ is_down c }
 {
-    match c {
-        Condition::Down => true, // only it
-        Condition::Waiting => false, // it has started
-        Condition::Live => false,
-    }
+    matches!(c, Condition::Down)
 }
 
 // Whether it waits for its recovery.
@@ -36,11 +28,7 @@ pub fn is_down(c: Condition) -> bool
 pub fn is_waiting(c: Condition) -> bool
     ensures { result ≡ is_waiting c }
 {
-    match c {
-        Condition::Down => false, // it has not started
-        Condition::Waiting => true, // only it
-        Condition::Live => false, // it has recovered
-    }
+    matches!(c, Condition::Waiting)
 }
 
 // The kind of event that a number says: the only place where it is looked at.

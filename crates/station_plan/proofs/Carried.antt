@@ -1,5 +1,4 @@
 -- An act's plan carried out at a station value is the act carried out on what the station holds: the same station, the same letters.
-use Rattle.std.specs.Prelude.{if◌then◌else◌}
 use Prim.Native.Nat.{ℕ, ◌≤◌, ◌<◌}
 use mathlib.Core.Bool.{Bool, true, false, ◌&&◌}
 use mathlib.Core.Path.{◌≡◌, refl, sym, ap, ap₂, ◌∙◌}
@@ -30,14 +29,13 @@ use Rattle.station.specs.declared.Station.{Station}
 use Rattle.station.specs.Holding.{Holding, no_marks, mark}
 use Rattle.station.specs.Acts.{Links, Marking, as_before, on_link, on_every, Tabling, kept, ones, sets, Sends, nothing, requests, notices}
 use Rattle.station.specs.Acts.{all_known, reply, Act}
-use Rattle.station.specs.Done.{letter, on_each, tell, less, known, links_of, told_table, purged_table, marks_after, sent_of, done_by}
+use Rattle.station.specs.Done.{letter, on_each, less, known, links_of, told_table, purged_table, marks_after, sent_of, done_by}
 use Rattle.station.specs.Events.{Due}
-use Rattle.station.specs.Values.{holding_of, laid, laid_words, members_of, letters_of, fresh_table}
-use Rattle.station.proofs.Laid.{Fit, words_laid, laid_is, marks_laid, same_laid, marks_of, mark_of, table_of_lem, condition_of, counters_same}
+use Rattle.station.specs.Values.{holding_of, laid_words, letters_of, fresh_table}
+use Rattle.station.proofs.Laid.{Fit, words_laid, laid_is, marks_laid, same_laid, marks_of, mark_of, counters_same}
 use Rattle.station.proofs.Laid.{counters_set, table_set, room_set}
 use Rattle.station.proofs.Sent.{members_none, members_one, tell_one, sent_nothing, sent_requests, sent_notices, sent_reply}
-use Rattle.station_plan.specs.declared.Plan.{Plan}
-use Rattle.station_plan.specs.Plans.{every_link, putting, requesting, telling, knows_by, links_word, marks_by, sending_by, tabled_plan}
+use Rattle.station_plan.specs.Plans.{knows_by, marks_by, sending_by, tabled_plan}
 use Rattle.station_plan.specs.Plans.{plan_of, kept_by, narrowed}
 use Rattle.station_plan.specs.Plans.{station_by, letters_by}
 use Rattle.station_plan.specs.Planned.{Acts}

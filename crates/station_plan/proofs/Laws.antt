@@ -1,7 +1,7 @@
 -- THE LAW OF THE PLAN: at every station that has what it was made from, the plan of an event is what the event comes to there.
 -- It is one act in both, so what remains is that the rule sees the same on both sides, and that the act names what is there.
 use Rattle.std.specs.Prelude.{if◌then◌else◌}
-use Prim.Native.Nat.{ℕ, ◌≤◌, ◌<◌}
+use Prim.Native.Nat.{ℕ, ◌<◌}
 use mathlib.Core.Bool.{Bool, true, false, not, ◌&&◌, ◌||◌}
 use mathlib.Core.Path.{◌≡◌, refl, sym, ap, ap₂, ◌∙◌, subst, subst⁻¹}
 use native.Mathlib.Omega.{arith}
@@ -10,15 +10,13 @@ use lib.ListN.{length, get_or, set}
 use lib.Seq.{get_or-set_same}
 use Rattle.net.specs.Sizes.{link_room}
 use Rattle.lists.specs.Words.{bit}
-use Rattle.lists.proofs.Tests.{T_is, if_elim}
+use Rattle.lists.proofs.Tests.{if_elim}
 use Rattle.net.specs.declared.Body.{Body}
 use Rattle.net.specs.declared.Body.TheVariants.{Request, Reply, Notice}
 use Rattle.net.specs.declared.Letter.{Letter}
 use Rattle.net.specs.declared.Net.{Net}
-use Rattle.net.specs.Network.{Network}
-use Rattle.net.specs.Values.{network_of, link_count}
-use Rattle.counters.specs.declared.Healed.{Healed}
-use Rattle.counters.specs.declared.Healed.TheVariants.{To, TooHigh}
+use Rattle.net.specs.Values.{link_count}
+use Rattle.std.specs.Prelude.{Option, Some, None}
 use Rattle.counters.specs.Counters.{even, odd, healing, newer, timed_out}
 use Rattle.reach.proofs.Tables.{counter_of_lem}
 use Rattle.marks.specs.declared.Marks.{Marks}
@@ -32,18 +30,17 @@ use Rattle.station.specs.declared.Heard.TheVariants.{Gone, Nothing, Overflows, D
 use Rattle.station.specs.declared.Kind.{Kind}
 use Rattle.station.specs.declared.Kind.TheVariants.{NoSuch, Start, Stop, Recovery, IntervalEnd, TimeoutEnd, QuietEnd, Delivery, Loss}
 use Rattle.station.specs.declared.Station.{Station}
-use Rattle.station.specs.Holding.{Holding, no_marks, mark, counter, is_live}
-use Rattle.station.specs.Acts.{kept, nothing, requests, the_link, Act, idle, interval_tests, timeout_act, effect_act}
+use Rattle.station.specs.Holding.{Holding, mark, counter, is_live}
+use Rattle.station.specs.Acts.{kept, nothing, requests, the_link, Act, idle, interval_tests, effect_act}
 use Rattle.station.specs.Acts.{replied_by, body_answer, answer_by, subject_of}
-use Rattle.station.specs.Events.{is_notice, Rule, heard_rule, rule_of, rule_at, Due, refusing, due_of}
-use Rattle.station.specs.Values.{holding_of, no_words, blank}
+use Rattle.station.specs.Events.{is_notice, Rule, heard_rule, rule_of, rule_at, due_of}
+use Rattle.station.specs.Values.{holding_of, blank}
 use Rattle.station.proofs.Fresh.{no_marks_lem}
-use Rattle.station.proofs.Laid.{Fit, mark_of, condition_of}
+use Rattle.station.proofs.Laid.{Fit, mark_of}
 use Rattle.station.proofs.Rules.{due_elim}
-use Rattle.station_plan.specs.declared.Plan.{Plan}
-use Rattle.station_plan.specs.Plans.{plan_of, stays}
-use Rattle.station_plan.specs.Planned.{Acts, Planned, Like}
-use Rattle.station_plan.specs.Comes.{event_plan, room_of, Plans, Own, Counts, on_link, Meant, EventPlans}
+use Rattle.station_plan.specs.Plans.{plan_of}
+use Rattle.station_plan.specs.Planned.{Planned}
+use Rattle.station_plan.specs.Comes.{event_plan, room_of, Plans, Own, Counts, Meant, EventPlans}
 use Rattle.station_plan.proofs.Carried.{SendsFit, Fits, MarksRoom, TableRoom, carried_out}
 
 -- ---- a notice is taken of the link that it tells of
@@ -64,9 +61,9 @@ module _ (s : ℕ) (x : Condition) (m : Marks) (own told : ℕ) (l : Letter) whe
       evens c n false true p = cc
       evens c n false false p = cc
 
-      healed : (c : ℕ) (y : Healed) → replied_by own c y ≡ Does (Takes j d) → ◌≡◌ {A = ℕ} 0 1
-      healed c TooHigh p = cc
-      healed c (To n) p = evens c n (odd own || odd c) (eqb own c) p
+      healed : (c : ℕ) (y : Option ℕ) → replied_by own c y ≡ Does (Takes j d) → ◌≡◌ {A = ℕ} 0 1
+      healed c None p = cc
+      healed c (Some n) p = evens c n (odd own || odd c) (eqb own c) p
 
       replied : (c : ℕ) (b : Bool) → (if b then replied_by own c (healing own c) else Nothing) ≡ Does (Takes j d) → ◌≡◌ {A = ℕ} 0 1
       replied c true p = healed c (healing own c) p
