@@ -1,9 +1,8 @@
 -- What the code answers, byte by byte: a line that is being read as a value of its own, for every such value.
 -- proofs/Events.antt says that the bytes of a line, one after the other, give what specs/Events.antt says of the whole line.
-use Rattle.std.specs.Prelude.{ℕ, ◌+◌, ◌-◌, ◌*◌, List, [], ◌∷◌, eqb, ltb, if◌then◌else◌}
+use Rattle.std.specs.Prelude.{ℕ, ◌+◌, ◌-◌, ◌*◌, List, [], ◌∷◌, eqb, ltb, if◌then◌else◌, Option, Some, None}
 use Rattle.event_lines.specs.declared.Reading.{Reading}
-use Rattle.event_lines.specs.declared.Line.{Line}
-use Rattle.event_lines.specs.declared.Line.TheVariants.{Malformed, Event}
+use Rattle.event_lines.specs.declared.Event.{Event}
 use Rattle.event_lines.specs.Events.{is_digit}
 use Rattle.event_lines.specs.Split.{fed_by}
 
@@ -44,9 +43,9 @@ unfoldable pub line_end : Reading → List ℕ
 line_end r = if eqb r.digits 0 then 6 ∷ [] else if eqb r.place 2 then 0 ∷ r.first ∷ r.second ∷ r.value ∷ [] else 6 ∷ []
 
 -- the number and values of the answer
-abbrev pub line_numbers : Line → List ℕ
-line_numbers Malformed = 6 ∷ []
-line_numbers (Event kind a b) = 0 ∷ kind ∷ a ∷ b ∷ []
+abbrev pub line_numbers : Option Event → List ℕ
+line_numbers None = 6 ∷ []
+line_numbers (Some e) = 0 ∷ e.kind ∷ e.a ∷ e.b ∷ []
 
 -- bytes one after the other
 abbrev pub fed : Reading → List ℕ → Reading

@@ -3,15 +3,16 @@
 // Inner doors: the calls are in docs/CALLS.md.
 #![tactic(auto)]
 
-ghost use Rattle.std.specs.Prelude.{◌≡◌, ◌≤◌};
+ghost use Rattle.std.specs.Prelude.{◌≡◌, ◌≤◌, ◌==◌, position};
 ghost use Rattle.event_lines.specs.Steps.{start, spoilt, with_digit, next_number, read_on, fed, line_end, line_numbers};
 ghost use Rattle.event_lines.specs.Begun.{is_begun};
 ghost use Rattle.event_lines.specs.Ends.{end_from};
 
 // How far an event line has been read.
-#[derive(Clone, Copy)]
+#[derive(Debug, Clone, Copy, PartialEq, Eq, Default)]
 pub struct Reading {
     // the number under way, from 0; above 2 the line is malformed, whatever follows
+    // Stays: a malformed line is a place, as `Steps.spoilt` and `line_end` have it, which answer for readings not made here too
     pub place: u8,
     // its digits so far, and what they make
     pub digits: u8,
@@ -21,11 +22,12 @@ pub struct Reading {
     pub second: u32,
 }
 
-#[derive(Clone, Copy)]
-pub enum Line {
-    Malformed,
-    // kind, a, b
-    Event(u32, u32, u32),
+// What a line of three numbers says.
+#[derive(Debug, Clone, Copy, PartialEq, Eq)]
+pub struct Event {
+    pub kind: u32,
+    pub a: u32,
+    pub b: u32,
 }
 
 // A line of which no byte is read.
@@ -33,13 +35,7 @@ pub enum Line {
 pub fn begin() -> Reading
     ensures { result ≡ start }
 {
-    Reading {
-        place: 0,
-        digits: 0, // an empty number is none
-        value: 0,
-        first: 0,
-        second: 0,
-    }
+    Reading::default()
 }
 
 fn malformed() -> Reading
@@ -47,74 +43,59 @@ fn malformed() -> Reading
 {
     Reading {
         place: 3,
-        digits: 0,
-        value: 0,
-        first: 0,
-        second: 0,
+        ..begin()
     }
 }
 
+#[tactic(auto, unfolding(crate::specs::Steps::with_digit))]
 fn with_digit(r: Reading, digit: u8) -> Reading
     requires { digit ≤ 9 }
     ensures { result ≡ with_digit r digit }
 {
-    if 9 <= r.digits {
-        return malformed();
-    }
     // fewer than nine digits make no such number; a reading that was not made here may hold one
-    if 100_000_000 <= r.value {
+    if 9 <= r.digits || 100_000_000 <= r.value {
         return malformed();
     }
     Reading {
-        place: r.place,
         digits: r.digits + 1,
-        value: r.value * 10 + (digit as u32),
-        first: r.first,
-        second: r.second,
+        value: r.value * 10 + u32::from(digit),
+        ..r
     }
 }
 
+#[tactic(auto, unfolding(crate::specs::Steps::next_number))]
 fn next_number(r: Reading) -> Reading
     ensures { result ≡ next_number r }
 {
     if r.digits == 0 {
         return malformed();
     }
-    if r.place == 0 {
-        return Reading {
+    match r.place {
+        0 => Reading {
             place: 1,
-            digits: 0,
-            value: 0,
             first: r.value,
-            second: 0,
-        };
-    }
-    if r.place == 1 {
-        return Reading {
+            ..begin()
+        },
+        1 => Reading {
             place: 2,
-            digits: 0,
-            value: 0,
             first: r.first,
             second: r.value,
-        };
+            ..begin()
+        },
+        _ => malformed(),
     }
-    malformed()
 }
 
 // One byte more of the line.
+#[tactic(auto, unfolding(crate::specs::Steps::read_on))]
 fn read_on(r: Reading, byte: u8) -> Reading
     ensures { result ≡ read_on r byte }
 {
-    if byte == 32 {
-        return next_number(r);
+    match byte {
+        b' ' => next_number(r),
+        b'0'..=b'9' => with_digit(r, byte - b'0'),
+        _ => malformed(),
     }
-    if byte < 48 {
-        return malformed();
-    }
-    if 57 < byte {
-        return malformed();
-    }
-    with_digit(r, byte - 48)
 }
 
 // Bytes more of the line, whose newline is not one of them.
@@ -123,25 +104,25 @@ fn read_on(r: Reading, byte: u8) -> Reading
 pub fn read_bytes(r: Reading, bytes: &[u8]) -> Reading
     ensures { result ≡ fed r bytes.now }
 {
-    let mut reading = r;
-    for i in 0..bytes.len() {
-        reading = read_on(reading, bytes[i]);
-    }
-    reading
+    bytes
+        .iter()
+        .fold(r, |reading, byte| read_on(reading, *byte))
 }
 
 // What a line says that ends here.
 // Promise: its numbers equal `Steps.line_end`: three decimal numbers of 1 to 9 digits with one space between, or malformed.
-pub fn line_end(r: Reading) -> Line
+#[tactic(auto, unfolding(crate::specs::Steps::line_end))]
+pub fn line_end(r: Reading) -> Option<Event>
     ensures { line_numbers result ≡ line_end r }
 {
-    if r.digits == 0 {
-        return Line::Malformed;
+    if r.digits == 0 || r.place != 2 {
+        return None;
     }
-    if r.place == 2 {
-        return Line::Event(r.first, r.second, r.value);
-    }
-    Line::Malformed
+    Some(Event {
+        kind: r.first,
+        a: r.second,
+        b: r.value,
+    })
 }
 
 // Whether a byte of the line under way is read: "the last newline may be missing".
@@ -149,39 +130,24 @@ pub fn line_end(r: Reading) -> Line
 pub fn is_begun(r: Reading) -> bool
     ensures { result ≡ is_begun r }
 {
-    if r.place != 0 {
-        return true;
-    }
-    r.digits != 0
+    r.place != 0 || r.digits != 0
 }
 
 // ---- a piece of the input
 
-// Where a line ends: the place of its newline, or the end of the bytes.
-#[derive(Clone, Copy)]
-pub struct End {
-    pub stop: usize,
-    pub ended: bool,
+// The place of the first newline.
+fn newline_in(bytes: &[u8]) -> Option<usize>
+    ensures { result ≡ position (λ b. b == 10) bytes.now }
+{
+    bytes.iter().position(|byte| *byte == b'\n')
 }
 
 // The end of the line that begins or goes on at a place.
-// Promise: the place of the first newline from there on; where there is none, the end of the bytes (or the place given, where that lies
-// beyond it).
-pub fn find_end(bytes: &[u8], from: usize) -> End
+// Promise: the place of the first newline from there on; none where there is none.
+pub fn find_end(bytes: &[u8], from: usize) -> Option<usize>
     ensures { result ≡ end_from bytes.now from }
 {
-    let mut i = from;
-    while i < bytes.len() {
-        if bytes[i] == 10 {
-            return End {
-                stop: i,
-                ended: true,
-            };
-        }
-        i += 1;
-    }
-    End {
-        stop: i,
-        ended: false,
-    }
+    let rest = bytes.get(from..)?;
+    let place = newline_in(rest)?;
+    Some(from + place)
 }
