@@ -1,8 +1,9 @@
 -- What each way out of `run_lines` gives; and the loop of `put_answers`.
 use Rattle.std.specs.Prelude.{if◌then◌else◌}
-use Prim.Native.Nat.{ℕ, ◌+◌, ◌*◌, ◌/◌, ◌≤◌, ◌<◌}
+use Prim.Native.Nat.{ℕ, zero, suc, ◌+◌, ◌*◌, ◌/◌, ◌≤◌, ◌<◌}
 use mathlib.Core.Bool.{Bool, true, false}
-use mathlib.Core.Path.{◌≡◌, refl, sym, ap, ap₂, ◌∙◌, subst⁻¹}
+use mathlib.Core.Path.{◌≡◌, refl, sym, ap, ap₂, ◌∙◌, subst, subst⁻¹}
+use Rattle.std.specs.Simd.{first_chunks}
 use mathlib.Core.List.{List, [], ◌∷◌, ◌++◌, append_assoc, append-nil}
 use native.Mathlib.Decide.{dec_le}
 use native.Mathlib.Omega.{arith}
@@ -156,6 +157,20 @@ module _ (s : State) (t : Tally) (r : Reading) (bytes list trace : List ℕ) whe
                   (filled, (o, (within, sym (length-take-le l.size trace' within)))),
                 )
 
+-- ---- the numbers of event i, of a trace that is taken three at a time
+event_at : (n i : ℕ) (trace : List ℕ) → i < n → get_or (first_chunks 3 n trace) i [] ≡ take 3 (drop (3 * i) trace)
+event_at zero i trace h = elim h [ ]
+event_at (suc n) zero trace h = refl
+event_at (suc n) (suc i) trace h =
+    event_at n i (drop 3 trace) (omega arith) ∙ ap (take 3) (drop-drop (3 * i) 3 trace ∙ ap (λ (k : ℕ). drop k trace) (omega arith))
+
+event_is : (n i : ℕ) (trace : List ℕ) → i < n → 3 * n ≤ length trace
+    → get_or (first_chunks 3 n trace) i [] ≡ get_or trace (3 * i) 0 ∷ get_or trace (3 * i + 1) 0 ∷ get_or trace (3 * i + 2) 0 ∷ []
+event_is n i trace h l = event_at n i trace h ∙ ap (take 3) (three trace i (omega arith))
+
+abbrev pub three_text : List ℕ → List ℕ
+three_text event = answer_text (get_or event 0 0) (get_or event 1 0) (get_or event 2 0)
+
 -- ---- the loop of `put_answers`: after i events
 pub record Printing (trace old : List ℕ) (i at : ℕ) (out : List ℕ) : Type 0 where
   pub text : answers_text trace ≡ take at out ++ answers_text (drop (3 * i) trace)
@@ -167,17 +182,16 @@ pub printing_begins : (trace old : List ℕ) → Printing trace old 0 0 old
 printing_begins trace old = record { text = refl; tail = refl; size = refl; few = omega arith }
 
 module _ (trace old : List ℕ) (i at : ℕ) (out : List ℕ) (p : Printing trace old i at out) (room : 21 * length trace ≤ length old) where
-  pub printing_room : 3 * i + 3 ≤ length trace → at + 63 ≤ length out
-  printing_room h = omega (arith, p.few, p.size)
-
-  pub printing_more : 3 * i + 3 ≤ length trace → (n : ℕ) (new : List ℕ)
-      → Put (answer_text (get_or trace (3 * i) 0) (get_or trace (3 * i + 1) 0) (get_or trace (3 * i + 2) 0)) 63 at out n new
-      → Printing trace old (i + 1) n new
+  pub printing_more : i < length trace / 3 → (n : ℕ) (new : List ℕ)
+      → Put (three_text (get_or (first_chunks 3 (length trace / 3) trace) i [])) 63 at out n new → Printing trace old (i + 1) n new
   unfolding answers_text
-  printing_more h n new w =
+  printing_more e n new put =
       let words = answer_text (get_or trace (3 * i) 0) (get_or trace (3 * i + 1) 0) (get_or trace (3 * i + 2) 0) in
+      let h : 3 * i + 3 ≤ length trace = omega arith in
+      let w : Put words 63 at out n new =
+      subst (λ (l : List ℕ). Put (three_text l) 63 at out n new) (event_is (length trace / 3) i trace e (omega arith)) put in
       let later = drop (3 * (i + 1)) trace in
-      let fits : at + length words ≤ length out = omega (arith, printing_room h, w.few) in
+      let fits : at + length words ≤ length out = omega (arith, p.few, p.size, w.few) in
       let is : new ≡ (take at out ++ words) ++ drop (at + length words) out = w.output ∙ put_fits words at out fits in
       let front : length (take at out ++ words) ≡ n =
       length-append (take at out) words ∙ omega (arith, length-take-le at out (omega (arith, fits)), w.place) in

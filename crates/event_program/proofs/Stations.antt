@@ -1,11 +1,12 @@
 -- The lines at the end: a station's counters one after the other, and the stations.
-use Prim.Native.Nat.{ℕ, zero, suc, ◌+◌, ◌*◌, ◌≤◌, ◌<◌, min}
-use mathlib.Core.Path.{◌≡◌, refl, sym, ap, ◌∙◌}
+use Prim.Native.Nat.{ℕ, suc, ◌+◌, ◌*◌, ◌≤◌, ◌<◌, min}
+use mathlib.Core.Path.{◌≡◌, refl, sym, ap, ap₂, ◌∙◌}
+use Rattle.station.specs.declared.Station.{Station}
 use mathlib.Core.List.{List, [], ◌∷◌, ◌++◌, append_assoc, append-nil}
 use native.Mathlib.Numerals.{add-one}
 use native.Mathlib.Omega.{arith}
 use lib.ListN.{length, get_or, take, length-append}
-use lib.Seq.{take-suc, length-take-le}
+use lib.Seq.{take-suc, get_or-take}
 use Rattle.lists.specs.Lists.{below}
 use Rattle.lists.specs.Places.{collect}
 use Rattle.lists.proofs.Places.{collect_append}
@@ -14,7 +15,7 @@ use Rattle.net.proofs.ValueLaws.{stations_of}
 use Rattle.text.proofs.Puts.{place_fits}
 use Rattle.text.proofs.Chains.{Chain, chain_fits}
 use Rattle.state.specs.declared.State.{State}
-use Rattle.state.specs.State.{station_in}
+use Rattle.state.specs.State.{beyond}
 use Rattle.console.proofs.Puts.{byte_digits, counter_digits, texts_more}
 use Rattle.event_program.specs.Stations.{station_text, station_line, stations_text, station_most}
 
@@ -34,10 +35,6 @@ pub station_whole : (s : ℕ) (table : List ℕ) → (([] ++ digits s) ++ collec
 unfolding station_text
 station_whole s table = refl
 
-pub station_done : (s : ℕ) (cs : List ℕ) (k n : ℕ) → k ≡ n
-    → (([] ++ digits s) ++ collect counter_text (take k cs)) ++ (10 ∷ []) ≡ station_text s (take n cs)
-station_done s cs k n e = station_whole s (take k cs) ∙ ap (λ (j : ℕ). station_text s (take j cs)) e
-
 -- how long the line is
 counters_few : (cs : List ℕ) → ((k : ℕ) → get_or cs k 0 < 65536) → length (collect counter_text cs) ≤ 6 * length cs
 counters_few [] f = omega arith
@@ -46,18 +43,11 @@ counters_few (c ∷ cs) f =
     let others : length (collect counter_text cs) ≤ 6 * length cs = counters_few cs (λ k. f (suc k)) in
     omega (arith, length-append (counter_text c) (collect counter_text cs))
 
-taken_small : (cs : List ℕ) (n : ℕ) → ((k : ℕ) → get_or cs k 0 < 65536) → (k : ℕ) → get_or (take n cs) k 0 < 65536
-taken_small cs zero f k = omega arith
-taken_small [] (suc n) f k = omega arith
-taken_small (c ∷ cs) (suc n) f zero = f 0
-taken_small (c ∷ cs) (suc n) f (suc k) = taken_small cs n (λ j. f (suc j)) k
-
-pub station_few : (s n : ℕ) (cs : List ℕ) → s < 256 → n ≤ 64 → length cs ≡ 64 → ((k : ℕ) → get_or cs k 0 < 65536)
-    → length (station_text s (take n cs)) ≤ station_most
+pub station_few : (s : ℕ) (cs : List ℕ) → s < 256 → length cs ≤ 64 → ((k : ℕ) → get_or cs k 0 < 65536)
+    → length (station_text s cs) ≤ station_most
 unfolding station_text
-station_few s n cs h l e f =
-    let size : length (take n cs) ≡ n = length-take-le n cs (omega arith) in
-    let table : length (collect counter_text (take n cs)) ≤ 6 * length (take n cs) = counters_few (take n cs) (taken_small cs n f) in
+station_few s cs h l f =
+    let table : length (collect counter_text cs) ≤ 6 * length cs = counters_few cs f in
     simp length-append (omega (arith, byte_digits s h))
 
 -- ---- one station more
@@ -66,11 +56,12 @@ unfolding stations_text
 stations_whole s n i e h = ap (λ (k : ℕ). collect (station_line s) (below k)) (h ∙ e ∙ sym (stations_of s.net))
 
 -- the code's table of one station
-pub same_table : (s : State) (i m : ℕ) → m ≡ min s.net.links 64
-    → collect (station_line s) (below i) ++ station_text i (take m (station_in s i).counters) ≡ collect (station_line s) (below (i + 1))
-same_table s i m e =
-    ap (λ (k : ℕ). collect (station_line s) (below i) ++ station_text i (take k (station_in s i).counters)) e
-    ∙ texts_more (station_line s) i
+pub same_table : (s : State) (i n m : ℕ) → i < n → m ≡ min s.net.links 64
+    → collect (station_line s) (below i) ++ station_text i (take m (get_or (take n s.stations) i beyond).counters)
+    ≡ collect (station_line s) (below (i + 1))
+same_table s i n m h e =
+    ap₂ (λ (k : ℕ) (x : Station). collect (station_line s) (below i) ++ station_text i (take k x.counters)) e
+    (get_or-take n s.stations i beyond h) ∙ texts_more (station_line s) i
 
 -- what fits is no longer than the place behind it
 pub stations_few : (text : List ℕ) (most : ℕ) (old : List ℕ) (r : ℕ) (new : List ℕ) → Chain text 0 old r new → r ≤ most → most ≤ length old

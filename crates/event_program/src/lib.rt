@@ -3,7 +3,7 @@
 // Inner doors: the calls are in docs/CALLS.md.
 #![tactic(auto)]
 
-ghost use Rattle.std.specs.Prelude.{◌≡◌, ◌+◌, ◌*◌, ◌≤◌, length, take};
+ghost use Rattle.std.specs.Prelude.{◌≡◌, ◌+◌, ◌*◌, ◌<◌, ◌≤◌, length, take};
 ghost use Rattle.console.specs.Outputs.{Counts, Put, wrote_by};
 ghost use Rattle.fields.specs.Output.{with_room, writing_output};
 ghost use Rattle.event_list.specs.Lines.{listing};
@@ -35,19 +35,12 @@ pub fn begin(net: Net) -> Ran
     ensures { result ≡ first_ran net }
 {
     let begun = state::fresh(net);
-    let state = begun.state;
-    let reading = event_lines::begin();
-    let tally = Tally {
-        settled: 0,
-        raised: 0,
-        dropped: 0,
-    };
     Ran {
         answer: begun.answer,
         size: 0, // no event yet
-        reading,
-        tally,
-        state,
+        reading: event_lines::begin(),
+        tally: Tally::default(),
+        state: begun.state,
     }
 }
 
@@ -80,26 +73,22 @@ pub fn run_lines(
             state: given,
         };
     }
-    let size = listed.size;
-    let line = listed.reading;
-    let done = backlog_run::run_with_answers(given, t, &list[..size], trace);
-    let sums = done.tally;
-    let after = done.state;
+    let done = backlog_run::run_with_answers(given, t, &list[..listed.size], trace);
     if done.answer != 0 {
         return Ran {
             answer: done.answer,
             size: 0,
             reading: r,
-            tally: sums,
-            state: after,
+            tally: done.tally,
+            state: done.state,
         };
     }
     Ran {
         answer: 0,
-        size,
-        reading: line,
-        tally: sums,
-        state: after,
+        size: listed.size,
+        reading: listed.reading,
+        tally: done.tally,
+        state: done.state,
     }
 }
 
@@ -109,11 +98,11 @@ fn put_answer(out: &mut [u8], at: usize, answer: u64, flying: u64, settled: u64)
     ensures { Put (answer_text answer flying settled) 63 at out.old result out.new }
 {
     let a = text::put_number(out, at, answer);
-    out[a] = 32;
+    out[a] = b' ';
     let c = text::put_number(out, a + 1, flying);
-    out[c] = 32;
+    out[c] = b' ';
     let e = text::put_number(out, c + 1, settled);
-    out[e] = 10;
+    out[e] = b'\n';
     e + 1
 }
 
@@ -134,11 +123,10 @@ pub fn put_answers(trace: &[u64], out: &mut [u8]) -> Wrote
             written: 0,
         };
     }
-    let mut at: usize = 0;
-    let n = trace.len() / 3;
-    for i in 0..n {
-        let first = 3 * i;
-        at = put_answer(out, at, trace[first], trace[first + 1], trace[first + 2]);
+    let mut at = 0;
+    let (events, _) = trace.as_chunks::<3>();
+    for &[answer, flying, settled] in events {
+        at = put_answer(out, at, answer, flying, settled);
     }
     Wrote {
         answer: 0,
@@ -150,15 +138,14 @@ pub fn put_answers(trace: &[u64], out: &mut [u8]) -> Wrote
 // or writes.
 
 // A station's number and its counters by link.
-fn put_station(out: &mut [u8], at: usize, i: u8, links: u8, counters: [u16; 64]) -> usize
-    requires { (at + station_most ≤ length out.old) × (links ≤ 64) }
-    ensures { Put (station_text i (take links counters)) station_most at out.old result out.new }
+fn put_station(out: &mut [u8], at: usize, i: usize, counters: &[u16]) -> usize
+    requires { (at + station_most ≤ length out.old) × (i < 256) × (length counters.now ≤ 64) }
+    ensures { Put (station_text i counters.now) station_most at out.old result out.new }
 {
     let mut to = text::put_number(out, at, i as u64);
-    for k in 0..links {
-        let here = k as usize;
+    for counter in counters {
         let behind = text::put_word(out, to, b" ");
-        to = text::put_number(out, behind, counters[here] as u64);
+        to = text::put_number(out, behind, *counter as u64);
     }
     text::put_word(out, to, b"\n")
 }
@@ -178,14 +165,11 @@ pub fn put_stations(s: State, out: &mut [u8]) -> Wrote
             written: 0,
         };
     }
-    let n = sets::at_most(s.net.stations, 32);
-    let m = sets::at_most(s.net.links, 64);
-    let mut at: usize = 0;
-    for i in 0..n {
-        let here = i as usize;
-        let st = s.stations[here];
-        let counters = st.counters;
-        at = put_station(out, at, i, m, counters);
+    let stations = s.net.stations.min(32) as usize;
+    let links = s.net.links.min(64) as usize;
+    let mut at = 0;
+    for (i, station) in s.stations[..stations].iter().enumerate() {
+        at = put_station(out, at, i, &station.counters[..links]);
     }
     Wrote {
         answer: 0,

@@ -1,12 +1,11 @@
 use Rattle.event_program.proofs.Stations.{counter_text}
 use Rattle.text.proofs.Chains.{Chain}
 use Rattle.lists.specs.Places.{collect}
+use Rattle.text.specs.Text.{digits}
 use lib.ListN.{take}
-use mathlib.Core.List.{List, ◌++◌}
-use Prim.Native.Nat.{ℕ, ◌≤◌}
+use mathlib.Core.List.{[], ◌++◌}
 use Rattle.event_program.proofs.put_station.Given as goal
 
-abbrev pub invariant-loop-k : goal.invariant-loop-k
-invariant-loop-k l =
-    (l.k ≤ l.links) × ((xs old : List ℕ) → Chain xs l.at old l.initial.to l.initial.out
-    → Chain (xs ++ collect counter_text (take l.k l.counters)) l.at old l.to l.out)
+abbrev pub invariant-loop-counter : goal.invariant-loop-counter
+invariant-loop-counter l =
+    Chain (([] ++ digits l.i) ++ collect counter_text (take l.counter-index l.counters)) l.at l.fn.out l.to l.out

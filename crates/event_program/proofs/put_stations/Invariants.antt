@@ -6,6 +6,4 @@ use Prim.Native.Nat.{◌≤◌, ◌*◌}
 use Rattle.event_program.proofs.put_stations.Given as goal
 
 abbrev pub invariant-loop-i : goal.invariant-loop-i
-invariant-loop-i l =
-    (l.i ≤ l.n) × (l.at ≤ station_most * l.i) × (l.n ≤ 32)
-    × Chain (collect (station_line l.s) (below l.i)) 0 l.initial.out l.at l.out
+invariant-loop-i l = (l.at ≤ station_most * l.i) × Chain (collect (station_line l.fn.s) (below l.i)) 0 l.initial.out l.at l.out
