@@ -4,7 +4,7 @@
 // Inner doors: the calls are in docs/CALLS.md.
 #![tactic(auto)]
 
-ghost use Rattle.std.specs.Prelude.{◌≡◌, ◌-◌, min};
+ghost use Rattle.std.specs.Prelude.{◌≡◌, ◌-◌, min, length, take, drop};
 ghost use Rattle.net.specs.Sizes.{letter_room};
 ghost use Rattle.station.specs.Values.{blank};
 ghost use Rattle.world.specs.World.{no_letter};
@@ -54,11 +54,12 @@ pub fn held_of(stations: [Station; STATION_ROOM]) -> [Held; STATION_ROOM]
 {
     let none = no_held();
     let mut held = [none; STATION_ROOM];
-    for i in 0..STATION_ROOM {
-        let st = stations[i]; // its table stands elsewhere
-        let condition = st.condition;
-        let marks = st.marks;
-        held[i] = Held { condition, marks };
+    for (i, st) in stations.iter().enumerate() {
+        // its table stands elsewhere
+        held[i] = Held {
+            condition: st.condition,
+            marks: st.marks,
+        };
     }
     held
 }
@@ -68,13 +69,9 @@ pub fn tables_of(stations: [Station; STATION_ROOM]) -> [u16; TABLES_ROOM]
     ensures { result ≡ side_by_side stations }
 {
     let mut tables = [0u16; TABLES_ROOM];
-    for i in 0..STATION_ROOM {
-        let st = stations[i];
-        let table = st.counters;
+    for (i, st) in stations.iter().enumerate() {
         let first = LINK_ROOM * i;
-        for k in 0..LINK_ROOM {
-            tables[first + k] = table[k]; // by station, then by link
-        }
+        tables[first..first + LINK_ROOM].copy_from_slice(&st.counters);
     }
     tables
 }
@@ -95,24 +92,19 @@ pub fn moving_room(letters: [Letter; LETTER_ROOM]) -> [Letter; MOVING_ROOM]
 {
     let none = no_letter();
     let mut room = [none; MOVING_ROOM];
-    for j in 0..LETTER_ROOM {
-        let y = letters[j];
-        room[j] = y;
-    }
+    room[..LETTER_ROOM].copy_from_slice(&letters);
     room
 }
 
 // ---- and back
 
-// How many of so many places from a start on are places of a room of this size.
-fn places(start: usize, many: usize, size: usize) -> usize
-    ensures { result ≡ min many (size - start) }
+// So many elements from that place on; as many as there are, where these are fewer.
+fn part<T>(xs: &[T], start: usize, many: usize) -> &[T]
+    ensures items { result.now ≡ take many (drop start xs.now) }
+    ensures size { length result.now ≡ min many (length xs.now - start) }
 {
-    if size <= start {
-        return 0;
-    }
-    let most = size - start;
-    if many < most { many } else { most }
+    let rest = &xs[start.min(xs.len())..];
+    &rest[..many.min(rest.len())]
 }
 
 // The table of station i.
@@ -121,11 +113,8 @@ pub fn table_at(tables: &[u16], i: u8) -> Counters
     ensures { result ≡ table_in tables.now i }
 {
     let mut table = [0u16; LINK_ROOM];
-    let first = LINK_ROOM * i as usize;
-    let n = places(first, LINK_ROOM, tables.len());
-    for k in 0..n {
-        table[k] = tables[first + k];
-    }
+    let own = part(tables, LINK_ROOM * i as usize, LINK_ROOM);
+    table[..own.len()].copy_from_slice(own);
     table
 }
 
@@ -151,11 +140,9 @@ fn no_station() -> Station
 pub fn put_table(tables: &mut [u16], i: u8, table: Counters)
     ensures { tables.new ≡ with_table tables.old i table }
 {
-    let first = LINK_ROOM * i as usize;
-    let n = places(first, LINK_ROOM, tables.len()); // all of it, where it has its room
-    for k in 0..n {
-        tables[first + k] = table[k]; // the other tables stay
-    }
+    let first = tables.len().min(LINK_ROOM * i as usize);
+    let n = LINK_ROOM.min(tables.len() - first); // all of it, where it has its room
+    tables[first..first + n].copy_from_slice(&table[..n]);
 }
 
 // Promise: equals `Rooms.stations_in`: each station with what it holds and its table.
@@ -164,15 +151,11 @@ pub fn stations_of(held: [Held; STATION_ROOM], tables: &[u16]) -> [Station; STAT
 {
     let none = no_station();
     let mut stations = [none; STATION_ROOM];
-    for i in 0..STATION_ROOM {
-        let h = held[i];
-        let condition = h.condition;
-        let marks = h.marks;
-        let counters = table_at(tables, i as u8);
+    for (i, h) in held.iter().enumerate() {
         stations[i] = Station {
-            condition,
-            counters,
-            marks,
+            condition: h.condition,
+            counters: table_at(tables, i as u8),
+            marks: h.marks,
         };
     }
     stations
@@ -185,10 +168,7 @@ pub fn gathered(room: [Letter; MOVING_ROOM], start: usize, many: u16) -> [Letter
 {
     let none = no_letter();
     let mut letters = [none; LETTER_ROOM];
-    let n = places(start, state::used_places(many) as usize, MOVING_ROOM);
-    for j in 0..n {
-        let y = room[start + j];
-        letters[j] = y;
-    }
+    let flying = part(&room, start, state::used_places(many) as usize);
+    letters[..flying.len()].copy_from_slice(flying);
     letters
 }

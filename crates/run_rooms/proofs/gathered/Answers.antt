@@ -1,19 +1,17 @@
-use Rattle.std.proofs.Common.{◌≡◌, ℕ, ◌-◌, min, refl, ap, ◌∙◌, arith}
+use Rattle.std.proofs.Common.{◌≡◌, ◌-◌, ap, sym, ◌∙◌, arith, take, drop, length, min}
+use Rattle.lists.specs.Places.{roomed}
 use Rattle.net.specs.Sizes.{letter_room}
 use Rattle.world.specs.World.{no_letter}
-use Rattle.run_rooms.specs.Rooms.{moving_room, letters_in}
-use Rattle.run_rooms.proofs.Loops.{fills_none, fills_more, fills_roomed}
+use Rattle.run_rooms.specs.Rooms.{moving_room, in_flight}
+use Rattle.run_rooms.proofs.Loops.{laid, part_long, part_map}
 use Rattle.run_rooms.proofs.gathered.Goals as goal
-
-pub loop-j-init : goal.loop-j-init
-loop-j-init c = record { few = omega arith; filling = fills_none _ letter_room _ no_letter c.no_letter-none.ensures }
-
-pub loop-j-preserved : goal.loop-j-preserved
-loop-j-preserved c = record { few = omega arith; filling = fills_more c.loop-j.invariant.filling (omega arith) _ refl }
 
 pub returns : goal.returns
 returns c =
-    let l = c.loop-j in
     let a = c.args in
-    let n : l.j ≡ min (min a.many letter_room) (moving_room - a.start) = omega arith in
-    fills_roomed l.invariant.filling ∙ ap (λ (k : ℕ). letters_in a.room a.start k) n
+    let n = c.used_places.result in
+    let flying = take n (drop a.start a.room) in
+    let m : min n (length a.room - a.start) ≡ min (min a.many letter_room) (moving_room - a.start) = omega arith in
+    laid letter_room no_letter flying _ _ (length c.part-flying.result.now) c.no_letter-none.ensures
+    (c.copy_from_slice.ensures.after ∙ c.part-flying.ensures.items) (c.part-flying.ensures.size ∙ sym (part_long a.room a.start n))
+    ∙ ap (roomed letter_room no_letter) (part_map a.room a.start n no_letter ∙ ap (in_flight a.room a.start) m)

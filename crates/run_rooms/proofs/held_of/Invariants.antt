@@ -6,4 +6,4 @@ use Rattle.run_rooms.proofs.Loops.{Filling}
 use Rattle.run_rooms.proofs.held_of.Given as goal
 
 abbrev pub invariant-loop-i : goal.invariant-loop-i
-invariant-loop-i l = Filling (λ j. held_by (get_or l.stations j beyond)) station_room no_held l.held l.i
+invariant-loop-i l = Filling (λ j. held_by (get_or l.st-items j beyond)) station_room no_held l.held l.i

@@ -1,13 +1,6 @@
-use Rattle.std.proofs.Common.{refl, arith}
-use Rattle.run_rooms.proofs.Loops.{tables_none, tables_more, tables_end}
+use Rattle.std.proofs.Common.{arith}
+use Rattle.run_rooms.proofs.Loops.{table_put}
 use Rattle.run_rooms.proofs.put_table.Goals as goal
 
-pub loop-k-init : goal.loop-k-init
-loop-k-init c = record { few = omega arith; tabling = tables_none _ _ _ }
-
-pub loop-k-preserved : goal.loop-k-preserved
-loop-k-preserved c =
-    record { few = omega arith; tabling = tables_more c.loop-k.invariant.tabling (omega (arith, c.places-n.ensures)) }
-
 pub returns : goal.returns
-returns c = tables_end c.loop-k.invariant.tabling _ refl (omega (arith, c.loop-k.invariant.few, c.places-n.ensures))
+returns c = table_put _ _ _ c.args.i c.min-first.result c.min-n.result _ c.min-first.ensures c.min-n.ensures (omega arith) (omega arith) c.copy_from_slice.ensures.after

@@ -13,7 +13,7 @@ loop-i-preserved c =
     let l = c.loop-i in
     let h = get_or c.args.held l.i no_held in
     fills_more l.invariant (omega arith) _
-    (ap (λ (t : List ℕ). record { condition = h.condition; counters = t; marks = h.marks }) c.table_at-counters.ensures)
+    (ap (λ (t : List ℕ). record { condition = h.condition; counters = t; marks = h.marks }) c.table_at.ensures)
 
 pub returns : goal.returns
 unfolding stations_in

@@ -5,4 +5,4 @@ use Rattle.run_rooms.proofs.Loops.{Filling}
 use Rattle.run_rooms.proofs.stations_of.Given as goal
 
 abbrev pub invariant-loop-i : goal.invariant-loop-i
-invariant-loop-i l = Filling (station_by l.held l.tables) station_room blank l.stations l.i
+invariant-loop-i l = Filling (station_by l.h-items l.tables) station_room blank l.stations l.i
