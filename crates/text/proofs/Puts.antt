@@ -1,12 +1,13 @@
 -- Laws of texts put into an output: what each way out of `put_word` gives, and, for callers, texts put one after the other.
 use Prim.Native.Nat.{ℕ, ◌+◌, ◌≤◌, ◌<◌}
-use mathlib.Core.Path.{◌≡◌, sym, ap, ◌∙◌}
+use mathlib.Core.Path.{◌≡◌, refl, sym, ap, ◌∙◌}
 use mathlib.Core.List.{List, ◌++◌}
-use native.Mathlib.Numerals.{add-one}
 use native.Mathlib.Decide.{dec_le}
 use native.Mathlib.Omega.{arith}
-use lib.ListN.{length, get_or, take, drop, set}
-use lib.Seq.{paste, paste-suc, length-paste, take-length}
+use lib.ListN.{length, take, drop}
+use lib.Seq.{paste, length-paste, take-length}
+use borrow.Rule.Slice.PartMut.{put_mid}
+use Rattle.std.proofs.lemmas.Slice.{put_mid-paste}
 use borrow.Author.Tests.{le-leb, lt-leb}
 use Rattle.text.specs.Text.{put_at, place_after}
 
@@ -41,21 +42,13 @@ module _ (text : List ℕ) (at : ℕ) (old : List ℕ) where
       go (yes h) = ap length (put_paste h) ∙ length-paste old at text (length text) h (omega arith)
       go (no h) = ap length (put_over (omega arith))
 
-  -- ---- the ways out of `put_word`
+  -- a part that the text is copied to
+  pub put_whole : (k : ℕ) → at + length text ≤ length old → k ≡ length text → put_mid at k old text ≡ put_at text at old
+  put_whole k h e = put_mid-paste at k old text text (length text) refl (sym e) refl ∙ sym (put_paste h)
+
+  -- ---- where a put leaves all as it was
   pub left_over : length old < at + length text → (length old + 1 ≡ place_after text at old) × (old ≡ put_at text at old)
   left_over h = (sym (place_over h), sym (put_over h))
-
-  module _ (i : ℕ) (out : List ℕ) (fits : at + length text ≤ length old) (e : out ≡ paste old at text i) where
-    pub copied_length : i ≤ length text → length out ≡ length old
-    copied_length h = ap length e ∙ length-paste old at text i (omega arith) h
-
-    pub copied_more : i < length text → set out (at + i) (get_or text i 0) ≡ paste old at text (i + 1)
-    copied_more h =
-        ap (λ (x : List ℕ). set x (at + i) (get_or text i 0)) e ∙ paste-suc old at text i 0 (omega arith) h
-        ∙ ap (paste old at text) (sym (add-one i))
-
-    pub copied : i ≡ length text → (at + length text ≡ place_after text at old) × (out ≡ put_at text at old)
-    copied k = (sym (place_fits fits), e ∙ ap (paste old at text) k ∙ sym (put_paste fits))
 
 -- the same text, written otherwise
 pub same_text : (xs ys : List ℕ) (at : ℕ) (old : List ℕ) (r : ℕ) (out : List ℕ) → xs ≡ ys

@@ -9,22 +9,16 @@ ghost use Rattle.text.specs.Parts.{field_text, hex_text};
 
 // A word as it stands.
 // Promise: the word at that place, all else as it was, and the place behind it; a place past the end where it does not fit.
+#[tactic(auto, using(crate::proofs::Puts::place_over, crate::proofs::Puts::put_over, crate::proofs::Puts::place_fits, crate::proofs::Puts::put_whole))]
 pub fn put_word(out: &mut [u8], at: usize, word: &[u8]) -> usize
     ensures place { result ≡ place_after word.now at out.old }
     ensures output { out.new ≡ put_at word.now at out.old }
 {
     let n = word.len();
-    if out.len() < at {
+    if out.len() < at || out.len() - at < n {
         return out.len() + 1;
     }
-    if out.len() - at < n {
-        return out.len() + 1;
-    }
-    let mut i: usize = 0;
-    while i < n {
-        out[at + i] = word[i];
-        i += 1;
-    }
+    out[at..at + n].copy_from_slice(word);
     at + n
 }
 
@@ -62,6 +56,7 @@ fn digit_count(n: u64) -> usize
 // A number in decimal.
 // Promise: the number's decimal digits at that place, all else as it was, and the place behind it; a place past the end where they do not
 // fit. They read back to it (`text.Digits.reads_back`).
+#[tactic(auto, using(crate::proofs::Puts::place_over, crate::proofs::Puts::put_over, crate::proofs::Digits::digits_some))]
 pub fn put_number(out: &mut [u8], at: usize, n: u64) -> usize
     ensures place { result ≡ place_after (digits n) at out.old }
     ensures output { out.new ≡ put_at (digits n) at out.old }
@@ -75,13 +70,11 @@ pub fn put_number(out: &mut [u8], at: usize, n: u64) -> usize
         return at + 1;
     }
     let count = digit_count(n);
-    if out.len() < at {
+    if out.len() < at || out.len() - at < count {
         return out.len() + 1;
     }
-    if out.len() - at < count {
-        return out.len() + 1;
-    }
-    // straight to their places: the last digit is known first
+    // straight to their places: the last digit is known first.
+    // Stays: tried `for place in out[at..at + count].iter_mut().rev()`; behind an adapter of `iter_mut` the proof knows no element.
     let mut m = n;
     let mut i = at + count - 1;
     while 10 <= m {
@@ -96,20 +89,18 @@ pub fn put_number(out: &mut [u8], at: usize, n: u64) -> usize
 // Bytes in hexadecimal, two digits each, upper case.
 // Promise: two hexadecimal digits for each byte at that place, all else as it was, and the place behind them; a place past the end where
 // they do not all fit.
+#[tactic(auto, using(crate::proofs::Puts::place_over, crate::proofs::Puts::put_over, crate::proofs::Parts::text_length))]
 pub fn put_bytes(out: &mut [u8], at: usize, bytes: &[u8]) -> usize
     ensures place { result ≡ place_after (hex_text bytes.now) at out.old }
     ensures output { out.new ≡ put_at (hex_text bytes.now) at out.old }
 {
     // all the digits or none
-    if out.len() < at {
-        return out.len() + 1;
-    }
-    if (out.len() - at) / 2 < bytes.len() {
+    if out.len() < at || (out.len() - at) / 2 < bytes.len() {
         return out.len() + 1;
     }
     let mut to = at;
-    for i in 0..bytes.len() {
-        to = put_hex(out, to, bytes[i]);
+    for byte in bytes {
+        to = put_hex(out, to, *byte);
     }
     to
 }

@@ -1,31 +1,11 @@
 use native.Mathlib.Omega.{arith}
-use Rattle.text.proofs.Digits.{digits_some}
-use Rattle.text.proofs.Puts.{left_over}
 use Rattle.text.proofs.Spelled.{putting_none, at_digit, not_first, putting_more, putting_all, number_one}
 use Rattle.text.proofs.put_number.Goals as goal
-
-pub returns-then-out-at : goal.returns-then-out-at
-returns-then-out-at c =
-    let a = c.args in
-    let w = left_over _ a.at a.out.now (omega (arith, digits_some a.n)) in record { place = w.0; output = w.1 }
 
 pub returns-then-n-lt10 : goal.returns-then-n-lt10
 returns-then-n-lt10 c =
     let a = c.args in
     let w = number_one a.n a.at a.out.now (omega arith) (omega arith) in record { place = w.0; output = w.1 }
-
-pub returns-then-out-at-2 : goal.returns-then-out-at-2
-returns-then-out-at-2 c =
-    let a = c.args in
-    let w = left_over _ a.at a.out.now (omega arith) in record { place = w.0; output = w.1 }
-
-pub returns-then-out-at-3 : goal.returns-then-out-at-3
-returns-then-out-at-3 c =
-    let a = c.args in
-    let w = left_over _ a.at a.out.now (omega (arith, c.digit_count-count.ensures)) in record { place = w.0; output = w.1 }
-
-pub overflow_sub-i : goal.overflow_sub-i
-overflow_sub-i c = omega (arith, c.digit_count-count.ensures, digits_some c.args.n)
 
 pub loop-m-init : goal.loop-m-init
 loop-m-init c =
