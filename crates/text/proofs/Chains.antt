@@ -34,27 +34,29 @@ chain_fits text from old at out c l = go (dec_le (from + length text) (length ol
     go (yes h) = h
     go (no h) = absurd (omega (arith, c.place, place_over text from old (omega arith)))
 
+-- a text put behind another is both put at once
+pub put_twice : (xs ys : List ℕ) (from : ℕ) (old : List ℕ) → from + length (xs ++ ys) ≤ length old
+    → put_at ys (from + length xs) (put_at xs from old) ≡ put_at (xs ++ ys) from old
+put_twice xs ys from old h =
+    let whole : length (xs ++ ys) ≡ length xs + length ys = length-append xs ys in
+    let front : length (take from old ++ xs) ≡ from + length xs = length-append (take from old) xs
+    ∙ ap (λ (n : ℕ). n + length xs) (length-take-le from old (omega (arith, whole))) in
+    let first : put_at xs from old ≡ (take from old ++ xs) ++ drop (from + length xs) old = put_fits xs from old (omega (arith, whole)) in
+    let ends : from + length xs + length ys ≡ from + length (xs ++ ys) = omega (arith, whole) in
+    let back : drop (from + length xs + length ys) (put_at xs from old) ≡ drop (from + length (xs ++ ys)) old =
+    ap (drop (from + length xs + length ys)) first
+    ∙ sym (drop-drop (length ys) (from + length xs) ((take from old ++ xs) ++ drop (from + length xs) old))
+    ∙ ap (drop (length ys)) (drop_at (take from old ++ xs) (drop (from + length xs) old) (from + length xs) front)
+    ∙ drop-drop (length ys) (from + length xs) old ∙ ap (λ (n : ℕ). drop n old) ends in
+    put_fits ys (from + length xs) (put_at xs from old) (omega (arith, whole, length_put xs from old))
+    ∙ ap₂ (λ (x y : List ℕ). x ++ ys ++ y) (ap (take (from + length xs)) first
+    ∙ take_at (take from old ++ xs) (drop (from + length xs) old) (from + length xs) front) back
+    ∙ ap (λ (x : List ℕ). x ++ drop (from + length (xs ++ ys)) old) (append_assoc (take from old) xs ys)
+    ∙ sym (put_fits (xs ++ ys) from old h)
+
 module _ (xs ys : List ℕ) (from : ℕ) (old : List ℕ) (at : ℕ) (out : List ℕ) (c : Chain xs from old at out) where
   whole : length (xs ++ ys) ≡ length xs + length ys
   whole = length-append xs ys
-
-  -- where all of it fits
-  joined : from + length (xs ++ ys) ≤ length old → put_at ys (from + length xs) (put_at xs from old) ≡ put_at (xs ++ ys) from old
-  joined h =
-      let front : length (take from old ++ xs) ≡ from + length xs = length-append (take from old) xs
-      ∙ ap (λ (n : ℕ). n + length xs) (length-take-le from old (omega (arith, whole))) in
-      let first : put_at xs from old ≡ (take from old ++ xs) ++ drop (from + length xs) old = put_fits xs from old (omega (arith, whole)) in
-      let ends : from + length xs + length ys ≡ from + length (xs ++ ys) = omega (arith, whole) in
-      let back : drop (from + length xs + length ys) (put_at xs from old) ≡ drop (from + length (xs ++ ys)) old =
-      ap (drop (from + length xs + length ys)) first
-      ∙ sym (drop-drop (length ys) (from + length xs) ((take from old ++ xs) ++ drop (from + length xs) old))
-      ∙ ap (drop (length ys)) (drop_at (take from old ++ xs) (drop (from + length xs) old) (from + length xs) front)
-      ∙ drop-drop (length ys) (from + length xs) old ∙ ap (λ (n : ℕ). drop n old) ends in
-      put_fits ys (from + length xs) (put_at xs from old) (omega (arith, whole, length_put xs from old))
-      ∙ ap₂ (λ (x y : List ℕ). x ++ ys ++ y) (ap (take (from + length xs)) first
-      ∙ take_at (take from old ++ xs) (drop (from + length xs) old) (from + length xs) front) back
-      ∙ ap (λ (x : List ℕ). x ++ drop (from + length (xs ++ ys)) old) (append_assoc (take from old) xs ys)
-      ∙ sym (put_fits (xs ++ ys) from old h)
 
   -- one text more
   pub chain_more : Chain (xs ++ ys) from old (place_after ys at out) (put_at ys at out)
@@ -67,7 +69,7 @@ module _ (xs ys : List ℕ) (from : ℕ) (old : List ℕ) (at : ℕ) (out : List
           record {
             place = place_fits ys at out (omega (arith, c.size, whole)) ∙ omega (arith, whole, place_fits (xs ++ ys) from old l);
             size = length_put ys at out ∙ c.size;
-            output = λ i. ap₂ (λ (x : ℕ) (y : List ℕ). put_at ys x y) here (c.output (omega arith)) ∙ joined l;
+            output = λ i. ap₂ (λ (x : ℕ) (y : List ℕ). put_at ys x y) here (c.output (omega arith)) ∙ put_twice xs ys from old l;
           }
       go (yes h) (no l) =
           let here : at ≡ from + length xs = c.place ∙ place_fits xs from old h in

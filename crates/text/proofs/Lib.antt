@@ -3,3 +3,4 @@ pub mod Puts
 pub mod Chains
 mod Spelled
 pub mod Parts
+pub mod Lines

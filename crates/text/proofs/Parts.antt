@@ -1,17 +1,19 @@
 -- The parts of a line: bytes in hexadecimal, put one after the other, and a number with its space, spelled into a room of six bytes.
 use Prim.Native.Nat.{ℕ, ◌+◌, ◌*◌, ◌≤◌, ◌<◌}
-use mathlib.Core.Path.{◌≡◌, refl, sym, ap, ◌∙◌, subst}
+use mathlib.Core.Path.{◌≡◌, refl, sym, ap, ◌∙◌}
 use mathlib.Core.List.{List, [], ◌∷◌, ◌++◌, append-nil}
 use native.Mathlib.Numerals.{add-one}
 use native.Mathlib.Omega.{arith}
 use lib.ListN.{length, get_or, take, drop, length-append}
-use lib.Seq.{take-suc, take-length, take_at}
+use lib.Seq.{take-suc, take-length, take_at, length-take-le}
 use Rattle.lists.specs.Places.{collect}
 use Rattle.lists.proofs.Places.{collect_append}
-use Rattle.text.specs.Text.{digits, hex_pair, put_at, place_after}
+use Rattle.text.specs.Text.{digits, hex_pair}
 use Rattle.text.proofs.Digits.{digits_at_most}
-use Rattle.text.proofs.Puts.{place_fits, put_fits}
-use Rattle.text.proofs.Chains.{Chain, chain_none, chain_next}
+use Rattle.text.proofs.Puts.{put_fits}
+use Rattle.text.specs.Line.{Puts, Adds}
+use Rattle.text.specs.declared.Line.{Line}
+use Rattle.text.proofs.Lines.{adds_put, adds_then, adds_same, adds_front, puts_parts}
 use Rattle.text.specs.Parts.{field_text, hex_text}
 
 -- ---- bytes
@@ -35,42 +37,33 @@ unfolding hex_text
 text_length bytes = hex_length bytes
 
 -- the first i bytes were put
-module _ (bytes : List ℕ) (at : ℕ) (old : List ℕ) (i to : ℕ) (out : List ℕ) (c : Chain (collect hex_pair (take i bytes)) at old to out) where
-  pub bytes_more : {r : ℕ} {next : List ℕ} → i < length bytes
-      → (r ≡ place_after (hex_pair (get_or bytes i 0)) to out) × (next ≡ put_at (hex_pair (get_or bytes i 0)) to out)
-      → Chain (collect hex_pair (take (i + 1) bytes)) at old r next
-  bytes_more {r} {next} h p = subst (λ (x : List ℕ). Chain x at old r next) (hex_more bytes i h) (chain_next (hex_pair (get_or bytes i 0)) c p)
+module _ (bytes : List ℕ) (i : ℕ) {a b : Line} (s : Adds (collect hex_pair (take i bytes)) a b) where
+  pub bytes_more : {c : Line} → i < length bytes → Puts (hex_pair (get_or bytes i 0)) b c → Adds (collect hex_pair (take (i + 1) bytes)) a c
+  bytes_more h p = adds_same (hex_more bytes i h) (adds_then s p)
 
-  pub bytes_all : i ≡ length bytes → at + 2 * length bytes ≤ length old
-      → (to ≡ place_after (hex_text bytes) at old) × (out ≡ put_at (hex_text bytes) at old)
-  bytes_all e h =
-      let w : Chain (hex_text bytes) at old to out = subst (λ (x : List ℕ). Chain x at old to out) (hex_whole bytes i e) c in
-      let here : to ≡ at + length (hex_text bytes) = w.place ∙ place_fits (hex_text bytes) at old (omega (arith, text_length bytes)) in
-      (w.place, w.output (omega (arith, text_length bytes)))
+  pub bytes_all : i ≡ length bytes → a.at + 2 * length bytes ≤ length a.out.now → Puts (hex_text bytes) a b
+  bytes_all e h = puts_parts (omega (arith, text_length bytes)) (adds_same (hex_whole bytes i e) s)
 
 -- ---- a number and its space
 pub field_length : (n : ℕ) → n < 65536 → length (field_text n) ≤ 6
 unfolding field_text
 field_length n h = omega (arith, length-append (digits n) (32 ∷ []), digits_at_most 4 n (omega arith))
 
--- both were put at the front of a room of six
-pub record Spelled (n : ℕ) (room : List ℕ) (end : ℕ) : Type 0 where
-  pub size : length room ≡ 6
-  pub few : end ≤ 6
-  pub text : take end room ≡ field_text n
+-- both, put at the front of a room of six
+module _ (n : ℕ) {a b c : Line} {room : List ℕ} (h : n < 65536) (z : a.at ≡ 0) (full : length a.out.now ≡ 6) (p : Puts (digits n) a b)
+    (q : Puts (32 ∷ []) b c) (e : room ≡ c.out.now) where
+  both : Adds (field_text n) a c
+  unfolding field_text
+  both = adds_then (adds_put p) q
 
-pub field_spelled : (n : ℕ) (old : List ℕ) (a : ℕ) (mid : List ℕ) (b : ℕ) (new : List ℕ) → n < 65536 → length old ≡ 6
-    → (a ≡ place_after (digits n) 0 old) × (mid ≡ put_at (digits n) 0 old) → (b ≡ place_after (32 ∷ []) a mid) × (new ≡ put_at (32 ∷ []) a mid)
-    → Spelled n new b
-unfolding field_text
-field_spelled n old a mid b new h full p q =
-    let c : Chain (field_text n) 0 old b new = chain_next (32 ∷ []) (chain_next (digits n) (chain_none 0 old (omega arith)) p) q in
-    let fits : 0 + length (field_text n) ≤ length old = omega (arith, field_length n h) in
-    let here : b ≡ length (field_text n) = c.place ∙ place_fits (field_text n) 0 old fits ∙ omega arith in
-    record {
-      size = c.size ∙ full;
-      few = omega (arith, field_length n h);
-      text =
-          ap (take b) (c.output (omega arith) ∙ put_fits (field_text n) 0 old fits)
-          ∙ take_at (field_text n) (drop (0 + length (field_text n)) old) b (sym here);
-    }
+  pub field_end : c.at ≤ length room
+  field_end = omega (arith, field_length n h, both.size, ap length e, (adds_front both z (omega (arith, field_length n h)) e).0)
+
+  pub field_taken : c.at ≡ length (take c.at room)
+  field_taken = sym (length-take-le c.at room field_end)
+
+  pub field_spelled : take c.at room ≡ field_text n
+  field_spelled =
+      let w = adds_front both z (omega (arith, field_length n h)) e in
+      ap (take c.at) (w.1 ∙ put_fits (field_text n) 0 a.out.now (omega (arith, field_length n h)))
+      ∙ take_at (field_text n) (drop (0 + length (field_text n)) a.out.now) c.at (sym w.0)
