@@ -8,11 +8,11 @@ ghost use Rattle.station.specs.Acts.{all_own, may_end, interval_marks, interval_
 ghost use Rattle.station_plan.specs.Plans.{links_word, marks_by};
 ghost use Rattle.station_plan.specs.Comes.{own_plan, event_plan, EventPlans};
 
+use crate::Here;
 use marks::{Marks, Words};
 use net::Letter;
 use station::{Condition, Kind};
 use station_plan::Plan;
-use tally::Tally;
 
 // ---- the marks after events 3 to 6, in words: what becomes of one link's, and of all links' where one changes
 
@@ -20,59 +20,36 @@ fn interval_marks(m: Marks) -> Marks
     ensures { result ≡ interval_marks m }
 {
     if m.token {
-        return Marks {
+        Marks {
             token: false,
-            turn: m.turn,
             testing: true,
-            asked: m.asked,
-            quiet: m.quiet,
-        };
-    }
-    if m.turn {
-        return Marks {
-            token: m.token,
+            ..m
+        }
+    } else if m.turn {
+        Marks {
             turn: false,
             testing: true,
-            asked: m.asked,
-            quiet: m.quiet,
-        };
-    }
-    Marks {
-        token: m.token,
-        turn: true,
-        testing: m.testing,
-        asked: m.asked,
-        quiet: m.quiet,
+            ..m
+        }
+    } else {
+        Marks { turn: true, ..m }
     }
 }
 
 fn tests_now(m: Marks) -> bool
     ensures { result ≡ interval_tests m }
 {
-    if m.token {
-        return true;
-    }
-    m.turn
+    m.token || m.turn
 }
 
 fn test_ended(m: Marks) -> Marks
     ensures { result ≡ test_ended m }
 {
-    if m.asked {
-        return Marks {
-            token: true,
-            turn: m.turn,
-            testing: false,
-            asked: false,
-            quiet: m.quiet,
-        };
-    }
     Marks {
-        token: m.token,
-        turn: m.turn,
+        token: m.token || m.asked, // what was asked for comes now
         testing: false,
-        asked: m.asked,
-        quiet: m.quiet,
+        asked: false,
+        ..m
     }
 }
 
@@ -84,17 +61,13 @@ fn ended_words(w: Words, k: u8) -> Words
     marks::with_marks(w, k, test_ended(m))
 }
 
-// The same, and the link is kept quiet: nothing is sent or heard there until quiet ends.
+// The same, and the link is given up: nothing is sent or heard there until quiet ends.
 fn failed_words(w: Words, k: u8) -> Words
     ensures { result ≡ words_with w k (set_quiet true (test_ended (marks_at w k))) }
 {
-    let m = test_ended(marks::marks_at(w, k));
     let silenced = Marks {
-        token: m.token,
-        turn: m.turn,
-        testing: m.testing,
-        asked: m.asked,
-        quiet: true, // the link is given up
+        quiet: true,
+        ..test_ended(marks::marks_at(w, k))
     };
     marks::with_marks(w, k, silenced)
 }
@@ -103,13 +76,9 @@ fn failed_words(w: Words, k: u8) -> Words
 fn loud_words(w: Words, k: u8) -> Words
     ensures { result ≡ words_with w k (set_quiet false (marks_at w k)) }
 {
-    let m = marks::marks_at(w, k);
     let loud = Marks {
-        token: m.token,
-        turn: m.turn,
-        testing: m.testing,
-        asked: m.asked,
-        quiet: false, // the only mark that changes
+        quiet: false,
+        ..marks::marks_at(w, k)
     };
     marks::with_marks(w, k, loud)
 }
@@ -125,8 +94,7 @@ fn recovered_words(own: u64, w: Words) -> Words
         token: sets::without(w.token, own),
         turn,
         testing,
-        asked: w.asked,
-        quiet: w.quiet,
+        ..w
     }
 }
 
@@ -144,16 +112,11 @@ fn tests_on(own: u64, w: Words) -> u64
 fn may_end(condition: Condition, m: Marks) -> bool
     ensures { result ≡ may_end condition m }
 {
-    if !station_kinds::is_live(condition) {
-        return false;
-    }
-    if m.testing {
-        return false;
-    }
-    !m.quiet
+    station_kinds::is_live(condition) && !m.testing && !m.quiet
 }
 
 // 1. Start.
+#[tactic(auto, unfolding(station_plan::specs::Comes::event_plan, station::specs::Events::due_of))]
 fn plan_start(own: u64, condition: Condition, w: Words) -> Plan
     ensures { result ≡ own_plan Start own 0 0 condition w }
 {
@@ -171,6 +134,7 @@ fn plan_start(own: u64, condition: Condition, w: Words) -> Plan
 }
 
 // 2. Stop.
+#[tactic(auto, unfolding(station_plan::specs::Comes::event_plan, station::specs::Events::due_of))]
 fn plan_stop(condition: Condition, w: Words) -> Plan
     ensures { result ≡ own_plan Stop 0 0 0 condition w }
 {
@@ -188,6 +152,7 @@ fn plan_stop(condition: Condition, w: Words) -> Plan
 }
 
 // 3. The recovery wait ends.
+#[tactic(auto, unfolding(station_plan::specs::Comes::event_plan, station::specs::Events::due_of))]
 fn plan_recovery(own: u64, condition: Condition, w: Words) -> Plan
     ensures { result ≡ own_plan Recovery own 0 0 condition w }
 {
@@ -200,6 +165,7 @@ fn plan_recovery(own: u64, condition: Condition, w: Words) -> Plan
 }
 
 // 4. An interval ends on link k.
+#[tactic(auto, unfolding(station_plan::specs::Comes::event_plan, station::specs::Events::due_of))]
 fn plan_interval(k: u8, condition: Condition, w: Words) -> Plan
     ensures { result ≡ own_plan IntervalEnd 0 k 0 condition w }
 {
@@ -214,6 +180,7 @@ fn plan_interval(k: u8, condition: Condition, w: Words) -> Plan
 
 // 5. A timeout ends on link k, whose counter is c. A link that worked is raised, told of and kept quiet; what is out of reach then is
 // purged.
+#[tactic(auto, unfolding(station_plan::specs::Comes::event_plan, station::specs::Events::due_of))]
 fn plan_timeout(own: u64, k: u8, c: u16, condition: Condition, w: Words) -> Plan
     ensures { result ≡ own_plan TimeoutEnd own k c condition w }
 {
@@ -226,17 +193,14 @@ fn plan_timeout(own: u64, k: u8, c: u16, condition: Condition, w: Words) -> Plan
     let after = failed_words(w, k);
     let subjects = sets::put(0, k, true);
     let ways = sets::put(sets::without(own, w.quiet), k, false); // every other own link
-    let raised = Tally {
-        settled: 0,
-        raised: 1,
-        dropped: 0,
-    };
+    let raised = crate::counted(0, 1);
     // a link that failed may have cut others off: purge
     let up = counters::timed_out(c);
     crate::telling(condition, after, k, up, true, false, subjects, ways, raised)
 }
 
 // 6. Quiet ends on link k.
+#[tactic(auto, unfolding(station_plan::specs::Comes::event_plan, station::specs::Events::due_of))]
 fn plan_quiet_end(k: u8, condition: Condition, w: Words) -> Plan
     ensures { result ≡ own_plan QuietEnd 0 k 0 condition w }
 {
@@ -248,37 +212,27 @@ fn plan_quiet_end(k: u8, condition: Condition, w: Words) -> Plan
 
 // ---- any event
 
-// What the event comes to at the station me. there: whether what it names is there. own: the station's links. k: the link that the
-// event is about, with its counter c. told: the counter of the link that the letter tells of.
+// What the event comes to at the station that is here. there: whether what it names is there.
 // Promise: equals `Comes.event_plan` of the words given: 6 where what the event names is not there, 7, 8, or what is done; and at every
 // station that has these words this is what the event comes to there, by document 01 (`Comes.EventPlans`: `due_of` of `rule_at`).
-pub fn plan_event(
-    there: bool,
-    kind: Kind,
-    own: u64,
-    me: u8,
-    k: u8,
-    letter: Letter,
-    c: u16,
-    told: u16,
-    condition: Condition,
-    w: Words,
-) -> Plan
-    ensures { (result ≡ event_plan there kind own me k letter c told condition w)
-        × EventPlans there kind own me k letter c told condition w result }
+pub fn plan_event(there: bool, kind: Kind, letter: Letter, here: Here) -> Plan
+    ensures { (result ≡ event_plan there kind here.own here.me here.link letter here.counter here.told here.condition here.marks)
+        × EventPlans there kind here.own here.me here.link letter here.counter here.told here.condition here.marks result }
 {
+    let condition = here.condition;
+    let marks = here.marks;
     if !there {
-        return crate::staying(6, 0, 0, condition, w);
+        return crate::staying(6, 0, 0, condition, marks);
     }
     match kind {
-        Kind::NoSuch => crate::turning(condition, w, 0, false),
-        Kind::Start => plan_start(own, condition, w),
-        Kind::Stop => plan_stop(condition, w),
-        Kind::Recovery => plan_recovery(own, condition, w),
-        Kind::IntervalEnd => plan_interval(k, condition, w),
-        Kind::TimeoutEnd => plan_timeout(own, k, c, condition, w),
-        Kind::QuietEnd => plan_quiet_end(k, condition, w),
-        Kind::Delivery => crate::plan_letter(own, me, k, letter, c, told, condition, w),
-        Kind::Loss => crate::staying(0, crate::settled_by(letter), 1, condition, w),
+        Kind::NoSuch => crate::turning(condition, marks, 0, false),
+        Kind::Start => plan_start(here.own, condition, marks),
+        Kind::Stop => plan_stop(condition, marks),
+        Kind::Recovery => plan_recovery(here.own, condition, marks),
+        Kind::IntervalEnd => plan_interval(here.link, condition, marks),
+        Kind::TimeoutEnd => plan_timeout(here.own, here.link, here.counter, condition, marks),
+        Kind::QuietEnd => plan_quiet_end(here.link, condition, marks),
+        Kind::Delivery => crate::plan_letter(letter, here),
+        Kind::Loss => crate::staying(0, crate::settled_by(letter), 1, condition, marks),
     }
 }

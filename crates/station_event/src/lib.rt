@@ -24,46 +24,29 @@ use station::{Condition, Effect, Heard, Sending};
 use station_plan::Plan;
 use tally::Tally;
 
-// ---- the three forms that most plans have
-
-// Nothing changes and nothing is sent: refused, or a letter is gone.
-fn staying(number: u8, settled: u64, dropped: u64, condition: Condition, w: Words) -> Plan
-    ensures { result ≡ stays number settled dropped condition w }
-{
-    Plan {
-        answer: number,
-        condition,
-        marks: w,
-        resets: false,
-        sets: false,
-        at: 0,
-        counter: 0,
-        purges: false,
-        knows: false,
-        sends: Sending {
-            requests: 0,
-            subjects: 0, // silence tells of nothing
-            ways: 0, // and on no link
-            replies: false,
-            reply: 0,
-            link: 0,
-        },
-        counts: Tally {
-            settled,
-            raised: 0,
-            dropped,
-        },
-    }
+// What the plan of an event is made from: the station, by its links and its number; the link that the event is about, with its counter;
+// the counter of the link that the letter tells of; and the station's condition and marks.
+#[derive(Clone, Copy)]
+pub struct Here {
+    pub own: u64,
+    pub me: u8,
+    pub link: u8,
+    pub counter: u16,
+    pub told: u16,
+    pub condition: Condition,
+    pub marks: Words,
 }
 
+// ---- the three forms that most plans have
+
 // The condition and the marks change, and requests are sent.
-fn turning(condition: Condition, w: Words, requests: u64, resets: bool) -> Plan
-    ensures { result ≡ turns condition w requests resets }
+fn turning(condition: Condition, marks: Words, requests: u64, resets: bool) -> Plan
+    ensures { result ≡ turns condition marks requests resets }
 {
     Plan {
         answer: 0,
         condition,
-        marks: w,
+        marks,
         resets,
         sets: false,
         at: 0,
@@ -72,24 +55,32 @@ fn turning(condition: Condition, w: Words, requests: u64, resets: bool) -> Plan
         knows: false,
         sends: Sending {
             requests,
-            subjects: 0,
-            ways: 0,
-            replies: false,
-            reply: 0,
-            link: 0,
+            ..Sending::default()
         },
+        counts: Tally::default(),
+    }
+}
+
+// Nothing changes and nothing is sent: refused, or a letter is gone.
+fn staying(number: u8, settled: u64, dropped: u64, condition: Condition, marks: Words) -> Plan
+    ensures { result ≡ stays number settled dropped condition marks }
+{
+    Plan {
+        answer: number,
+        sends: Sending::default(), // silence
         counts: Tally {
-            settled: 0,
-            raised: 0,
-            dropped: 0,
+            settled,
+            dropped,
+            ..Tally::default()
         },
+        ..turning(condition, marks, 0, false)
     }
 }
 
 // One counter is set, and notices of these subjects are sent on these ways.
 fn telling(
     condition: Condition,
-    w: Words,
+    marks: Words,
     at: u8,
     counter: u16,
     purges: bool,
@@ -98,27 +89,21 @@ fn telling(
     ways: u64,
     counts: Tally,
 ) -> Plan
-    ensures { result ≡ tells condition w at counter purges knows subjects ways counts }
+    ensures { result ≡ tells condition marks at counter purges knows subjects ways counts }
 {
     Plan {
-        answer: 0,
-        condition,
-        marks: w,
-        resets: false,
         sets: true, // or what is told would not be so here
         at,
         counter,
         purges,
         knows,
         sends: Sending {
-            requests: 0, // nobody is asked
             subjects,
             ways,
-            replies: false,
-            reply: 0,
-            link: 0,
+            ..Sending::default() // nobody is asked
         },
         counts,
+        ..turning(condition, marks, 0, false)
     }
 }
 
@@ -144,49 +129,29 @@ fn reply_heard(own: u16, c: u16) -> Heard
 fn request_heard(testing: bool, sender: u16, me: u8) -> Heard
     ensures { result ≡ (if testing && ltb sender me then Does Defers else Does Answers) }
 {
-    if testing {
-        if sender < me as u16 {
-            return Heard::Does(Effect::Defers);
-        }
+    if testing && sender < u16::from(me) {
+        Heard::Does(Effect::Defers)
+    } else {
+        Heard::Does(Effect::Answers)
     }
-    Heard::Does(Effect::Answers)
 }
 
-// The receiver's answer to a letter on link k: c is that link's counter, told that of the link that the letter tells of.
-fn hearing(
-    me: u8,
-    k: u8,
-    sender: u16,
-    body: Body,
-    c: u16,
-    told: u16,
-    condition: Condition,
-    w: Words,
-) -> Heard
-    ensures { result ≡ (if hears condition (marks_at w k) then body_answer me sender (marks_at w k) c told body else Gone) }
+// The receiver's answer to a letter on the link.
+fn hearing(sender: u16, body: Body, here: Here) -> Heard
+    ensures { result ≡ (if hears here.condition (marks_at here.marks here.link)
+        then body_answer here.me sender (marks_at here.marks here.link) here.counter here.told body else Gone) }
 {
-    if !station_kinds::is_live(condition) {
+    if !station_kinds::is_live(here.condition) || sets::has(here.marks.quiet, here.link) {
         return Heard::Gone;
     }
-    if sets::has(w.quiet, k) {
-        return Heard::Gone;
-    }
+    let testing = sets::has(here.marks.testing, here.link);
     match body {
-        Body::Request => request_heard(sets::has(w.testing, k), sender, me),
-        Body::Reply(carried) => {
-            if sets::has(w.testing, k) {
-                reply_heard(c, carried)
-            } else {
-                Heard::Nothing
-            }
+        Body::Request => request_heard(testing, sender, here.me),
+        Body::Reply(carried) if testing => reply_heard(here.counter, carried),
+        Body::Notice(j, carried) if counters::is_newer(here.told, carried) => {
+            Heard::Does(Effect::Takes(j, carried))
         }
-        Body::Notice(j, carried) => {
-            if counters::is_newer(told, carried) {
-                Heard::Does(Effect::Takes(j, carried))
-            } else {
-                Heard::Nothing
-            }
-        }
+        Body::Reply(_) | Body::Notice(_, _) => Heard::Nothing,
     }
 }
 
@@ -196,24 +161,7 @@ fn hearing(
 fn settled_by(letter: Letter) -> u64
     ensures { result ≡ bit (is_notice letter.body) }
 {
-    let body = letter.body;
-    match body {
-        Body::Request => 0,
-        Body::Reply(_) => 0,
-        Body::Notice(_, _) => 1,
-    }
-}
-
-fn pick(on: bool, a: u64, b: u64) -> u64
-    ensures { result ≡ (if on then a else b) }
-{
-    if on { a } else { b }
-}
-
-fn one_if(on: bool) -> u64
-    ensures { result ≡ bit on }
-{
-    if on { 1 } else { 0 }
+    u64::from(matches!(letter.body, Body::Notice(_, _)))
 }
 
 // What a letter that is heard adds to the tally.
@@ -223,21 +171,17 @@ fn counted(settled: u64, raised: u64) -> Tally
     Tally {
         settled,
         raised,
-        dropped: 0,
+        ..Tally::default() // none is dropped
     }
 }
 
-// A request that is put off.
+// A request that is put off: the token comes when the test ends.
 fn asked_words(w: Words, k: u8) -> Words
     ensures { result ≡ words_with w k (set_asked true (marks_at w k)) }
 {
-    let m = marks::marks_at(w, k);
     let asked = Marks {
-        token: m.token,
-        turn: m.turn,
-        testing: m.testing,
-        asked: true, // the token comes when the test ends
-        quiet: m.quiet,
+        asked: true,
+        ..marks::marks_at(w, k)
     };
     marks::with_marks(w, k, asked)
 }
@@ -246,13 +190,12 @@ fn asked_words(w: Words, k: u8) -> Words
 fn requested_words(w: Words, k: u8) -> Words
     ensures { result ≡ words_with w k (requested_marks (marks_at w k)) }
 {
-    let m = marks::marks_at(w, k);
     let rested = Marks {
         token: true,
         turn: false, // or the next silent interval would test too early
         testing: false,
         asked: false,
-        quiet: m.quiet,
+        ..marks::marks_at(w, k)
     };
     marks::with_marks(w, k, rested)
 }
@@ -261,135 +204,132 @@ fn requested_words(w: Words, k: u8) -> Words
 fn replied_words(w: Words, k: u8) -> Words
     ensures { result ≡ words_with w k (replied_marks (marks_at w k)) }
 {
-    let m = marks::marks_at(w, k);
     let ended = Marks {
-        token: m.token,
-        turn: m.turn,
         testing: false, // the test is over
         asked: false,
-        quiet: m.quiet,
+        ..marks::marks_at(w, k)
     };
     marks::with_marks(w, k, ended)
 }
 
 // A request is answered: over a link that was down all that is known is told, but of the link itself; last comes the reply.
-fn plan_answer(k: u8, c: u16, settled: u64, condition: Condition, w: Words) -> Plan
-    ensures { result ≡ done_plan 0 w (effect_act condition k c Answers) (counting settled 0 0) }
+fn plan_answer(settled: u64, here: Here) -> Plan
+    ensures { result ≡ done_plan 0 here.marks (effect_act here.condition here.link here.counter Answers) (counting settled 0 0) }
 {
-    let after = requested_words(w, k);
-    let down = !counters::is_even(c);
-    let others = sets::put(18446744073709551615, k, false);
-    let subjects = pick(down, others, 0);
-    let ways = sets::put(0, k, true);
+    let down = !counters::is_even(here.counter);
+    let others = sets::put(u64::MAX, here.link, false);
     Plan {
-        answer: 0,
-        condition,
-        marks: after,
-        resets: false,
-        sets: false,
-        at: 0,
-        counter: 0,
-        purges: false,
         knows: down,
         sends: Sending {
             requests: 0,
-            subjects,
-            ways,
+            subjects: if down { others } else { 0 },
+            ways: sets::put(0, here.link, true),
             replies: true,
-            reply: c,
-            link: k,
+            reply: here.counter,
+            link: here.link,
         },
         counts: counted(settled, 0),
+        ..turning(
+            here.condition,
+            requested_words(here.marks, here.link),
+            0,
+            false,
+        )
     }
 }
 
 // A reply to a test. It heals if one of the two counters was odd: everything that is known is told, and what is out of reach then is
 // purged. Else it levels two even ones: this link alone is told.
-fn plan_reply(
-    own: u64,
-    k: u8,
-    settled: u64,
-    raised: u64,
-    to: u16,
-    heals: bool,
-    condition: Condition,
-    w: Words,
-) -> Plan
-    ensures { result ≡ done_plan own w (effect_act condition k 0 (if heals then Heals to else Levels to)) (counting settled raised 0) }
+fn plan_reply(settled: u64, raised: u64, to: u16, heals: bool, here: Here) -> Plan
+    ensures { result ≡ done_plan here.own here.marks (effect_act here.condition here.link 0 (if heals then Heals to else Levels to))
+        (counting settled raised 0) }
 {
-    let after = replied_words(w, k);
-    let alone = sets::put(0, k, true);
-    let subjects = pick(heals, 18446744073709551615, alone);
-    let ways = sets::without(own, w.quiet);
+    let after = replied_words(here.marks, here.link);
+    let alone = sets::put(0, here.link, true);
+    let subjects = if heals { u64::MAX } else { alone };
+    let ways = sets::without(here.own, here.marks.quiet);
     let counts = counted(settled, raised);
     telling(
-        condition, after, k, to, heals, heals, subjects, ways, counts,
+        here.condition,
+        after,
+        here.link,
+        to,
+        heals,
+        heals,
+        subjects,
+        ways,
+        counts,
     )
 }
 
 // A newer notice: taken, and sent on wherever it did not come from.
-fn plan_take(own: u64, k: u8, settled: u64, j: u8, to: u16, condition: Condition, w: Words) -> Plan
-    ensures { result ≡ done_plan own w (effect_act condition k 0 (Takes j to)) (counting settled 1 0) }
+fn plan_take(settled: u64, j: u8, to: u16, here: Here) -> Plan
+    ensures { result ≡ done_plan here.own here.marks (effect_act here.condition here.link 0 (Takes j to)) (counting settled 1 0) }
 {
     let subjects = sets::put(0, j, true);
-    let ways = sets::put(sets::without(own, w.quiet), k, false); // not back
+    let ways = sets::put(sets::without(here.own, here.marks.quiet), here.link, false); // not back
     let counts = counted(settled, 1);
     // no purge, or one notice could circle a ring for ever
-    telling(condition, w, j, to, false, false, subjects, ways, counts)
+    telling(
+        here.condition,
+        here.marks,
+        j,
+        to,
+        false,
+        false,
+        subjects,
+        ways,
+        counts,
+    )
 }
 
 // What a letter that is heard comes to, by what it does.
-fn plan_effect(
-    own: u64,
-    k: u8,
-    c: u16,
-    settled: u64,
-    effect: Effect,
-    condition: Condition,
-    w: Words,
-) -> Plan
-    ensures { result ≡ done_plan own w (effect_act condition k c effect) (counting settled (raised_effect c effect) 0) }
+fn plan_effect(effect: Effect, settled: u64, here: Here) -> Plan
+    ensures { result ≡ done_plan here.own here.marks (effect_act here.condition here.link here.counter effect)
+        (counting settled (raised_effect here.counter effect) 0) }
 {
     match effect {
-        Effect::Defers => staying(0, settled, 0, condition, asked_words(w, k)),
-        Effect::Answers => plan_answer(k, c, settled, condition, w),
-        Effect::Heals(to) => plan_reply(own, k, settled, one_if(c < to), to, true, condition, w),
-        Effect::Levels(to) => plan_reply(own, k, settled, one_if(c < to), to, false, condition, w),
-        Effect::Equal => staying(0, settled, 0, condition, replied_words(w, k)),
-        Effect::Takes(j, to) => plan_take(own, k, settled, j, to, condition, w),
+        Effect::Defers => staying(
+            0,
+            settled,
+            0,
+            here.condition,
+            asked_words(here.marks, here.link),
+        ),
+        Effect::Answers => plan_answer(settled, here),
+        Effect::Heals(to) => plan_reply(settled, u64::from(here.counter < to), to, true, here),
+        Effect::Levels(to) => plan_reply(settled, u64::from(here.counter < to), to, false, here),
+        Effect::Equal => staying(
+            0,
+            settled,
+            0,
+            here.condition,
+            replied_words(here.marks, here.link),
+        ),
+        Effect::Takes(j, to) => plan_take(settled, j, to, here),
     }
 }
 
 // What becomes of a letter that does nothing: refused, dropped, or without effect.
-fn plan_drop(said: Heard, settled: u64, condition: Condition, w: Words) -> Plan
-    ensures { result ≡ drop_plan said settled condition w }
+#[tactic(auto, unfolding(station_plan::specs::Plans::drop_plan))]
+fn plan_drop(said: Heard, settled: u64, condition: Condition, marks: Words) -> Plan
+    ensures { result ≡ drop_plan said settled condition marks }
 {
     match said {
-        Heard::Gone => staying(0, settled, 1, condition, w),
-        Heard::Nothing => staying(0, settled, 0, condition, w),
-        Heard::Overflows => staying(8, 0, 0, condition, w),
-        Heard::Does(_) => staying(0, settled, 0, condition, w),
+        Heard::Gone => staying(0, settled, 1, condition, marks),
+        Heard::Overflows => staying(8, 0, 0, condition, marks),
+        Heard::Nothing | Heard::Does(_) => staying(0, settled, 0, condition, marks),
     }
 }
 
-// 7. A letter arrives on link k.
-fn plan_letter(
-    own: u64,
-    me: u8,
-    k: u8,
-    letter: Letter,
-    c: u16,
-    told: u16,
-    condition: Condition,
-    w: Words,
-) -> Plan
-    ensures { result ≡ event_plan true Delivery own me k letter c told condition w }
+// 7. A letter arrives on the link.
+fn plan_letter(letter: Letter, here: Here) -> Plan
+    ensures { result ≡ event_plan true Delivery here.own here.me here.link letter here.counter here.told here.condition here.marks }
 {
-    let body = letter.body;
-    let said = hearing(me, k, letter.sender, body, c, told, condition, w);
+    let said = hearing(letter.sender, letter.body, here);
     let settled = settled_by(letter);
     let Heard::Does(effect) = said else {
-        return plan_drop(said, settled, condition, w);
+        return plan_drop(said, settled, here.condition, here.marks);
     };
-    plan_effect(own, k, c, settled, effect, condition, w)
+    plan_effect(effect, settled, here)
 }

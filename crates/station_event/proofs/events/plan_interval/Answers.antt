@@ -1,11 +1,5 @@
-use Rattle.station_event.proofs.Small.{interval_refused, interval_done}
+use Rattle.station_event.proofs.Small.{interval_done}
 use Rattle.station_event.proofs.events.plan_interval.Goals as goal
-
-pub returns-then-not-may_end : goal.returns-then-not-may_end
-returns-then-not-may_end c =
-    let a = c.args in
-    interval_refused a.condition a.w a.k _ _ c.marks_at-m.ensures c.may_end.ensures _
-    c.if-not-may_end.true c.staying.ensures
 
 pub returns : goal.returns
 returns c =
