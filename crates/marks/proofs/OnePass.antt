@@ -1,5 +1,4 @@
 -- Each station's own links, found in one pass over the links: one link puts its number into the words of its two ends.
-use Rattle.std.specs.Prelude.{if◌then◌else◌}
 use Prim.Native.Nat.{ℕ, ◌+◌, ◌*◌, ◌%◌, ◌^◌, ◌≤◌, ◌<◌}
 use mathlib.Core.Bool.{Bool, true, false, ◌&&◌, ◌||◌}
 use mathlib.Core.Path.{◌≡◌, refl, sym, ap, ap₂, ◌∙◌}
@@ -8,21 +7,19 @@ use native.Mathlib.Decide.{dec_lt, ℕ_discrete}
 use native.Mathlib.Omega.{arith}
 use lib.Dec.{eqb, ltb}
 use lib.ListN.{length, get_or, set, length-set}
-use lib.Pow.{pow_pos}
 use lib.Seq.{ext_get_or, get_or-set_same, get_or-set_other}
 use borrow.Author.Tests.{eq-eqb, ne_eqb, lt-ltb, le-ltb}
 use Rattle.lists.specs.Lists.{below}
 use Rattle.lists.specs.Words.{in_word}
 use Rattle.lists.proofs.Numbers.{get_or_map_below, length_map_below}
 use Rattle.lists.proofs.Tests.{and_yes}
-use Rattle.lists.proofs.Words.{none_in, zero_is_out}
 use Rattle.lists.proofs.Fill.{map_below_same}
 use Rattle.net.specs.declared.Net.{Net}
 use Rattle.net.specs.Network.{is_end}
 use Rattle.net.specs.Values.{network_of, link_count}
 use Rattle.net.specs.Sizes.{station_room}
 use Rattle.sets.specs.Sets.{word_by, up_to}
-use Rattle.sets.proofs.WordLaws.{in_by, by_same, on_is, upto_none}
+use Rattle.sets.proofs.WordLaws.{in_by, by_same, one_bit, upto_none}
 use Rattle.marks.specs.Marks.{own_words}
 use Rattle.marks.proofs.OwnLinks.{own_read}
 
@@ -44,24 +41,10 @@ module _ (f : ℕ → ℕ → Bool) (k e : ℕ) where
       table false true = refl
       table false false = refl
 
-  -- the number of the link, as the code makes it
-  one_bit : k < 64 → (t : ℕ) → t < 64 → in_word ((1 * 2 ^ k) % 2 ^ 64) t ≡ eqb t k
-  one_bit l t h =
-      ap (λ (w : ℕ). in_word w t) (bit ∙ on_is 0 k true (pow_pos 64) l (zero_is_out 0 k (none_in k)) refl)
-      ∙ in_by (λ t. if eqb t k then true else in_word 0 t) t h
-      ∙ ap (λ (b : Bool). if eqb t k then true else b) (zero_is_out 0 t (none_in t)) ∙ table (eqb t k)
-    where
-      bit : (1 * 2 ^ k) % 2 ^ 64 ≡ 0 + (1 * 2 ^ k) % 2 ^ 64
-      bit = omega arith
-
-      table : (b : Bool) → (if b then true else false) ≡ b
-      table true = refl
-      table false = refl
-
   there : (s : ℕ) → k < 64 → e ≡ s → word_by (λ t. in_word (word_by (f s)) t || in_word ((1 * 2 ^ k) % 2 ^ 64) t) ≡ word_by (with_end s)
   there s l q =
       by_same (λ t. in_word (word_by (f s)) t || in_word ((1 * 2 ^ k) % 2 ^ 64) t) (with_end s)
-      (λ t h. ap₂ (λ (a b : Bool). a || b) (in_by (f s) t h) (one_bit l t h ∙ sym (and_yes (eqb t k)))
+      (λ t h. ap₂ (λ (a b : Bool). a || b) (in_by (f s) t h) (one_bit k l t ∙ sym (and_yes (eqb t k)))
       ∙ sym (ap (λ (b : Bool). f s t || (eqb t k && b)) (eq-eqb e s q)))
 
   pub end_stored : (os : List ℕ) (w : ℕ) → k < 64 → e < station_room → os ≡ words_at f

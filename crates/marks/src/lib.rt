@@ -5,10 +5,10 @@
 ghost use Rattle.std.specs.Prelude.{◌≡◌};
 ghost use Rattle.marks.specs.Marks.{marks_at, words_with, own_words};
 
-use net::{MOST_STATIONS, Net, STATION_ROOM};
+use net::{MOST_LINKS, MOST_STATIONS, Net, STATION_ROOM};
 
 // The marks of one link.
-#[derive(Clone, Copy)]
+#[derive(Debug, Clone, Copy, PartialEq, Eq, Default)]
 pub struct Marks {
     pub token: bool,
     pub turn: bool,
@@ -18,7 +18,7 @@ pub struct Marks {
 }
 
 // The marks of all links.
-#[derive(Clone, Copy)]
+#[derive(Debug, Clone, Copy, PartialEq, Eq, Default)]
 pub struct Words {
     pub token: u64,
     pub turn: u64,
@@ -60,19 +60,18 @@ pub fn with_marks(w: Words, k: u8, m: Marks) -> Words
 pub fn own_words(net: Net) -> [u64; STATION_ROOM]
     ensures { result ≡ own_words net }
 {
-    let links = sets::at_most_64(net.links);
+    let links = net.links.min(MOST_LINKS) as usize;
     let mut owns = [0u64; STATION_ROOM];
-    for k in 0..links {
-        let i = k as usize;
-        let low = net.low[i];
-        let high = net.high[i];
-        if low < MOST_STATIONS {
-            let at = low as usize;
-            owns[at] = sets::join(owns[at], 1u64 << k);
+    for (k, low) in net.low[..links].iter().enumerate() {
+        let link = 1u64 << k;
+        let high = net.high[k];
+        if *low < MOST_STATIONS {
+            let at = *low as usize;
+            owns[at] = sets::join(owns[at], link);
         }
         if high < MOST_STATIONS {
             let at = high as usize;
-            owns[at] = sets::join(owns[at], 1u64 << k);
+            owns[at] = sets::join(owns[at], link);
         }
     }
     owns

@@ -19,10 +19,12 @@ pub const MOST_LINKS: u8 = LINK_ROOM as u8;
 
 pub const MOST_LETTERS: u16 = LETTER_ROOM as u16;
 
-pub const LARGEST_COUNTER: u16 = 65535;
+pub const LARGEST_COUNTER: u16 = u16::MAX;
 
 // Link k has the ends low[k] and high[k]; unused room is zero.
-#[derive(Clone, Copy)]
+// Stays: two arrays side by side, since `Values.network_of`, `place_ends` and the rules of sheets are definitions over these two fields;
+// no Default, since an array of 64 has none.
+#[derive(Debug, Clone, Copy, PartialEq, Eq)]
 pub struct Net {
     pub stations: u8,
     pub links: u8,
@@ -31,8 +33,9 @@ pub struct Net {
 }
 
 // What a letter says. The first variant is what an unused place holds.
-#[derive(Clone, Copy)]
+#[derive(Debug, Clone, Copy, PartialEq, Eq, Default)]
 pub enum Body {
+    #[default]
     Request,
     // with a counter
     Reply(u16),
@@ -41,7 +44,7 @@ pub enum Body {
 }
 
 // A letter, with the link that it travels on and its sender.
-#[derive(Clone, Copy)]
+#[derive(Debug, Clone, Copy, PartialEq, Eq, Default)]
 pub struct Letter {
     pub link: u16,
     pub sender: u16,
@@ -57,12 +60,7 @@ pub fn body_holds(links: u8, body: Body) -> bool
     match body {
         Body::Request => true,
         Body::Reply(c) => 1 <= c,
-        Body::Notice(subject, c) => {
-            if links <= subject {
-                return false;
-            }
-            1 <= c
-        }
+        Body::Notice(subject, c) => subject < links && 1 <= c,
     }
 }
 
@@ -71,8 +69,5 @@ pub fn body_holds(links: u8, body: Body) -> bool
 pub fn is_end(low: u8, high: u8, s: u16) -> bool
     ensures { result ≡ (eqb low s || eqb high s) }
 {
-    if low as u16 == s {
-        return true;
-    }
-    high as u16 == s
+    u16::from(low) == s || u16::from(high) == s
 }

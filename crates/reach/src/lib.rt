@@ -26,16 +26,7 @@ fn with_bit(w: u32, t: u8) -> u32
 fn joins(n: u8, a: u8, b: u8, works: bool, w: u32) -> bool
     ensures { result ≡ crosses n a b works w }
 {
-    if !works {
-        return false;
-    }
-    if n <= a {
-        return false;
-    }
-    if n <= b {
-        return false;
-    }
-    sets::bit_of(w, a) != sets::bit_of(w, b)
+    works && a < n && b < n && sets::bit_of(w, a) != sets::bit_of(w, b)
 }
 
 // The word with the one of two ends that it lacks.
@@ -55,11 +46,10 @@ fn grown(a: u8, b: u8, w: u32) -> u32
 pub fn working_links(links: u8, counters: Counters) -> u64
     ensures { result ≡ working_of links counters }
 {
-    let m = sets::at_most(links, MOST_LINKS);
+    let m = links.min(MOST_LINKS) as usize;
     let mut working: u64 = 0;
-    for k in 0..m {
-        let i = k as usize;
-        working = sets::put(working, k, counters::is_even(counters[i]));
+    for (k, counter) in counters[..m].iter().enumerate() {
+        working = sets::put(working, k as u8, counters::is_even(*counter));
     }
     working
 }
@@ -70,14 +60,15 @@ pub fn working_links(links: u8, counters: Counters) -> u64
 pub fn reach_word(net: Net, working: u64, s: u8) -> u32
     ensures { result ≡ word_of (reach_of net (in_word working) s) }
 {
-    let n = sets::at_most(net.stations, MOST_STATIONS);
-    let m = sets::at_most(net.links, MOST_LINKS);
+    let n = net.stations.min(MOST_STATIONS);
+    let m = net.links.min(MOST_LINKS);
     if n <= s {
         return 0;
     }
     let start = with_bit(0, s);
     let mut w = start;
     'grow: loop {
+        // Stays: document 01 gives the search as a nested loop over the number of a link, left by its label.
         let mut k: u8 = 0;
         let found: u8 = 'search: loop {
             if m <= k {
@@ -111,12 +102,11 @@ fn purge_one(a: u8, b: u8, counter: u16, w: u32) -> u16
 pub fn purged(net: Net, working: u64, counters: Counters, s: u8) -> Counters
     ensures { result ≡ purged_of net (in_word working) counters s }
 {
-    let links = sets::at_most(net.links, MOST_LINKS);
+    let links = net.links.min(MOST_LINKS) as usize;
     let w = reach_word(net, working, s);
     let mut next = counters;
-    for k in 0..links {
-        let i = k as usize;
-        next[i] = purge_one(net.low[i], net.high[i], counters[i], w);
+    for (k, counter) in next[..links].iter_mut().enumerate() {
+        *counter = purge_one(net.low[k], net.high[k], *counter, w);
     }
     next
 }
@@ -125,7 +115,8 @@ pub fn purged(net: Net, working: u64, counters: Counters, s: u8) -> Counters
 // input; what a bad network or a station that is not there gives is said in reach/specs/Values.antt.
 
 // A reach: bit t of the word for station t, how many bits are set, and the lowest station not reached or 255.
-#[derive(Clone, Copy)]
+// Stays: 255 for none, since document 01 and the definition `Reach.lowest_of` have that number.
+#[derive(Debug, Clone, Copy, PartialEq, Eq, Default)]
 pub struct Reached {
     pub word: u32,
     pub ones: u8,
@@ -136,16 +127,16 @@ pub struct Reached {
 fn count_ones(word: u32) -> u8
     ensures { result ≡ ones_of word }
 {
-    u32::count_ones(word) as u8
+    word.count_ones() as u8
 }
 
 // The lowest station that the word lacks, or 255.
 fn lowest_missing(word: u32, stations: u8) -> u8
     ensures { result ≡ lowest_missing word stations }
 {
-    let n = sets::at_most(stations, MOST_STATIONS);
-    let z = u32::trailing_zeros(!word);
-    if z < n as u32 { z as u8 } else { 255 }
+    let n = stations.min(MOST_STATIONS);
+    let z = (!word).trailing_zeros();
+    if z < u32::from(n) { z as u8 } else { 255 }
 }
 
 // The reach word with its two numbers.
@@ -161,12 +152,12 @@ pub fn reach_of(net: Net, working: u64, s: u8) -> Reached
 
 // How the report shows a link with the ends low and high, which works or not, to the station whose reach word this is.
 // Promise: equals `reach.Reach.link_value`: 0 neither end reached, 1 working, 2 not.
+// Stays: a number, since the definition `Reach.link_value` gives it and the report is a list of such numbers.
 pub fn link_shown(low: u8, high: u8, works: bool, word: u32) -> u8
     ensures { result ≡ link_value (in_word word low || in_word word high) works }
 {
-    if sets::has_end(low, high, word) {
-        if works { 1 } else { 2 }
-    } else {
-        0
+    if !sets::has_end(low, high, word) {
+        return 0;
     }
+    if works { 1 } else { 2 }
 }

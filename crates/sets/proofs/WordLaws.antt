@@ -15,7 +15,7 @@ use Rattle.lists.specs.Lists.{below}
 use Rattle.lists.specs.Words.{bit, bit_at, in_word, word_of}
 use Rattle.lists.proofs.Numbers.{get_or_map_below, length_map_below}
 use Rattle.lists.proofs.Words.{in_is_one, out_is_zero, one_is_in, zero_is_out, beyond, none_in, word_ext, put_same, put_other}
-use Rattle.lists.proofs.Words.{put_fits, off_room, off_same, off_other, not_at, and_at, or_at, word_of_lt, in_word_of}
+use Rattle.lists.proofs.Words.{off_room, off_same, off_other, not_at, and_at, or_at, word_of_lt, in_word_of}
 use Rattle.sets.specs.Sets.{word_by, up_to}
 
 module _ (f : ℕ → Bool) where
@@ -60,25 +60,6 @@ module _ (w k : ℕ) (h : w < 2 ^ 64) where
   pub put_beyond : (on : Bool) → 64 ≤ k → w ≡ word_by (put_at on)
   put_beyond on l = by_ext w (put_at on) h (λ t m. other_place on t (λ e. omega arith))
 
-  pub put_already : (on : Bool) → in_word w k ≡ on → w ≡ word_by (put_at on)
-  put_already on e = by_ext w (put_at on) h (λ t m. go t (ℕ_discrete t k))
-    where
-      go : (t : ℕ) → Dec (t ≡ k) → in_word w t ≡ put_at on t
-      go t (yes q) = ap (in_word w) q ∙ e ∙ sym (ap (λ (b : Bool). if b then on else in_word w t) (eq-eqb t k q))
-      go t (no n) = other_place on t n
-
-  pub put_on : k < 64 → in_word w k ≡ false → (w + 2 ^ k < 2 ^ 64) × (w + 2 ^ k ≡ word_by (put_at true))
-  put_on l e = (fits, by_ext (w + 2 ^ k) (put_at true) fits (λ t m. go t (ℕ_discrete t k)))
-    where
-      fits : w + 2 ^ k < 2 ^ 64
-      fits = put_fits w k 64 l h (out_is_zero w k e)
-
-      go : (t : ℕ) → Dec (t ≡ k) → in_word (w + 2 ^ k) t ≡ put_at true t
-      go t (yes q) =
-          one_is_in (w + 2 ^ k) t (subst⁻¹ (λ (x : ℕ). bit_at (w + 2 ^ k) x ≡ 1) q (put_same w k (out_is_zero w k e)))
-          ∙ sym (ap (λ (b : Bool). if b then true else in_word w t) (eq-eqb t k q))
-      go t (no n) = ap (λ (x : ℕ). eqb x 1) (put_other w k t (out_is_zero w k e) n) ∙ other_place true t n
-
   pub put_off : in_word w k ≡ true → (2 ^ k ≤ w) × (w - 2 ^ k ≡ word_by (put_at false))
   put_off e = (off_room w k (in_is_one w k e), by_ext (w - 2 ^ k) (put_at false) (omega arith) (λ t m. go t (ℕ_discrete t k)))
     where
@@ -92,13 +73,17 @@ module _ (w k : ℕ) (h : w < 2 ^ 64) where
 shifted : (k : ℕ) → k < 64 → (1 * 2 ^ k) % 2 ^ 64 ≡ 2 ^ k
 shifted k l = ap (λ (x : ℕ). x % 2 ^ 64) (one-mul (2 ^ k)) ∙ mod-eq_of_lt (pow-lt {i = k} {j = 64} l)
 
+pub one_bit : (k : ℕ) → k < 64 → (t : ℕ) → in_word ((1 * 2 ^ k) % 2 ^ 64) t ≡ eqb t k
+one_bit k l t = ap (λ (x : ℕ). in_word x t) (shifted k l ∙ z) ∙ go (ℕ_discrete t k)
+  where
+    z : 2 ^ k ≡ 0 + 2 ^ k
+    z = omega arith
+
+    go : Dec (t ≡ k) → in_word (0 + 2 ^ k) t ≡ eqb t k
+    go (yes q) = ap (in_word (0 + 2 ^ k)) q ∙ one_is_in (0 + 2 ^ k) k (put_same 0 k (none_in k)) ∙ sym (eq-eqb t k q)
+    go (no n) = ap (λ (x : ℕ). eqb x 1) (put_other 0 k t (none_in k) n) ∙ zero_is_out 0 t (none_in t) ∙ sym (ne_eqb t k n)
+
 module _ (w k : ℕ) (on : Bool) (h : w < 2 ^ 64) (l : k < 64) where
-  pub on_fits : in_word w k ≡ false → w + (1 * 2 ^ k) % 2 ^ 64 < 2 ^ 64
-  on_fits e = subst⁻¹ (λ (x : ℕ). w + x < 2 ^ 64) (shifted k l) (put_on w k h l e).0
-
-  pub on_is : in_word w k ≡ false → on ≡ true → w + (1 * 2 ^ k) % 2 ^ 64 ≡ word_by (put_at w k h on)
-  on_is e p = ap (λ (x : ℕ). w + x) (shifted k l) ∙ (put_on w k h l e).1 ∙ ap (λ (b : Bool). word_by (put_at w k h b)) (sym p)
-
   pub off_fits : in_word w k ≡ true → (1 * 2 ^ k) % 2 ^ 64 ≤ w
   off_fits e = subst⁻¹ (λ (x : ℕ). x ≤ w) (shifted k l) (put_off w k h e).0
 
@@ -163,3 +148,32 @@ join_is a b ha hb =
         table true false = refl
         table false true = refl
         table false false = refl
+
+-- ---- one place put in or taken off, as the code does it: its number joined to the word, or taken from it
+module _ (w k : ℕ) (on : Bool) (h : w < 2 ^ 64) (l : k < 64) where
+  bit_lt : (1 * 2 ^ k) % 2 ^ 64 < 2 ^ 64
+  bit_lt = omega arith
+
+  pub joined_is : on ≡ true → bit_or w ((1 * 2 ^ k) % 2 ^ 64) ≡ word_by (put_at w k h on)
+  joined_is p =
+      join_is w ((1 * 2 ^ k) % 2 ^ 64) h bit_lt
+      ∙ by_same (λ t. in_word w t || in_word ((1 * 2 ^ k) % 2 ^ 64) t) (put_at w k h on)
+      (λ t m. ap (λ (b : Bool). in_word w t || b) (one_bit k l t) ∙ table (in_word w t) (eqb t k) ∙ ap (λ (b : Bool). put_at w k h b t) (sym p))
+    where
+      table : (a b : Bool) → (a || b) ≡ (if b then true else a)
+      table true true = refl
+      table true false = refl
+      table false true = refl
+      table false false = refl
+
+  pub taken_off_is : on ≡ false → bit_and w ((2 ^ 64 - 1) - (1 * 2 ^ k) % 2 ^ 64) ≡ word_by (put_at w k h on)
+  taken_off_is p =
+      without_is w ((1 * 2 ^ k) % 2 ^ 64) h bit_lt
+      ∙ by_same (λ t. in_word w t && not (in_word ((1 * 2 ^ k) % 2 ^ 64) t)) (put_at w k h on)
+      (λ t m. ap (λ (b : Bool). in_word w t && not b) (one_bit k l t) ∙ table (in_word w t) (eqb t k) ∙ ap (λ (b : Bool). put_at w k h b t) (sym p))
+    where
+      table : (a b : Bool) → (a && not b) ≡ (if b then false else a)
+      table true true = refl
+      table true false = refl
+      table false true = refl
+      table false false = refl

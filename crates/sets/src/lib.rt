@@ -12,7 +12,7 @@ ghost use Rattle.sets.specs.Rooms.{in_room};
 pub fn has(w: u64, k: u8) -> bool
     ensures { result ≡ in_word w k }
 {
-    if k < 64 { (w >> k) % 2 == 1 } else { false }
+    k < 64 && (w >> k) % 2 == 1
 }
 
 // The set with k, or without it; a place beyond the word changes nothing.
@@ -23,13 +23,8 @@ pub fn put(w: u64, k: u8, on: bool) -> u64
     if 64 <= k {
         return w;
     }
-    if has(w, k) {
-        if on {
-            return w;
-        }
-        return w - (1u64 << k);
-    }
-    if on { w + (1u64 << k) } else { w }
+    let bit = 1u64 << k;
+    if on { w | bit } else { w & !bit }
 }
 
 // What is in the first set and not in the second.
@@ -49,11 +44,12 @@ pub fn join(a: u64, b: u64) -> u64
 }
 
 // As many links as the room holds.
+// Stays: its must-fail edits (`room_of_63`, `room_without_bound`) keep their names, and speak of it; std's `min` does the work.
 // Promise: as many links as the room holds.
 pub fn at_most_64(x: u8) -> u8
     ensures { result ≡ min x 64 }
 {
-    if x < 64 { x } else { 64 }
+    x.min(64)
 }
 
 // ---- Small steps that several crates share: the bits of a word of stations, a number held below a bound, and two tests at once.
@@ -71,26 +67,25 @@ pub fn bit_of(w: u32, t: u8) -> u32
 pub fn has_end(a: u8, b: u8, w: u32) -> bool
     ensures { result ≡ (in_word w a || in_word w b) }
 {
-    if bit_of(w, a) == 1 {
-        return true;
-    }
-    bit_of(w, b) == 1
+    bit_of(w, a) == 1 || bit_of(w, b) == 1
 }
 
 // The number, or the most that there may be.
+// Stays: its must-fail edits (`at_least`, `without_bound`) keep their names, and speak of it; std's `min` does the work.
 // Promise: the smaller of the two.
 pub fn at_most(x: u8, most: u8) -> u8
     ensures { result ≡ min x most }
 {
-    if x < most { x } else { most }
+    x.min(most)
 }
 
 // Whether both tests pass.
+// Stays: its must-fail edits (`first_is_both`, `one_is_both`) keep their names, and speak of it.
 // Promise: both tests pass.
 pub fn both(a: bool, b: bool) -> bool
     ensures { result ≡ (a && b) }
 {
-    if a { b } else { false }
+    a && b
 }
 
 // The place of a station's number in a room of 32, where it has one.

@@ -38,7 +38,7 @@ module _ (net : Network) where
   m = length net.links
 
   -- a link after the first comes after the one before it
-  after : (k : ℕ) → (eqb (suc k) 0 || precedes (ends net (suc k - 1)) (ends net (suc k))) ≡ precedes (ends net k) (ends net (suc k))
+  pub after : (k : ℕ) → (eqb (suc k) 0 || precedes (ends net (suc k - 1)) (ends net (suc k))) ≡ precedes (ends net k) (ends net (suc k))
   after k =
       let p : suc k - 1 ≡ k = omega arith in
       ap (λ (b : Bool). b || precedes (ends net (suc k - 1)) (ends net (suc k))) (eqb-suc-zero k)

@@ -1,42 +1,45 @@
 -- The sheet rules, as the code tests them.
-use Rattle.std.specs.Prelude.{if◌then◌else◌}
-use Prim.Native.Nat.{ℕ, ◌+◌, ◌-◌, ◌≤◌, ◌<◌, min}
-use mathlib.Core.Bool.{Bool, false, ◌&&◌, ◌||◌}
+use Rattle.std.specs.Prelude.{Option, None, Some, if◌then◌else◌}
+use Prim.Native.Nat.{ℕ, zero, suc, ◌+◌, ◌-◌, ◌≤◌, ◌<◌, min}
+use mathlib.Core.Bool.{Bool, true, false, ◌&&◌}
 use mathlib.Core.Path.{◌≡◌, sym, ap, ap₂, ◌∙◌, subst, subst⁻¹}
-use mathlib.Core.Logic.{◌⊎◌, inl, inr}
 use mathlib.Core.List.{List}
 use native.Mathlib.Decide.{dec_lt}
+use native.Mathlib.Numerals.{add-one}
 use native.Mathlib.Omega.{arith}
-use lib.Dec.{T, eqb, ltb}
+use lib.Dec.{T, ltb}
 use lib.ListN.{length, get_or, drop, length-drop}
 use lib.Seq.{get_or-drop}
-use borrow.Author.Tests.{eq-eqb, lt-ltb, le-ltb, le-leb, lt-leb}
+use borrow.Author.Tests.{lt-ltb, le-ltb, le-leb, lt-leb}
 use Rattle.lists.specs.Lists.{every, below}
 use Rattle.lists.proofs.Tests.{and_no, and_l, and_r, and_i, same_test, every_at, at_every}
 use Rattle.lists.proofs.Numbers.{below_at, at_below}
 use Rattle.net.specs.declared.Net.{Net}
-use Rattle.net.specs.Network.{Ends}
+use Rattle.net.specs.Network.{Ends, ends}
 use Rattle.net.specs.Values.{network_of, place_ends, link_count, is_zero}
 use Rattle.sheet_rules.specs.Rules.{precedes, ends_hold, link_holds, sheet_holds}
 use Rattle.sheet_rules.specs.Values.{net_holds}
 use Rattle.sheet_rules.specs.Steps.{follows, place_test}
 use Rattle.net.specs.Sizes.{station_room, link_room}
 use Rattle.net.proofs.ValueLaws.{stations_of, links_of_lem, ends_of}
+use Rattle.sheet_rules.proofs.Rules.{after}
 
 -- ---- the links, one after the other
--- a and b are the ends of the link before k, if there is one
-abbrev pub Before : Net → ℕ → ℕ → ℕ → Type 0
-Before net a b k = (k ≡ 0) ⊎ ((a ≡ get_or net.low (k - 1) 0) × (b ≡ get_or net.high (k - 1) 0))
+-- the ends of the link before k, if there is one
+abbrev pub before_at : Net → ℕ → Option (ℕ × ℕ)
+before_at net zero = None
+before_at net (suc k) = Some (get_or net.low k 0, get_or net.high k 0)
 
 module _ (net : Net) where
   link_is : (k : ℕ) → k < link_count net
-      → link_holds (network_of net) k
-      ≡ follows (min net.stations station_room) (eqb k 0) (get_or net.low (k - 1) 0) (get_or net.high (k - 1) 0)
-      (get_or net.low k 0) (get_or net.high k 0)
-  link_is k h =
-      ap₂ (λ (x y : Ends). ends_hold (network_of net).stations y && (eqb k 0 || precedes x y)) (ends_of net (k - 1) (omega arith))
-      (ends_of net k h)
-      ∙ ap (λ (n : ℕ). ends_hold n (place_ends net k) && (eqb k 0 || precedes (place_ends net (k - 1)) (place_ends net k))) (stations_of net)
+      → link_holds (network_of net) k ≡ follows (min net.stations station_room) (before_at net k) (get_or net.low k 0) (get_or net.high k 0)
+  link_is zero h =
+      ap (λ (x : Ends). ends_hold (network_of net).stations x && true) (ends_of net 0 h)
+      ∙ ap (λ (n : ℕ). ends_hold n (place_ends net 0) && true) (stations_of net)
+  link_is (suc k) h =
+      ap (λ (b : Bool). ends_hold (network_of net).stations (ends (network_of net) (suc k)) && b) (after (network_of net) k)
+      ∙ ap₂ (λ (x y : Ends). ends_hold (network_of net).stations y && precedes x y) (ends_of net k (omega arith)) (ends_of net (suc k) h)
+      ∙ ap (λ (n : ℕ). ends_hold n (place_ends net (suc k)) && precedes (place_ends net k) (place_ends net (suc k))) (stations_of net)
 
   -- what a place must be
   abbrev pub place_holds : ℕ → Bool
@@ -44,9 +47,10 @@ module _ (net : Net) where
       if ltb k (link_count net) then link_holds (network_of net) k else (is_zero (get_or net.low k 0) && is_zero (get_or net.high k 0))
 
   -- what the code's answer says of place k
-  pub place_seen : (k a b : ℕ) (r x : Bool) → net.stations ≤ station_room → net.links ≤ link_room → Before net a b k
-      → r ≡ place_test net.links net.stations k a b (get_or net.low k 0) (get_or net.high k 0) → r ≡ x → place_holds k ≡ x
-  place_seen k a b r x few small before p q = go (dec_lt k net.links) ∙ sym p ∙ q
+  pub place_seen : (k : ℕ) (before : Option (ℕ × ℕ)) (r x : Bool) → net.stations ≤ station_room → net.links ≤ link_room
+      → before ≡ before_at net k → r ≡ place_test net.links net.stations k before (get_or net.low k 0) (get_or net.high k 0) → r ≡ x
+      → place_holds k ≡ x
+  place_seen k before r x few small b p q = go (dec_lt k net.links) ∙ sym p ∙ q
     where
       lo : ℕ
       lo = get_or net.low k 0
@@ -54,25 +58,20 @@ module _ (net : Net) where
       hi : ℕ
       hi = get_or net.high k 0
 
-      same : Before net a b k → follows net.stations (eqb k 0) (get_or net.low (k - 1) 0) (get_or net.high (k - 1) 0) lo hi ≡ follows
-          net.stations (eqb k 0) a b lo hi
-      same (inl z) = simp (eq-eqb k 0 z)
-      same (inr z) = ap₂ (λ (x y : ℕ). follows net.stations (eqb k 0) x y lo hi) (sym z.0) (sym z.1)
-
-      go : Dec (k < net.links) → place_holds k ≡ place_test net.links net.stations k a b lo hi
+      go : Dec (k < net.links) → place_holds k ≡ place_test net.links net.stations k before lo hi
       go (yes h) =
           let l : k < link_count net = omega arith in
           let n : min net.stations station_room ≡ net.stations = omega arith in
           simp (lt-ltb k (link_count net) l, lt-ltb k net.links h)
-          (link_is k l ∙ ap (λ (m : ℕ). follows m (eqb k 0) (get_or net.low (k - 1) 0) (get_or net.high (k - 1) 0) lo hi) n ∙ same before)
+          (link_is k l ∙ ap (λ (m : ℕ). follows m (before_at net k) lo hi) n
+          ∙ ap (λ (e : Option (ℕ × ℕ)). follows net.stations e lo hi) (sym b))
       go (no h) =
           let l : link_count net ≤ k = omega arith in
           let g : net.links ≤ k = omega arith in
           simp (le-ltb k (link_count net) l, le-ltb k net.links g)
 
-  pub before_more : (k a b : ℕ) → a ≡ get_or net.low k 0 → b ≡ get_or net.high k 0 → Before net a b (k + 1)
-  before_more k a b p q =
-      inr (p ∙ ap (λ (x : ℕ). get_or net.low x 0) (omega arith), q ∙ ap (λ (x : ℕ). get_or net.high x 0) (omega arith))
+  pub before_more : (k : ℕ) → Some (get_or net.low k 0, get_or net.high k 0) ≡ before_at net (k + 1)
+  before_more k = ap (before_at net) (sym (add-one k))
 
   -- ---- the whole network
   pub few_stations : net.stations < 1 → false ≡ net_holds net

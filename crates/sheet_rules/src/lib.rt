@@ -9,39 +9,25 @@ ghost use Rattle.sheet_rules.specs.Steps.{follows, place_test};
 
 use net::{MOST_LINKS, MOST_STATIONS, Net};
 
-// Whether the link with the ends low and high is good and comes after the one with the ends a and b, if there is one.
-fn link_follows(stations: u8, first: bool, a: u8, b: u8, low: u8, high: u8) -> bool
-    ensures { result ≡ follows stations first a b low high }
+// Whether a link with these ends is good and comes after the one before it, if there is one.
+fn link_follows(stations: u8, before: Option<(u8, u8)>, low: u8, high: u8) -> bool
+    ensures { result ≡ follows stations before low high }
 {
-    if high <= low {
-        return false;
-    }
-    if stations <= high {
-        return false;
-    }
-    if first {
-        return true;
-    }
-    if a < low {
-        return true;
-    }
-    if a == low {
-        return b < high;
-    }
-    false
+    let rises = match before {
+        None => true,
+        Some((a, b)) => a < low || (a == low && b < high),
+    };
+    low < high && high < stations && rises
 }
 
 // Whether place k of the room is a good link, or unused and zero.
-fn place_holds(links: u8, stations: u8, k: u8, a: u8, b: u8, low: u8, high: u8) -> bool
-    ensures { result ≡ place_test links stations k a b low high }
+fn place_holds(links: u8, stations: u8, k: u8, before: Option<(u8, u8)>, low: u8, high: u8) -> bool
+    ensures { result ≡ place_test links stations k before low high }
 {
     if k < links {
-        return link_follows(stations, k == 0, a, b, low, high);
+        return link_follows(stations, before, low, high);
     }
-    if low == 0 {
-        return high == 0;
-    }
-    false
+    low == 0 && high == 0
 }
 
 // Whether a network keeps the sheet rules with its unused room zero. Where not, a call that is given it refuses with 11.
@@ -52,26 +38,16 @@ pub fn keeps_sheet_rules(net: Net) -> bool
 {
     let n = net.stations;
     let m = net.links;
-    if n < 1 {
+    if n < 1 || MOST_STATIONS < n || MOST_LINKS < m {
         return false;
     }
-    if MOST_STATIONS < n {
-        return false;
-    }
-    if MOST_LINKS < m {
-        return false;
-    }
-    let mut a: u8 = 0;
-    let mut b: u8 = 0;
-    for k in 0..MOST_LINKS {
-        let i = k as usize;
-        let low = net.low[i];
-        let high = net.high[i];
-        if !place_holds(m, n, k, a, b, low, high) {
+    let mut before = None;
+    for (k, low) in net.low.iter().enumerate() {
+        let high = net.high[k];
+        if !place_holds(m, n, k as u8, before, *low, high) {
             return false;
         }
-        a = low;
-        b = high;
+        before = Some((*low, high));
     }
     true
 }

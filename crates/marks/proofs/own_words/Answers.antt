@@ -1,4 +1,5 @@
-use Rattle.std.proofs.Common.{◌≡◌, ℕ, ◌<◌, Bool, get_or, refl, arith, ◌∙◌}
+use Rattle.std.proofs.Common.{◌≡◌, ℕ, ◌<◌, Bool, get_or, take, refl, ap, arith, ◌∙◌, length-take}
+use lib.Seq.{get_or-take}
 use Rattle.net.specs.Network.{is_end}
 use Rattle.net.specs.Values.{network_of, link_count}
 use Rattle.sets.specs.Sets.{up_to}
@@ -14,9 +15,11 @@ loop-k-preserved c =
     let l = c.loop-k in
     let net = c.args.net in
     let f : ℕ → ℕ → Bool = λ s. up_to (λ t. is_end (network_of net) t s) l.k in
-    let low = get_or net.low l.k 0 in
+    let n = c.min-links.result in
+    let low = get_or (take n net.low) l.k 0 in
     let high = get_or net.high l.k 0 in
-    let h : l.k < link_count net = omega (arith, c.at_most_64-links.ensures) in
+    let g : l.k < n = omega (arith, length-take n net.low) in
+    let h : l.k < link_count net = omega (arith, c.min-links.ensures) in
     let z : l.k < 64 = omega arith in
     let one : c.if-low-lt-MOST_STATIONS.owns ≡ words_at (with_end f l.k low) =
     elim c.if-low-lt-MOST_STATIONS.branch [
@@ -28,9 +31,9 @@ loop-k-preserved c =
       | then-high-lt-MOST_STATIONS w ↦ w.owns-is ∙ end_stored (with_end f l.k low) l.k high _ _ z w.if-high-lt-MOST_STATIONS.true one w.join-then-high-lt-MOST_STATIONS.ensures
       | else-high-lt-MOST_STATIONS w ↦ w.owns-is ∙ end_beyond (with_end f l.k low) l.k high _ w.if-high-lt-MOST_STATIONS.false one
     ] in
-    two ∙ pass_more net l.k h
+    two ∙ ap (λ (x : ℕ). words_at (with_end (with_end f l.k x) l.k high)) (get_or-take n net.low l.k 0 g) ∙ pass_more net l.k h
 
 pub returns : goal.returns
 returns c =
-    let e : c.loop-k.k ≡ link_count c.args.net = omega (arith, c.at_most_64-links.ensures) in
+    let e : c.loop-k.k ≡ link_count c.args.net = omega (arith, c.min-links.ensures, length-take c.min-links.result c.args.net.low) in
     pass_ends c.args.net _ c.loop-k.k e c.loop-k.invariant

@@ -1,19 +1,14 @@
-use Rattle.std.proofs.Common.{◌≡◌, ℕ, List, arith, rules, ap, ap₂, ◌∙◌}
-use lib.ListN.{set}
-use Rattle.lists.specs.Lists.{filled}
+use Rattle.std.proofs.Common.{arith, rules}
+use lib.ListN.{take}
 use Rattle.lists.specs.Words.{in_word}
-use Rattle.lists.proofs.Fill.{filled_more}
-use Rattle.net.specs.Values.{link_count}
-use Rattle.reach.proofs.PurgingTables.{purged_at, purge_filled}
+use Rattle.reach.proofs.PurgingTables.{purge_more, purge_made}
 use Rattle.reach.proofs.purged.Goals as goal
 
 pub loop-k-preserved : goal.loop-k-preserved
 loop-k-preserved c =
-    ap₂ (λ (xs : List ℕ) (v : ℕ). set xs c.loop-k.k v) c.loop-k.invariant c.purge_one.ensures
-    ∙ filled_more (purged_at c.args.net c.args.counters c.reach_word-w.result) c.args.counters c.loop-k.k (search rules)
+    purge_more c.args.net (take c.min-links.result c.args.counters) _ c.loop-k.k _ _ (omega arith) c.loop-k.invariant c.purge_one.ensures
 
 pub returns : goal.returns
 returns c =
-    let e : c.loop-k.k ≡ link_count c.args.net = omega (arith, c.at_most-links.ensures) in
-    c.loop-k.invariant ∙ ap (filled (purged_at c.args.net c.args.counters c.reach_word-w.result) c.args.counters) e
-    ∙ purge_filled c.args.net c.args.counters (in_word c.args.working) c.args.s _ (search rules) c.reach_word-w.ensures
+    purge_made c.args.net c.args.counters _ (in_word c.args.working) c.args.s _ _ c.loop-k.k (search rules) c.min-links.ensures
+    c.loop-k-test.false c.loop-k.auto.k-end c.loop-k.invariant c.reach_word-w.ensures

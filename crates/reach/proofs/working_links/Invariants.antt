@@ -4,4 +4,4 @@ use Rattle.sets.specs.Sets.{word_by, up_to}
 use Rattle.reach.proofs.working_links.Given as goal
 
 abbrev pub invariant-loop-k : goal.invariant-loop-k
-invariant-loop-k l = l.working ≡ word_by (up_to (λ j. even (get_or l.counters j 0)) l.k)
+invariant-loop-k l = l.working ≡ word_by (up_to (λ j. even (get_or l.fn.counters j 0)) l.k)

@@ -1,25 +1,26 @@
-use Rattle.std.proofs.Common.{◌≡◌, ℕ, true, false, refl, sym, ap, ◌∙◌, arith, rules}
+use Rattle.std.proofs.Common.{◌≡◌, ℕ, true, false, sym, ap, ◌∙◌, arith, rules}
 use Rattle.lists.specs.Lists.{every, below}
 use Rattle.lists.proofs.Numbers.{all_more, all_fails}
 use Rattle.net.specs.Sizes.{link_room}
 use Rattle.sheet_rules.proofs.Tested.{before_more, place_holds, place_seen, holds_places}
 use Rattle.sheet_rules.proofs.Tested.{few_stations, many_stations, many_links}
 use Rattle.sheet_rules.proofs.keeps_sheet_rules.Goals as goal
+use Rattle.sheet_rules.proofs.keeps_sheet_rules.Goals.{then-n-lt1-via-then-n-lt1, then-n-lt1-via-else-n-lt1+then-n-gt-MOST_STATIONS}
+use Rattle.sheet_rules.proofs.keeps_sheet_rules.Goals.{then-n-lt1-via-else-n-lt1+else-n-gt-MOST_STATIONS+then-m-gt-MOST_LINKS}
 
 pub returns-then-n-lt1 : goal.returns-then-n-lt1
-returns-then-n-lt1 c = few_stations _ c.if-n-lt1.true
-
-pub returns-then-n-gt-MOST_STATIONS : goal.returns-then-n-gt-MOST_STATIONS
-returns-then-n-gt-MOST_STATIONS c = many_stations _ c.if-n-gt-MOST_STATIONS.true
-
-pub returns-then-m-gt-MOST_LINKS : goal.returns-then-m-gt-MOST_LINKS
-returns-then-m-gt-MOST_LINKS c = many_links _ c.if-m-gt-MOST_LINKS.true
+returns-then-n-lt1 c =
+    elim c.then-n-lt1.branch [
+      | then-n-lt1-via-then-n-lt1 w ↦ few_stations _ w.if-n-lt1.true
+      | then-n-lt1-via-else-n-lt1+then-n-gt-MOST_STATIONS w ↦ many_stations _ w.if-n-gt-MOST_STATIONS.true
+      | then-n-lt1-via-else-n-lt1+else-n-gt-MOST_STATIONS+then-m-gt-MOST_LINKS w ↦ many_links _ w.if-m-gt-MOST_LINKS.true
+    ]
 
 pub returns-then-not-place_holds : goal.returns-then-not-place_holds
 returns-then-not-place_holds c =
     let net = c.args.net in
     sym (all_fails (place_holds net) link_room c.loop-k.k (omega arith)
-    (place_seen net c.loop-k.k c.loop-k.a c.loop-k.b _ false c.if-n-gt-MOST_STATIONS.false c.if-m-gt-MOST_LINKS.false c.loop-k.invariant.1
+    (place_seen net c.loop-k.k c.loop-k.before _ false c.if-n-gt-MOST_STATIONS.false c.if-m-gt-MOST_LINKS.false c.loop-k.invariant.1
     c.place_holds.ensures (search rules)))
     ∙ holds_places net c.if-n-lt1.false c.if-n-gt-MOST_STATIONS.false c.if-m-gt-MOST_LINKS.false (search rules) (search rules)
 
@@ -27,9 +28,9 @@ pub loop-k-preserved : goal.loop-k-preserved
 loop-k-preserved c =
     let net = c.args.net in (
       all_more (place_holds net) c.loop-k.k c.loop-k.invariant.0
-          (place_seen net c.loop-k.k c.loop-k.a c.loop-k.b _ true c.if-n-gt-MOST_STATIONS.false c.if-m-gt-MOST_LINKS.false c.loop-k.invariant.1
+          (place_seen net c.loop-k.k c.loop-k.before _ true c.if-n-gt-MOST_STATIONS.false c.if-m-gt-MOST_LINKS.false c.loop-k.invariant.1
           c.place_holds.ensures (search rules)),
-      before_more net c.loop-k.k _ _ refl refl,
+      before_more net c.loop-k.k,
     )
 
 pub returns : goal.returns
