@@ -1,5 +1,5 @@
 -- The bytes of a hexadecimal line, one after the other, give what specs/Hex.antt says of the whole line.
-use Rattle.std.specs.Prelude.{if◌then◌else◌}
+use Rattle.std.specs.Prelude.{if◌then◌else◌, Some, None}
 use Prim.Native.Nat.{ℕ, suc, ◌+◌, ◌*◌, ◌/◌, ◌%◌, ◌≤◌, ◌<◌}
 use mathlib.Core.Bool.{Bool, true, false, ◌&&◌}
 use mathlib.Core.Path.{◌≡◌, refl, sym, ap, ◌∙◌}
@@ -14,7 +14,6 @@ use borrow.Author.Tests.{lt-ltb, le-ltb, le-leb, lt-leb, eq-eqb, ne_eqb, leb-tru
 use Rattle.lists.specs.Lists.{every}
 use Rattle.lists.proofs.Tests.{and_no, if_elim}
 use Rattle.hex_lines.specs.declared.HexReading.{HexReading}
-use Rattle.hex_lines.specs.declared.HexLine.TheVariants.{NotHex, Bytes}
 use Rattle.hex_lines.specs.Hex.{HexText, malformed, octets, hex_value, is_hex, pairs, is_even, hex_line}
 use Rattle.hex_lines.specs.HexSteps.{hex_start, with_hex, read_hex, hex_end, hex_says, fed_hex}
 
@@ -60,7 +59,7 @@ abbrev at : ℕ → ℕ → List ℕ → HexReading
 at n h room = record { count = n; high = h; bytes = room }
 
 says_if : (t : Bool) (k : ℕ) (room : List ℕ)
-    → hex_says (if t then Bytes k else NotHex) room ≡ (if t then octets (take k room) else malformed)
+    → hex_says (if t then Some k else None) room ≡ (if t then octets (take k room) else malformed)
 says_if true k room = refl
 says_if false k room = refl
 
@@ -157,11 +156,11 @@ unfolding hex_start hex_line given
 read_hex_line bytes = rest bytes 0 0 hex_start.bytes (omega arith) (omega arith) refl ∙ simp (zero-add, pairs_are)
 
 -- the bytes of an answer stand in the room
-pub hex_size : (r : HexReading) (n : ℕ) → Bytes n ≡ hex_end r → n ≤ 32
+pub hex_size : (r : HexReading) (n : ℕ) → Some n ≡ hex_end r → n ≤ 32
 unfolding hex_end
 hex_size r n = go (leb r.count 64) (is_even r.count) refl
   where
-    go : (a b : Bool) → leb r.count 64 ≡ a → Bytes n ≡ (if a then (if b then Bytes (r.count / 2) else NotHex) else NotHex) → n ≤ 32
+    go : (a b : Bool) → leb r.count 64 ≡ a → Some n ≡ (if a then (if b then Some (r.count / 2) else None) else None) → n ≤ 32
     go true true p e = let half : n ≡ r.count / 2 = cc in omega (arith, leb-true r.count 64 p)
-    go true false p e = let z : ◌≡◌ {A = ℕ} 0 1 = cc in absurd (omega arith)
-    go false b p e = let z : ◌≡◌ {A = ℕ} 0 1 = cc in absurd (omega arith)
+    go true false p e = cc
+    go false b p e = cc

@@ -1,5 +1,5 @@
 pub mod Hex
 pub mod Split
-mod HexReads
 pub mod Cases
 pub mod HexBegun
+mod Digits

@@ -1,10 +1,8 @@
 -- What the code answers of hexadecimal lines, byte by byte, for every reading. proofs/Hex.antt says that the bytes of a line, one
 -- after the other, give what specs/Hex.antt says of the whole line.
-use Rattle.std.specs.Prelude.{ℕ, ◌+◌, ◌*◌, ◌/◌, ◌%◌, List, leb, ltb, take, set, replicate, if◌then◌else◌}
+use Rattle.std.specs.Prelude.{ℕ, ◌+◌, ◌*◌, ◌/◌, ◌%◌, List, leb, ltb, take, set, replicate, if◌then◌else◌, Option, Some, None}
 use Rattle.event_lines.specs.Split.{fed_by}
 use Rattle.hex_lines.specs.declared.HexReading.{HexReading}
-use Rattle.hex_lines.specs.declared.HexLine.{HexLine}
-use Rattle.hex_lines.specs.declared.HexLine.TheVariants.{NotHex, Bytes}
 use Rattle.hex_lines.specs.Hex.{HexText, malformed, octets, hex_value, is_hex, is_even}
 
 -- no byte read
@@ -25,14 +23,14 @@ with_hex r d =
 unfoldable pub read_hex : HexReading → ℕ → HexReading
 read_hex r b = if is_hex b then (if ltb r.count 64 then with_hex r (hex_value b) else not_hex r) else not_hex r
 
--- the line ends here
-unfoldable pub hex_end : HexReading → HexLine
-hex_end r = if leb r.count 64 then (if is_even r.count then Bytes (r.count / 2) else NotHex) else NotHex
+-- the line ends here: so many bytes, at the front of the reading's room, or malformed
+unfoldable pub hex_end : HexReading → Option ℕ
+hex_end r = if leb r.count 64 then (if is_even r.count then Some (r.count / 2) else None) else None
 
 -- what an answer says, with the room of the reading that it is an answer to
-abbrev pub hex_says : HexLine → List ℕ → HexText
-hex_says NotHex room = malformed
-hex_says (Bytes n) room = octets (take n room)
+abbrev pub hex_says : Option ℕ → List ℕ → HexText
+hex_says None room = malformed
+hex_says (Some n) room = octets (take n room)
 
 -- bytes one after the other
 abbrev pub fed_hex : HexReading → List ℕ → HexReading

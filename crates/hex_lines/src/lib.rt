@@ -3,14 +3,17 @@
 #![tactic(auto)]
 
 ghost use Rattle.std.specs.Prelude.{◌≡◌, ◌<◌};
-ghost use Rattle.hex_lines.specs.Hex.{hex_value};
 ghost use Rattle.hex_lines.specs.HexSteps.{hex_start, not_hex, with_hex, read_hex, fed_hex, hex_end};
 ghost use Rattle.hex_lines.specs.HexBegun.{is_hex_begun};
 
+// A line has no more digits: a byte of the room for each two.
+const MOST: usize = 64;
+
 // How far a line of hexadecimal digits has been read.
-#[derive(Clone, Copy)]
+#[derive(Debug, Clone, Copy, PartialEq, Eq)]
 pub struct HexReading {
     // digits so far; above 64 the line is malformed, whatever follows
+    // Stays: a malformed line is a count, as `HexSteps.not_hex` and `hex_end` have it, which answer for readings not made here too
     pub count: usize,
     // the digit that waits for the second of its pair
     pub high: u8,
@@ -18,75 +21,43 @@ pub struct HexReading {
     pub bytes: [u8; 32],
 }
 
-#[derive(Clone, Copy)]
-pub enum HexLine {
-    NotHex,
-    // so many bytes, at the front of the reading's room
-    Bytes(usize),
-}
-
 // A hexadecimal line of which no byte is read.
 // Promise: equals `HexSteps.hex_start`: no digit of the line is read yet.
+#[tactic(auto, unfolding(crate::specs::HexSteps::hex_start))]
 pub fn begin_hex() -> HexReading
     ensures { result ≡ hex_start }
 {
-    let bytes = [0u8; 32];
     HexReading {
         count: 0,
         high: 0,
-        bytes,
+        bytes: [0; 32],
     }
-}
-
-fn hex_value(byte: u8) -> u8
-    ensures { result ≡ hex_value byte }
-{
-    if byte < 48 {
-        return 16;
-    }
-    if byte <= 57 {
-        return byte - 48;
-    }
-    if byte < 65 {
-        return 16;
-    }
-    if byte <= 70 {
-        return byte - 55;
-    }
-    if byte < 97 {
-        return 16;
-    }
-    if byte <= 102 {
-        return byte - 87;
-    }
-    16
 }
 
 fn not_hex(r: HexReading) -> HexReading
     ensures { result ≡ not_hex r }
 {
-    let bytes = r.bytes;
     HexReading {
         count: 65,
         high: 0,
-        bytes,
+        ..r
     }
 }
 
+#[tactic(auto, unfolding(crate::specs::HexSteps::with_hex))]
 fn with_hex(r: HexReading, digit: u8) -> HexReading
     requires { (digit < 16) × (r.count < 64) }
     ensures { result ≡ with_hex r digit }
 {
-    let mut bytes = r.bytes;
     if r.count % 2 == 0 {
         return HexReading {
             count: r.count + 1,
             high: digit,
-            bytes,
+            ..r
         };
     }
-    let at = r.count / 2;
-    bytes[at] = r.high % 16 * 16 + digit;
+    let mut bytes = r.bytes;
+    bytes[r.count / 2] = r.high % 16 * 16 + digit;
     HexReading {
         count: r.count + 1,
         high: 0,
@@ -95,17 +66,14 @@ fn with_hex(r: HexReading, digit: u8) -> HexReading
 }
 
 // One byte more of a hexadecimal line.
+#[tactic(auto, unfolding(crate::specs::HexSteps::read_hex))]
 fn read_hex(r: HexReading, byte: u8) -> HexReading
     ensures { result ≡ read_hex r byte }
 {
-    let digit = hex_value(byte);
-    if 16 <= digit {
-        return not_hex(r);
+    match char::from(byte).to_digit(16) {
+        Some(digit) if r.count < MOST => with_hex(r, digit as u8),
+        _ => not_hex(r),
     }
-    if 64 <= r.count {
-        return not_hex(r);
-    }
-    with_hex(r, digit)
 }
 
 // Bytes more of a hexadecimal line, whose newline is not one of them.
@@ -114,26 +82,19 @@ fn read_hex(r: HexReading, byte: u8) -> HexReading
 pub fn read_hex_bytes(r: HexReading, bytes: &[u8]) -> HexReading
     ensures { result ≡ fed_hex r bytes.now }
 {
-    let mut reading = r;
-    for i in 0..bytes.len() {
-        reading = read_hex(reading, bytes[i]);
-    }
-    reading
+    bytes
+        .iter()
+        .fold(r, |reading, byte| read_hex(reading, *byte))
 }
 
-// What a hexadecimal line says that ends here.
+// What a hexadecimal line says that ends here: so many bytes, at the front of the reading's room.
 // Promise: equals `HexSteps.hex_end`: the bytes of the line: hexadecimal digits of either case, an even number of them, at most 64; or
 // malformed.
-pub fn hex_end(r: HexReading) -> HexLine
+#[tactic(auto, unfolding(crate::specs::HexSteps::hex_end))]
+pub fn hex_end(r: HexReading) -> Option<usize>
     ensures { result ≡ hex_end r }
 {
-    if 64 < r.count {
-        return HexLine::NotHex;
-    }
-    if r.count % 2 == 0 {
-        return HexLine::Bytes(r.count / 2);
-    }
-    HexLine::NotHex
+    (r.count <= MOST && r.count % 2 == 0).then_some(r.count / 2)
 }
 
 // Whether a byte of the line under way is read: "the last newline may be missing".
