@@ -1,16 +1,17 @@
 -- A station's counters by what was gathered of them: all that have a link are counters, none is above 1, nothing stands beyond the links.
-use Prim.Native.Nat.{ℕ, ◌≤◌, ◌<◌, min}
+use Prim.Native.Nat.{ℕ, ◌+◌, ◌≤◌, ◌<◌, min}
 use mathlib.Core.Bool.{Bool, true, false, ◌&&◌, ◌||◌}
 use mathlib.Core.Path.{◌≡◌, sym, ap, ap₂, ◌∙◌, subst, subst⁻¹}
 use mathlib.Core.List.{List}
 use native.Mathlib.Decide.{dec_lt}
 use native.Mathlib.Omega.{arith}
 use lib.Dec.{T, eqb, leb, ltb, eqb→eq, leb→le}
-use lib.ListN.{get_or}
+use lib.ListN.{get_or, length, take, drop, length-take}
+use lib.Seq.{get_or-take, get_or-drop}
 use borrow.Author.Tests.{lt-ltb, le-ltb, le-leb}
 use Rattle.lists.specs.Lists.{every, below}
 use Rattle.lists.specs.Words.{in_word}
-use Rattle.lists.proofs.Tests.{and_l, and_r, and_i, and_no, and_yes, or_left, T_is, is_T, eq→eqb, same_test}
+use Rattle.lists.proofs.Tests.{and_l, and_r, and_i, or_left, T_is, is_T, eq→eqb, same_test}
 use Rattle.lists.proofs.Numbers.{below_at, at_below}
 use Rattle.net.specs.Letters.{is_counter}
 use Rattle.net.specs.Values.{is_zero}
@@ -21,6 +22,7 @@ use Rattle.station.specs.Holding.{is_live}
 use Rattle.state_rules.specs.Formed.{station_test}
 use Rattle.state_rules.specs.Steps.{every_place, counter_test, marks_test}
 use Rattle.state_rules.proofs.PlaceLaws.{place_at, at_place}
+use Rattle.state_rules.proofs.Gathered.{gather_more}
 
 module _ (cs : List ℕ) (m : ℕ) where
   abbrev pub counters_hold : ℕ → Bool
@@ -35,6 +37,20 @@ module _ (cs : List ℕ) (m : ℕ) where
   -- what begins the third: below m nothing is asked
   pub beyond_none : true ≡ none_beyond m
   beyond_none = sym (T_is _ (at_below (λ t. ltb t m || is_zero (get_or cs t 0)) m (λ t h. or_left (ltb t m) _ (is_T _ (lt-ltb t m h)))))
+
+  -- what the two halves of the counters have at a place
+  pub place_before : (k : ℕ) → k < length (take m cs) → get_or (take m cs) k 0 ≡ get_or cs k 0
+  place_before k h = get_or-take m cs k 0 (omega (arith, length-take m cs))
+
+  pub place_beyond : (n k : ℕ) → k < length (take n (drop m cs))
+      → eqb (get_or (take n (drop m cs)) k 0) 0 ≡ (ltb (m + k) m || is_zero (get_or cs (m + k) 0))
+  place_beyond n k h =
+      ap (λ (c : ℕ). eqb c 0) (get_or-take n (drop m cs) k 0 (omega (arith, length-take n (drop m cs))) ∙ get_or-drop m cs k 0)
+      ∙ ap (λ (b : Bool). b || is_zero (get_or cs (m + k) 0)) (sym (le-ltb (m + k) m (omega arith)))
+
+  pub beyond_more : (k : ℕ) (a b : Bool) → a ≡ none_beyond (m + k) → b ≡ (a && (ltb (m + k) m || is_zero (get_or cs (m + k) 0)))
+      → b ≡ none_beyond (m + (k + 1))
+  beyond_more k a b e d = gather_more (λ t. ltb t m || is_zero (get_or cs t 0)) (m + k) a b e d ∙ ap none_beyond (omega arith)
 
   module _ (few : m ≤ link_room) where
     abbrev gathered : Bool → Bool
@@ -106,48 +122,21 @@ module _ (links own : ℕ) (st : Station) (r : Bool)
   unfolding station_test
   mismarked q = ap (λ (b : Bool). b && every_place (counter_place (min links link_room))) (sym q ∙ d)
 
-  pub by_counters : r ≡ true → (m : ℕ) → m ≡ min links link_room → (w a b : Bool) → w ≡ counters_hold st.counters m m
-      → a ≡ none_above st.counters m m → b ≡ none_beyond st.counters m link_room
-      → ((w && (is_live st.condition || a)) && b) ≡ station_test links own st
+  -- by what was gathered up to the places where the loops end, v being what the test comes to before it asks for the counters beyond
+  pub by_counters : r ≡ true → (m : ℕ) → m ≡ min links link_room → (k : ℕ) → k ≡ m → (j : ℕ) → m + j ≡ link_room → (w a b v : Bool)
+      → w ≡ counters_hold st.counters m k → a ≡ none_above st.counters m k → b ≡ none_beyond st.counters m (m + j)
+      → v ≡ (w && (is_live st.condition || a))
+      → (v && b) ≡ station_test links own st
   unfolding station_test
-  by_counters q m em w a b ew ea eb =
-      ap₂ (λ (x y : Bool). (x && (is_live st.condition || y)) && b) ew ea
-      ∙ ap (λ (x : Bool). (counters_hold st.counters m m && (is_live st.condition || none_above st.counters m m)) && x) eb
+  by_counters q m em k ek j ej w a b v ew ea eb ev =
+      ap (λ (x : Bool). x && b)
+      (ev ∙ ap₂ (λ (x y : Bool). x && (is_live st.condition || y)) (ew ∙ ap (counters_hold st.counters m) ek)
+      (ea ∙ ap (none_above st.counters m) ek))
+      ∙ ap (λ (x : Bool). (counters_hold st.counters m m && (is_live st.condition || none_above st.counters m m)) && x)
+      (eb ∙ ap (none_beyond st.counters m) ej)
       ∙ counters_are st.counters m few (is_live st.condition)
       ∙ ap (λ (n : ℕ). every_place (counter_place n)) em
       ∙ ap (λ (x : Bool). x && every_place (counter_place (min links link_room))) (sym q ∙ d)
     where
       few : m ≤ link_room
       few = omega arith
-
--- ---- the answer by the three tests and whether the station is live
-pub record Asked (w a b live R : Bool) : Type 0 where
-  pub by : ((w && (live || a)) && b) ≡ R
-
-module _ {w a b live R : Bool} (q : Asked w a b live R) where
-  pub some_beyond : b ≡ false → false ≡ R
-  some_beyond z = sym (and_no (w && (live || a))) ∙ ap (λ (x : Bool). (w && (live || a)) && x) (sym z) ∙ q.by
-
-  module _ (z : b ≡ true) where
-    asked : (w && (live || a)) ≡ R
-    asked = sym (and_yes (w && (live || a))) ∙ ap (λ (x : Bool). (w && (live || a)) && x) (sym z) ∙ q.by
-
-    pub live_says : live ≡ true → w ≡ R
-    live_says l = sym (and_yes w) ∙ ap (λ (x : Bool). w && (x || a)) (sym l) ∙ asked
-
-    pub wrong_says : w ≡ false → false ≡ R
-    wrong_says n = ap (λ (x : Bool). x && (live || a)) (sym n) ∙ asked
-
-    pub all_says : live ≡ false → w ≡ true → a ≡ R
-    all_says l n = ap₂ (λ (x y : Bool). x && (y || a)) (sym n) (sym l) ∙ asked
-
--- the same from what was gathered up to the places where the loops end
-pub asked_of : (links own : ℕ) (st : Station) (r : Bool) → r ≡ every_place (λ t. marks_test st.condition (in_word own t) (marks_at st.marks t))
-    → r ≡ true → (m : ℕ) → m ≡ min links link_room → (k : ℕ) → k ≡ m → (j : ℕ) → j ≡ link_room → (w a b : Bool)
-    → w ≡ counters_hold st.counters m k → a ≡ none_above st.counters m k → b ≡ none_beyond st.counters m j
-    → Asked w a b (is_live st.condition) (station_test links own st)
-asked_of links own st r d q m em k ek j ej w a b ew ea eb =
-    record {
-      by = by_counters links own st r d q m em w a b (ew ∙ ap (counters_hold st.counters m) ek)
-          (ea ∙ ap (none_above st.counters m) ek) (eb ∙ ap (none_beyond st.counters m) ej);
-    }

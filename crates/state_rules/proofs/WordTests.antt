@@ -129,12 +129,12 @@ module _ (w : Words) where
         (in_of all (λ t. in_word w.token t || in_word b t) p t h
         ∙ ap (λ (x : Bool). in_word w.token t || x) (in_of b (λ t. beside_token (marks_at w t)) e t h)))
 
-    pub live_is : (p q n o two three r : Bool) → p ≡ every_place tests_apart → q ≡ every_place asked_tests → n ≡ every_place token_apart
+    pub live_is : (p q n o r : Bool) → p ≡ every_place tests_apart → q ≡ every_place asked_tests → n ≡ every_place token_apart
         → o ≡ every_place marks_own
-        → two ≡ (p && q) → three ≡ (two && n) → r ≡ (three && o) → r ≡ every_place (λ t. marks_test Live (in_word own t) (marks_at w t))
-    live_is p q n o two three r ep eq en eo e2 e3 e4 =
-        e4 ∙ ap₂ (λ (x y : Bool). x && y) (e3 ∙ ap₂ (λ (x y : Bool). x && y)
-        (e2 ∙ ap₂ (λ (x y : Bool). x && y) ep eq ∙ places_both tests_apart asked_tests) en
+        → r ≡ (((p && q) && n) && o) → r ≡ every_place (λ t. marks_test Live (in_word own t) (marks_at w t))
+    live_is p q n o r ep eq en eo d =
+        d ∙ ap₂ (λ (x y : Bool). x && y) (ap₂ (λ (x y : Bool). x && y)
+        (ap₂ (λ (x y : Bool). x && y) ep eq ∙ places_both tests_apart asked_tests) en
         ∙ places_both (λ t. tests_apart t && asked_tests t) token_apart) eo
         ∙ places_both (λ t. (tests_apart t && asked_tests t) && token_apart t) marks_own
         ∙ places_same (λ t. live_test (in_word own t) (marks_at w t)) (λ t. marks_test Live (in_word own t) (marks_at w t))

@@ -15,7 +15,7 @@ ghost use Rattle.state_rules.specs.Steps.{every_place, beside_token, marks_test}
 ghost use Rattle.state_rules.specs.Carried.{in_rooms, past_subject, counter_holds, gathered_hold};
 
 use marks::Words;
-use net::{Body, MOST_LINKS};
+use net::Body;
 use station::{Condition, Station};
 
 // ---- a station's counters, gathered place by place and asked for once: no jump goes by what one of them is
@@ -68,7 +68,7 @@ fn down_formed(own: u64, w: Words) -> bool
 fn waiting_formed(own: u64, w: Words) -> bool
     ensures { result ≡ every_place (λ t. marks_test Waiting (in_word own t) (marks_at w t)) }
 {
-    sets::both(w.token == own, beside_token(w) == 0)
+    w.token == own && beside_token(w) == 0
 }
 
 // Marks that may stand together, on own links.
@@ -76,9 +76,12 @@ fn live_formed(own: u64, w: Words) -> bool
     ensures { result ≡ every_place (λ t. marks_test Live (in_word own t) (marks_at w t)) }
 {
     let idle = sets::join(sets::join(w.token, w.turn), w.quiet);
-    let tests = sets::both(apart(w.testing, idle), within(w.asked, w.testing));
     let all = sets::join(w.token, beside_token(w));
-    sets::both(sets::both(tests, apart(w.token, w.turn)), within(all, own))
+    let tests_apart = apart(w.testing, idle);
+    let asked_tests = within(w.asked, w.testing);
+    let token_apart = apart(w.token, w.turn);
+    let marks_own = within(all, own);
+    tests_apart && asked_tests && token_apart && marks_own
 }
 
 fn marks_formed(condition: Condition, own: u64, w: Words) -> bool
@@ -102,31 +105,20 @@ pub fn station_formed(links: u8, own: u64, st: Station) -> bool
     if !marks_formed(condition, own, st.marks) {
         return false;
     }
-    let m = sets::at_most_64(links);
+    let m = sets::at_most_64(links) as usize;
     let counters = st.counters;
     let mut wrong: u16 = 0;
     let mut all: u16 = 0;
-    for k in 0..m {
-        let i = k as usize;
-        let c = counters[i];
-        wrong = joined(wrong, no_counter(c));
-        all = joined(all, c);
+    for c in counters[..m].iter() {
+        wrong = joined(wrong, no_counter(*c));
+        all = joined(all, *c);
     }
     let mut beyond: u16 = 0;
-    for k in m..MOST_LINKS {
-        let i = k as usize;
-        beyond = joined(beyond, counters[i]);
+    for c in counters[m..].iter() {
+        beyond = joined(beyond, *c);
     }
-    if beyond != 0 {
-        return false;
-    }
-    if station_kinds::is_live(condition) {
-        return wrong == 0;
-    }
-    if wrong != 0 {
-        return false;
-    }
-    all <= 1
+    let low = all <= 1;
+    wrong == 0 && (station_kinds::is_live(condition) || low) && beyond == 0
 }
 
 // ---- The letters in flight, gathered and asked for once: which kind a letter is can't be foretold, so no jump goes by it. Each gatherer
@@ -154,8 +146,7 @@ pub fn past_subject(body: Body) -> u16
     ensures { result ≡ past_subject body }
 {
     match body {
-        Body::Request => 0,
-        Body::Reply(_) => 0,
+        Body::Request | Body::Reply(_) => 0,
         Body::Notice(subject, _) => subject as u16 + 1,
     }
 }
@@ -167,8 +158,7 @@ pub fn counter_said(body: Body) -> u16
 {
     match body {
         Body::Request => 1,
-        Body::Reply(c) => c,
-        Body::Notice(_, c) => c,
+        Body::Reply(c) | Body::Notice(_, c) => c,
     }
 }
 
@@ -177,7 +167,7 @@ pub fn counter_said(body: Body) -> u16
 pub fn larger(a: u16, b: u16) -> u16
     ensures { result ≡ max a b }
 {
-    if a < b { b } else { a }
+    a.max(b)
 }
 
 // The smaller of two: the least counter so far.
@@ -185,7 +175,7 @@ pub fn larger(a: u16, b: u16) -> u16
 pub fn smaller(a: u16, b: u16) -> u16
     ensures { result ≡ min a b }
 {
-    if b < a { b } else { a }
+    a.min(b)
 }
 
 // Whether all letters are well formed, by what was gathered of them, in a network of so many links.
@@ -193,17 +183,9 @@ pub fn smaller(a: u16, b: u16) -> u16
 pub fn letters_formed(links: u8, ways: u64, ended: u64, most: u16, least: u16) -> bool
     ensures { result ≡ gathered_hold links ways ended most least }
 {
-    if (ways / 64) % 1024 != 0 {
-        return false;
-    }
-    if ways / 2097152 != 0 {
-        return false;
-    }
-    if ended % 2 == 0 {
-        return false;
-    }
-    if (links as u16) < most {
-        return false;
-    }
-    1 <= least
+    (ways / 64) % 1024 == 0
+        && ways / 2097152 == 0
+        && ended % 2 == 1
+        && most <= links as u16
+        && 1 <= least
 }
