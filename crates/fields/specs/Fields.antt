@@ -1,9 +1,9 @@
 -- A field: a one-byte tag, a two-byte length with the high byte first, the value. It is cut off the front of the bytes and
 -- written so for sheets and letters alike; proofs/Law.antt has the one law of both.
-use Rattle.std.specs.Prelude.{ℕ, ◌+◌, ◌*◌, ◌/◌, ◌%◌, Bool, true, false, ◌&&◌, List, [], ◌∷◌, ◌++◌, eqb, ltb, leb, length, take, drop, if◌then◌else◌}
+use Rattle.std.specs.Prelude.{ℕ, ◌+◌, ◌*◌, ◌/◌, ◌%◌, Bool, true, false, ◌&&◌, List, [], ◌∷◌, ◌++◌, Option, Some, None}
+use Rattle.std.specs.Prelude.{eqb, ltb, leb, length, take, drop, if◌then◌else◌}
 use Rattle.lists.specs.Lists.{every}
 use Rattle.fields.specs.declared.Cut.{Cut}
-use Rattle.fields.specs.declared.Cut.TheVariants.{Short, Whole}
 
 -- the field at the front: the bytes end inside it; or its tag, its value and the bytes after it
 pub data Field : Type 0 where
@@ -45,9 +45,9 @@ abbrev pub onto : List ℕ → List ℕ → List ℕ
 onto bytes old = bytes ++ drop (length bytes) old
 
 -- ---- what the code answers
-abbrev pub cut_of : Field → Cut
-cut_of short = Short
-cut_of (field tag value rest) = Whole tag (length value)
+abbrev pub cut_as : Option Cut → Field
+cut_as None = short
+cut_as (Some c) = field c.tag c.value.now c.rest.now
 
 -- the longest value: its length is said in two bytes
 abbrev pub longest_value : ℕ
@@ -60,5 +60,5 @@ field_fits value old = leb (length value) longest_value && leb (length value + 3
 unfoldable pub put_field : ℕ → List ℕ → List ℕ → List ℕ
 put_field tag value old = if field_fits value old then onto (write_field tag value) old else old
 
-unfoldable pub put_size : List ℕ → List ℕ → ℕ
-put_size value old = if field_fits value old then length value + 3 else 0
+unfoldable pub put_size : List ℕ → List ℕ → Option ℕ
+put_size value old = if field_fits value old then Some (length value + 3) else None

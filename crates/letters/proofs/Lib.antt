@@ -1,4 +1,3 @@
-pub mod Steps
 pub mod Forms
 pub mod Against
 pub mod Laws

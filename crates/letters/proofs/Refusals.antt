@@ -19,10 +19,11 @@ use Rattle.net.specs.Network.{Network}
 use Rattle.net.specs.Values.{network_of}
 use Rattle.sheet_rules.specs.Values.{net_holds}
 use Rattle.net.specs.Letters.{letter_holds}
-use Rattle.letters.specs.declared.Answer.{Answer}
-use Rattle.letters.specs.declared.Answer.TheVariants as answer
-use Rattle.letters.specs.declared.Wrote.{Wrote}
-use Rattle.letters.specs.declared.Wrote.TheVariants as wrote
+use Rattle.letters.specs.declared.LetterError.{LetterError}
+use Rattle.letters.specs.declared.LetterError.TheVariants as error
+use Rattle.letters.specs.declared.WriteError.{WriteError}
+use Rattle.letters.specs.declared.WriteError.TheVariants as wrote
+use Rattle.std.specs.Prelude.{Result, Ok, Err}
 use Rattle.letters.specs.Letters.{Letters, refused, letter, Form, unknown, says, form_of, sender_of, values_hold, judged}
 use Rattle.letters.specs.Letters.{letter_from, read_letter, write_letter, request_tag, reply_tag, notice_tag}
 use Rattle.letters.specs.Values.{reading, letters_of, writing, wrote_numbers}
@@ -134,31 +135,33 @@ denied_when net x old k (no_letter_lem p q) = rw (p, q)
 denied_when net x old k (too_short p q r) = rw (p, q, lt-ltb (length old) (length (write_letter (network_of net) x)) r)
 
 -- ---- two answers that are allowed for one input are equal
-pub one_answer : (a b : Answer) → letters_of a ≡ letters_of b → a ≡ b
+pub one_answer : (a b : Result Letter LetterError) → letters_of a ≡ letters_of b → a ≡ b
 one_answer a b e = sym (is a) ∙ ap back e ∙ is b
   where
-    back : Letters → Answer
-    back (letter x) = answer.Good x
+    back : Letters → Result Letter LetterError
+    back (letter x) = Ok x
     back (refused k) =
-        if eqb k 1 then answer.Short else (if eqb k 2 then answer.Malformed else (if eqb k 3 then answer.OutOfRange else answer.BadNetwork))
+        if eqb k 1 then Err error.Short else (if eqb k 2 then Err error.Malformed
+        else (if eqb k 3 then Err error.OutOfRange else Err error.BadNetwork))
 
-    is : (x : Answer) → back (letters_of x) ≡ x
-    is (answer.Good x) = refl
-    is answer.Short = refl
-    is answer.Malformed = refl
-    is answer.OutOfRange = refl
-    is answer.BadNetwork = refl
+    is : (x : Result Letter LetterError) → back (letters_of x) ≡ x
+    is (Ok x) = refl
+    is (Err error.Short) = refl
+    is (Err error.Malformed) = refl
+    is (Err error.OutOfRange) = refl
+    is (Err error.BadNetwork) = refl
 
-pub one_wrote : (a b : Wrote) → wrote_numbers a ≡ wrote_numbers b → a ≡ b
+pub one_wrote : (a b : Result ℕ WriteError) → wrote_numbers a ≡ wrote_numbers b → a ≡ b
 one_wrote a b e = sym (is a) ∙ ap back e ∙ is b
   where
-    back : List ℕ → Wrote
+    back : List ℕ → Result ℕ WriteError
     back l =
-        if eqb (get_or l 0 0) 0 then wrote.Bytes (get_or l 1 0)
-        else (if eqb (get_or l 0 0) 3 then wrote.OutOfRange else (if eqb (get_or l 0 0) 10 then wrote.OutputShort else wrote.BadNetwork))
+        if eqb (get_or l 0 0) 0 then Ok (get_or l 1 0)
+        else (if eqb (get_or l 0 0) 3 then Err wrote.OutOfRange
+        else (if eqb (get_or l 0 0) 10 then Err wrote.OutputShort else Err wrote.BadNetwork))
 
-    is : (x : Wrote) → back (wrote_numbers x) ≡ x
-    is (wrote.Bytes n) = refl
-    is wrote.OutOfRange = refl
-    is wrote.OutputShort = refl
-    is wrote.BadNetwork = refl
+    is : (x : Result ℕ WriteError) → back (wrote_numbers x) ≡ x
+    is (Ok n) = refl
+    is (Err wrote.OutOfRange) = refl
+    is (Err wrote.OutputShort) = refl
+    is (Err wrote.BadNetwork) = refl

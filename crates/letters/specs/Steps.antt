@@ -1,14 +1,13 @@
 -- What the private steps of the code answer, reading and writing.
-use Rattle.std.specs.Prelude.{ℕ, Bool, ◌&&◌, ◌||◌, eqb, ltb, leb, if◌then◌else◌}
+use Rattle.std.specs.Prelude.{ℕ, Bool, ◌&&◌, ◌||◌, eqb, ltb, leb, if◌then◌else◌, Option, Some, None}
 use Rattle.net.specs.declared.Body.{Body}
 use Rattle.net.specs.Values.{body_test}
-use Rattle.letters.specs.declared.Shape.{Shape}
-use Rattle.letters.specs.declared.Shape.TheVariants.{Unknown, Says}
+use Rattle.letters.specs.declared.Said.{Said}
 use Rattle.letters.specs.Letters.{Form, unknown, says}
 
-abbrev pub form_in : Shape → Form
-form_in Unknown = unknown
-form_in (Says body) = says body
+abbrev pub form_in : Option Said → Form
+form_in None = unknown
+form_in (Some s) = says s.body
 
 -- the values of a field that was read
 abbrev pub values_test : ℕ → ℕ → ℕ → Body → Bool

@@ -1,6 +1,5 @@
 pub mod Rising
 pub mod Judged
-pub mod Steps
 pub mod Loop
 pub mod Laws
 pub mod Refusals

@@ -10,16 +10,18 @@ use Rattle.lists.specs.Lists.{below}
 use Rattle.lists.proofs.Tests.{is_T}
 use Rattle.lists.proofs.Numbers.{below_snoc, length_map_below}
 use Rattle.lists.proofs.Fill.{map_append}
-use Rattle.fields.specs.Fields.{write_field, onto}
+use Rattle.fields.specs.Fields.{write_field, onto, put_field}
 use Rattle.fields.specs.Output.{Writing, writes, fitting, writing_numbers, writing_output}
-use Rattle.fields.proofs.Seen.{length_field, length_onto, lent_more}
+use Rattle.fields.proofs.Seen.{put_written, length_field, length_onto, lent_more}
+use lib.Seq.{get_or-take}
 use Rattle.net.specs.declared.Net.{Net}
 use Rattle.net.specs.Network.{Ends}
 use Rattle.net.specs.Values.{network_of}
 use Rattle.net.specs.Sizes.{station_room, link_room}
 use Rattle.sheet_rules.specs.Values.{net_holds}
 use Rattle.sheet_rules.proofs.Good.{holds_of}
-use Rattle.sheet.specs.declared.Wrote.TheVariants.{Bytes, OutputShort, BadNetwork}
+use Rattle.std.specs.Prelude.{Ok, Err}
+use Rattle.sheet.specs.declared.WriteError.TheVariants.{OutputShort, BadNetwork}
 use Rattle.sheet.specs.Sheet.{link_bytes, write_links, write_sheet, stations_tag, link_tag, end_tag}
 use Rattle.sheet.specs.Values.{writing, wrote_numbers}
 use Rattle.sheet.specs.Steps.{ends_of, first_ends}
@@ -55,17 +57,27 @@ module _ (low high : List ℕ) where
   unfolding write_links
   none_written old = refl
 
-  pub link_written : (i : ℕ) (old out part : List ℕ) → out ≡ onto (write_links (first_ends low high i)) old
-      → part ≡ onto (link_bytes (at i)) (take (length out - 5 * i) (drop (5 * i) out))
+  pub link_written : (m i : ℕ) (old out part : List ℕ) → out ≡ onto (write_links (first_ends low high i)) old → i < length (take m low)
+      → 5 * m ≤ length old
+      → part ≡ put_field link_tag (get_or (take m low) i 0 ∷ get_or high i 0 ∷ []) (take (length out - 5 * i) (drop (5 * i) out))
       → take (5 * i) out ++ (part ++ drop (length out - 5 * i) (drop (5 * i) out)) ≡ onto (write_links (first_ends low high (i + 1))) old
-  link_written i old out part e p =
-      lent_more (write_links (first_ends low high i)) (link_bytes (at i)) old out part (5 * i) e (first_length i) p
+  link_written m i old out part e h l p =
+      let k : i < m = omega (arith, length-take m low) in
+      let size : length out ≡ length old = ap length e
+      ∙ length_onto (write_links (first_ends low high i)) old (omega (arith, first_length i)) in
+      let room : 5 ≤ length (take (length out - 5 * i) (drop (5 * i) out)) = omega
+      (arith, length-take (length out - 5 * i) (drop (5 * i) out), length-drop (5 * i) out) in
+      let q : part ≡ onto (link_bytes (at i)) (take (length out - 5 * i) (drop (5 * i) out)) = p
+      ∙ put_written link_tag _ _ (omega arith) room
+      ∙ ap (λ (x : ℕ). onto (write_field link_tag (x ∷ get_or high i 0 ∷ [])) (take (length out - 5 * i) (drop (5 * i) out)))
+      (get_or-take m low i 0 k) in
+      lent_more (write_links (first_ends low high i)) (link_bytes (at i)) old out part (5 * i) e (first_length i) q
       ∙ ap (λ (l : List ℕ). onto l old) (sym (first_more i))
 
 -- ---- the whole sheet
 module _ (net : Net) where
   pub write_bad : (r : Bool) → r ≡ net_holds net → (old : List ℕ) → not r ≡ true
-      → (wrote_numbers BadNetwork ≡ writing_numbers (writing net old)) × (old ≡ writing_output (writing net old) old)
+      → (wrote_numbers (Err BadNetwork) ≡ writing_numbers (writing net old)) × (old ≡ writing_output (writing net old) old)
   unfolding writing
   write_bad r e old h = let b : net_holds net ≡ false = sym e ∙ not-true r h in (simp b, simp b)
 
@@ -98,7 +110,7 @@ module _ (net : Net) where
         ∙ omega (arith, length-append front middle, front_length, first_length net.low net.high net.links, length_field end_tag [])
 
     pub write_short : (old : List ℕ) → length old < 4 + 5 * net.links + 3
-        → (wrote_numbers OutputShort ≡ writing_numbers (writing net old)) × (old ≡ writing_output (writing net old) old)
+        → (wrote_numbers (Err OutputShort) ≡ writing_numbers (writing net old)) × (old ≡ writing_output (writing net old) old)
     unfolding writing fitting
     write_short old l =
         let s = lt-ltb (length old) (length (write_sheet (network_of net))) (omega (arith, sheet_length)) in
@@ -110,9 +122,12 @@ module _ (net : Net) where
       written = let s = le-ltb (length old) (length (write_sheet (network_of net))) (omega (arith, sheet_length)) in simp (good, s)
 
       -- the output after the first field, after the links, and at the end
-      module _ (one : List ℕ) (p : one ≡ onto front old) where
-        pub one_length : length one ≡ length old
-        one_length = ap length p ∙ length_onto front old (omega (arith, front_length))
+      module _ (one : List ℕ) (p : one ≡ put_field stations_tag (net.stations ∷ []) old) where
+        one_is : one ≡ onto front old
+        one_is = p ∙ put_written stations_tag (net.stations ∷ []) old (omega arith) (omega arith)
+
+        one_length : length one ≡ length old
+        one_length = ap length one_is ∙ length_onto front old (omega (arith, front_length))
 
         pub links_room : 5 * net.links ≤ length (take (length one - 4) (drop 4 one))
         links_room = omega (arith, one_length, length-take (length one - 4) (drop 4 one), length-drop 4 one)
@@ -120,18 +135,28 @@ module _ (net : Net) where
         module _ (two part : List ℕ) (g : part ≡ onto middle (take (length one - 4) (drop 4 one)))
             (q : two ≡ take 4 one ++ (part ++ drop (length one - 4) (drop 4 one))) where
           two_is : two ≡ onto (front ++ middle) old
-          two_is = q ∙ lent_more front middle old one part 4 p front_length g
+          two_is = q ∙ lent_more front middle old one part 4 one_is front_length g
 
           both_length : length (front ++ middle) ≡ 4 + 5 * net.links
           both_length = length-append front middle ∙ omega (arith, front_length, first_length net.low net.high net.links)
 
-          pub write_all : (three last : List ℕ) → last ≡ onto (write_field end_tag [])
+          two_length : length two ≡ length old
+          two_length = ap length two_is ∙ length_onto (front ++ middle) old (omega (arith, both_length))
+
+          pub write_all : (three last : List ℕ) → last ≡ put_field end_tag []
               (take (length two - (4 + 5 * net.links)) (drop (4 + 5 * net.links) two))
               → three ≡ take (4 + 5 * net.links) two ++ (last ++ drop (length two - (4 + 5 * net.links)) (drop (4 + 5 * net.links) two))
-              → (wrote_numbers (Bytes (4 + 5 * net.links + 3)) ≡ writing_numbers (writing net old))
+              → (wrote_numbers (Ok (4 + 5 * net.links + 3)) ≡ writing_numbers (writing net old))
               × (three ≡ writing_output (writing net old) old)
           write_all three last f w = (
             ap (λ (n : ℕ). 0 ∷ n ∷ []) (sym sheet_length) ∙ ap writing_numbers (sym written),
-            w ∙ lent_more (front ++ middle) (write_field end_tag []) old two last (4 + 5 * net.links) two_is both_length f
+            w ∙ lent_more (front ++ middle) (write_field end_tag []) old two last (4 + 5 * net.links) two_is both_length
+                (f ∙ put_written end_tag [] _ (omega arith) (omega (
+                  arith,
+                  two_length,
+                  length-take (length two - (4 + 5 * net.links))
+                      (drop (4 + 5 * net.links) two),
+                  length-drop (4 + 5 * net.links) two,
+                )))
                 ∙ ap (λ (b : List ℕ). onto b old) (sym sheet_bytes_lem) ∙ ap (λ (x : Writing). writing_output x old) (sym written),
           )

@@ -3,7 +3,7 @@
 use Rattle.std.specs.Prelude.{if◌then◌else◌}
 use Prim.Native.Nat.{ℕ, ◌-◌, ◌≤◌, ◌<◌, min}
 use mathlib.Core.Bool.{false}
-use mathlib.Core.Path.{◌≡◌, refl, sym, ap, ◌∙◌, subst, subst⁻¹}
+use mathlib.Core.Path.{◌≡◌, refl, sym, ap, ap₂, ◌∙◌, subst, subst⁻¹}
 use mathlib.Core.List.{List, map}
 use native.Mathlib.Omega.{arith}
 use lib.Dec.{T, eqb}
@@ -21,13 +21,13 @@ use Rattle.sheet_rules.specs.Values.{net_holds}
 use Rattle.sheet_rules.proofs.Rules.{Rules, rules_of}
 use Rattle.sheet_rules.proofs.Good.{of_holds, sheet_good, one_value}
 use Rattle.sheet_rules.proofs.Tested.{few_stations}
-use Rattle.sheet.specs.declared.Answer.{Answer}
-use Rattle.sheet.specs.declared.Answer.TheVariants.{Good, Short, Malformed, OutOfRange, OutOfOrder, TooManyLinks}
-use Rattle.sheet.specs.declared.Reading.{Reading}
-use Rattle.sheet.specs.declared.Wrote.{Wrote}
-use Rattle.sheet.specs.declared.Wrote.TheVariants.{Bytes, OutputShort, BadNetwork}
+use Rattle.std.specs.Prelude.{Result, Ok, Err}
+use Rattle.sheet.specs.declared.SheetError.{SheetError}
+use Rattle.sheet.specs.declared.SheetError.TheVariants.{Short, Malformed, OutOfRange, OutOfOrder, TooManyLinks}
+use Rattle.sheet.specs.declared.WriteError.{WriteError}
+use Rattle.sheet.specs.declared.WriteError.TheVariants.{OutputShort, BadNetwork}
 use Rattle.sheet.specs.Sheet.{Sheet, sheet, no_link, read_sheet, write_sheet}
-use Rattle.sheet.specs.Values.{number_of, room_of, value_of, zero_net, sheet_number, sheet_net, Says, wrote_numbers}
+use Rattle.sheet.specs.Values.{number_of, room_of, value_of, zero_net, sheet_number, sheet_net, net_in, Says, wrote_numbers}
 use Rattle.sheet.proofs.Laws.{reads_back, read_holds}
 
 -- ---- a room
@@ -106,58 +106,55 @@ value_back v t ll lh =
     one_value (value_of n) v (value_holds n good) t (value_means n good) (low_long n good ∙ sym ll) (high_long n good ∙ sym lh)
 
 -- ---- the code's answers
-number_one : (a b : Answer) → number_of a ≡ number_of b → a ≡ b
-number_one a b e = go a b e
+-- an answer is its number and its network
+answer_one : (r q : Result Net SheetError) → number_of r ≡ number_of q → net_in r ≡ net_in q → r ≡ q
+answer_one r q e f = sym (is r) ∙ ap₂ back e f ∙ is q
   where
-    back : ℕ → Answer
-    back n =
-        if eqb n 0 then Good else (if eqb n 1 then Short
-        else (if eqb n 2 then Malformed else (if eqb n 3 then OutOfRange else (if eqb n 4 then OutOfOrder else TooManyLinks))))
+    back : ℕ → Net → Result Net SheetError
+    back n net =
+        if eqb n 0 then Ok net else (if eqb n 1 then Err Short
+        else (if eqb n 2 then Err Malformed else (if eqb n 3 then Err OutOfRange
+        else (if eqb n 4 then Err OutOfOrder else Err TooManyLinks))))
 
-    is : (x : Answer) → back (number_of x) ≡ x
-    is Good = refl
-    is Short = refl
-    is Malformed = refl
-    is OutOfRange = refl
-    is OutOfOrder = refl
-    is TooManyLinks = refl
+    is : (x : Result Net SheetError) → back (number_of x) (net_in x) ≡ x
+    is (Ok net) = refl
+    is (Err Short) = refl
+    is (Err Malformed) = refl
+    is (Err OutOfRange) = refl
+    is (Err OutOfOrder) = refl
+    is (Err TooManyLinks) = refl
 
-    go : (a b : Answer) → number_of a ≡ number_of b → a ≡ b
-    go a b e = sym (is a) ∙ ap back e ∙ is b
-
--- the value beside a refusal is a bad network: whatever call is given it refuses with 11
+-- the value that stands for no network is a bad one: whatever call is given it refuses with 11
 pub zero_bad : false ≡ net_holds zero_net
 zero_bad = few_stations zero_net (omega arith)
 
 -- two answers that are allowed for the same bytes are equal
-pub one_answer : (r q : Reading) (s : Sheet) → Says r s → Says q s → r ≡ q
-one_answer r q s a b =
-    let n = number_one r.answer q.answer (a.number ∙ sym b.number) in let e = a.net
-    ∙ sym b.net in λ i. record { answer = n i; net = e i }
+pub one_answer : (r q : Result Net SheetError) (s : Sheet) → Says r s → Says q s → r ≡ q
+one_answer r q s a b = answer_one r q (a.number ∙ sym b.number) (a.net ∙ sym b.net)
 
--- the value beside a good answer means the network that the bytes give, and is a good value
-pub read_value : (r : Reading) (bytes : List ℕ) (net : Network) → Says r (read_sheet bytes) → read_sheet bytes ≡ sheet net
-    → (network_of r.net ≡ net) × T (net_holds r.net)
+-- the network of a good answer means the network that the bytes give, and is a good value
+pub read_value : (r : Result Net SheetError) (bytes : List ℕ) (net : Network) → Says r (read_sheet bytes) → read_sheet bytes ≡ sheet net
+    → (network_of (net_in r) ≡ net) × T (net_holds (net_in r))
 read_value r bytes net a e =
     let t = read_holds bytes net e in
-    let v : r.net ≡ value_of net = a.net ∙ ap sheet_net e in
+    let v : net_in r ≡ value_of net = a.net ∙ ap sheet_net e in
     (ap network_of v ∙ value_means net t, subst⁻¹ (λ (x : Net). T (net_holds x)) v (value_holds net t))
 
 -- reading what was written for a good value gives that very value
-pub value_read : (r : Reading) (v : Net) → T (net_holds v) → length v.low ≡ link_room → length v.high ≡ link_room
-    → Says r (read_sheet (write_sheet (network_of v))) → (r.answer ≡ Good) × (r.net ≡ v)
+pub value_read : (r : Result Net SheetError) (v : Net) → T (net_holds v) → length v.low ≡ link_room → length v.high ≡ link_room
+    → Says r (read_sheet (write_sheet (network_of v))) → r ≡ Ok v
 value_read r v t ll lh a =
     let e = reads_back (network_of v) (sheet_good v t) in
-    (number_one r.answer Good (a.number ∙ ap sheet_number e), a.net ∙ ap sheet_net e ∙ value_back v t ll lh)
+    answer_one r (Ok v) (a.number ∙ ap sheet_number e) (a.net ∙ ap sheet_net e ∙ value_back v t ll lh)
 
 -- and so for writing
-pub one_wrote : (a b : Wrote) → wrote_numbers a ≡ wrote_numbers b → a ≡ b
+pub one_wrote : (a b : Result ℕ WriteError) → wrote_numbers a ≡ wrote_numbers b → a ≡ b
 one_wrote a b e = sym (is a) ∙ ap back e ∙ is b
   where
-    back : List ℕ → Wrote
-    back l = if eqb (get_or l 0 0) 0 then Bytes (get_or l 1 0) else (if eqb (get_or l 0 0) 10 then OutputShort else BadNetwork)
+    back : List ℕ → Result ℕ WriteError
+    back l = if eqb (get_or l 0 0) 0 then Ok (get_or l 1 0) else (if eqb (get_or l 0 0) 10 then Err OutputShort else Err BadNetwork)
 
-    is : (x : Wrote) → back (wrote_numbers x) ≡ x
-    is (Bytes n) = refl
-    is OutputShort = refl
-    is BadNetwork = refl
+    is : (x : Result ℕ WriteError) → back (wrote_numbers x) ≡ x
+    is (Ok n) = refl
+    is (Err OutputShort) = refl
+    is (Err BadNetwork) = refl

@@ -1,27 +1,30 @@
 -- What the code's answers mean: the paper's number for each case, and the value beside it.
-use Rattle.std.specs.Prelude.{ℕ, ◌-◌, not, ◌≡◌, List, [], ◌∷◌, ◌++◌, map, length, replicate, if◌then◌else◌}
+use Rattle.std.specs.Prelude.{ℕ, ◌-◌, not, ◌≡◌, List, [], ◌∷◌, ◌++◌, map, length, replicate, if◌then◌else◌, Result, Ok, Err}
 use Rattle.fields.specs.Output.{Writing, denied, fitting}
 use Rattle.net.specs.declared.Net.{Net}
 use Rattle.net.specs.Network.{Network}
 use Rattle.net.specs.Values.{network_of}
 use Rattle.net.specs.Sizes.{link_room}
 use Rattle.sheet_rules.specs.Values.{net_holds}
-use Rattle.sheet.specs.declared.Answer.{Answer}
-use Rattle.sheet.specs.declared.Answer.TheVariants.{Good, Short, Malformed, OutOfRange, OutOfOrder, TooManyLinks}
-use Rattle.sheet.specs.declared.Reading.{Reading}
-use Rattle.sheet.specs.declared.Wrote.{Wrote}
-use Rattle.sheet.specs.declared.Wrote.TheVariants.{Bytes, OutputShort, BadNetwork}
+use Rattle.sheet.specs.declared.SheetError.{SheetError}
+use Rattle.sheet.specs.declared.SheetError.TheVariants.{Short, Malformed, OutOfRange, OutOfOrder, TooManyLinks}
+use Rattle.sheet.specs.declared.WriteError.{WriteError}
+use Rattle.sheet.specs.declared.WriteError.TheVariants.{OutputShort, BadNetwork}
 use Rattle.sheet.specs.Sheet.{Sheet, refused, sheet, write_sheet}
 
 -- ---- reading
+-- the paper's number of each refusal
+abbrev pub error_number : SheetError → ℕ
+error_number Short = 1
+error_number Malformed = 2
+error_number OutOfRange = 3
+error_number OutOfOrder = 4
+error_number TooManyLinks = 5
+
 -- the paper's number of each answer
-abbrev pub number_of : Answer → ℕ
-number_of Good = 0
-number_of Short = 1
-number_of Malformed = 2
-number_of OutOfRange = 3
-number_of OutOfOrder = 4
-number_of TooManyLinks = 5
+abbrev pub number_of : Result Net SheetError → ℕ
+number_of (Ok net) = 0
+number_of (Err e) = error_number e
 
 -- the number of a sheet's reading; 0 for one that gives a network
 abbrev pub sheet_number : Sheet → ℕ
@@ -42,19 +45,24 @@ value_of net =
       high = room_of (map (λ e. e.high) net.links);
     }
 
--- the value that stands beside a refusal: zero throughout
+-- the value that stands for no network: zero throughout
 abbrev pub zero_net : Net
 zero_net = record { stations = 0; links = 0; low = room_of []; high = room_of [] }
 
--- the network value beside the answer: a refused sheet gives none
+-- the network value of a sheet's reading: a refused sheet gives none
 abbrev pub sheet_net : Sheet → Net
 sheet_net (refused k) = zero_net
 sheet_net (sheet net) = value_of net
 
--- an answer and the value beside it say what a sheet's reading gives
-pub record Says (r : Reading) (s : Sheet) : Type 0 where
-  pub number : number_of r.answer ≡ sheet_number s
-  pub net : r.net ≡ sheet_net s
+-- the network value of an answer: a refusal gives none
+abbrev pub net_in : Result Net SheetError → Net
+net_in (Ok net) = net
+net_in (Err e) = zero_net
+
+-- an answer says what a sheet's reading gives: its number, and its network
+pub record Says (r : Result Net SheetError) (s : Sheet) : Type 0 where
+  pub number : number_of r ≡ sheet_number s
+  pub net : net_in r ≡ sheet_net s
 
 -- ---- writing
 unfoldable pub writing : Net → List ℕ → Writing
@@ -62,8 +70,12 @@ writing net old =
     if not (net_holds net) then denied 11
     else fitting (write_sheet (network_of net)) old
 
+-- the paper's number of each refusal
+abbrev pub write_error_number : WriteError → ℕ
+write_error_number OutputShort = 10
+write_error_number BadNetwork = 11
+
 -- the number, and how many bytes were written
-abbrev pub wrote_numbers : Wrote → List ℕ
-wrote_numbers (Bytes n) = 0 ∷ n ∷ []
-wrote_numbers OutputShort = 10 ∷ []
-wrote_numbers BadNetwork = 11 ∷ []
+abbrev pub wrote_numbers : Result ℕ WriteError → List ℕ
+wrote_numbers (Ok n) = 0 ∷ n ∷ []
+wrote_numbers (Err e) = write_error_number e ∷ []

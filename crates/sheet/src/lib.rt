@@ -1,16 +1,17 @@
 // A sheet as bytes: its rules, both ways; bytes to a network, and back. The calls are `read` and `write`.
 #![tactic(auto)]
 
-ghost use Rattle.std.specs.Prelude.{◌≡◌, [], ◌∷◌, ◌≤◌, ◌*◌, length};
+ghost use Rattle.std.specs.Prelude.{◌≡◌, ◌≤◌, ◌*◌, length};
 ghost use Rattle.net.specs.Sizes.{link_room};
-ghost use Rattle.fields.specs.Fields.{first_field, write_field, onto};
-ghost use Rattle.sheet.specs.Sheet.{stations_tag, end_tag, opened, judged, read_sheet, link_bytes, write_links};
-ghost use Rattle.sheet.specs.Values.{room_of, Says, writing, wrote_numbers};
-ghost use Rattle.sheet.specs.Steps.{refused_as, opening_of, ends_of, link_verdict, verdict_of, links_of, first_ends};
+ghost use Rattle.fields.specs.Fields.{first_field, onto};
+ghost use Rattle.sheet.specs.Sheet.{opened, judged, read_sheet, write_links};
+ghost use Rattle.sheet.specs.Values.{error_number, Says, write_error_number, writing, wrote_numbers};
+ghost use Rattle.sheet.specs.Steps.{opening_of, ends_of, link_verdict, verdict_of, links_of, first_ends};
 ghost use Rattle.fields.specs.Output.{writing_numbers, writing_output};
 
-use fields::Cut;
 use net::{LINK_ROOM, MOST_LINKS, MOST_STATIONS, Net};
+use std::error::Error;
+use std::fmt;
 
 // document 01's tags
 const STATIONS: u8 = 0x01;
@@ -19,10 +20,9 @@ const LINK: u8 = 0x02;
 
 const END: u8 = 0x0F;
 
-// What reading a sheet answers.
-#[derive(Clone, Copy)]
-pub enum Answer {
-    Good,
+// Why bytes are no sheet.
+#[derive(Clone, Copy, Debug, PartialEq, Eq)]
+pub enum SheetError {
     // the bytes end inside a field, or before the last one
     Short,
     // unknown tag, wrong length, a field out of its place, bytes after the end
@@ -34,240 +34,185 @@ pub enum Answer {
     TooManyLinks,
 }
 
-// The answer, and the network. A refused sheet gives none: the value is then zero throughout.
-#[derive(Clone, Copy)]
-pub struct Reading {
-    pub answer: Answer,
-    pub net: Net,
+impl SheetError {
+    // Promise: equals `Values.error_number`: the paper's number, 1 to 5.
+    pub fn number(self) -> u8
+        ensures { result ≡ error_number self }
+    {
+        match self {
+            SheetError::Short => 1,
+            SheetError::Malformed => 2,
+            SheetError::OutOfRange => 3,
+            SheetError::OutOfOrder => 4,
+            SheetError::TooManyLinks => 5,
+        }
+    }
 }
 
-// What writing a sheet answers.
-#[derive(Clone, Copy)]
-pub enum Wrote {
-    // how many bytes were written
-    Bytes(usize),
+impl fmt::Display for SheetError {
+    fn fmt<W: fmt::Write>(&self, f: &mut fmt::Formatter<W>) -> fmt::Result {
+        match self {
+            SheetError::Short => write!(f, "the sheet ends early"),
+            SheetError::Malformed => write!(f, "a malformed field in the sheet"),
+            SheetError::OutOfRange => write!(f, "a number out of range in the sheet"),
+            SheetError::OutOfOrder => write!(f, "links out of order in the sheet"),
+            SheetError::TooManyLinks => write!(f, "too many links in the sheet"),
+        }
+    }
+}
+
+impl Error for SheetError {}
+
+// Why a network is not written.
+#[derive(Clone, Copy, Debug, PartialEq, Eq)]
+pub enum WriteError {
     OutputShort,
     BadNetwork,
 }
 
-// What the first field is.
-#[derive(Clone, Copy)]
-enum First {
-    Faulty(Answer),
-    Stations(u8),
-}
-
-// What a later field is.
-#[derive(Clone, Copy)]
-enum Next {
-    Wrong(Answer),
-    Link(u8, u8),
-    Last,
-}
-
-// A room of links that is not used.
-fn zeros() -> [u8; LINK_ROOM]
-    ensures { result ≡ room_of [] }
-{
-    [0u8; LINK_ROOM]
-}
-
-// The answer to a refused sheet, with no network beside it.
-fn refusal(answer: Answer) -> Reading
-    ensures { result ≡ refused_as answer }
-{
-    let low = zeros();
-    let high = zeros();
-    Reading {
-        answer,
-        net: Net {
-            stations: 0,
-            links: 0,
-            low,
-            high,
-        },
-    }
-}
-
-// The number of stations.
-fn first_field(bytes: &[u8]) -> First
-    ensures { opening_of bytes.now result ≡ opened (first_field bytes.now) }
-{
-    let Cut::Whole { tag, length } = fields::cut_first(bytes) else {
-        return First::Faulty(Answer::Short);
-    };
-    if tag != STATIONS {
-        return First::Faulty(Answer::Malformed);
-    }
-    if length != 1 {
-        return First::Faulty(Answer::Malformed);
-    }
-    let n = bytes[3];
-    if n < 1 {
-        return First::Faulty(Answer::OutOfRange);
-    }
-    if MOST_STATIONS < n {
-        return First::Faulty(Answer::OutOfRange);
-    }
-    First::Stations(n)
-}
-
-// A link with the ends low and high, in a sheet of n stations; the link before it has the ends a and b.
-fn link_verdict(n: u8, a: u8, b: u8, low: u8, high: u8) -> Next
-    ensures { result ≡ link_verdict n a b low high }
-{
-    if high <= low {
-        return Next::Wrong(Answer::OutOfRange);
-    }
-    if n <= high {
-        return Next::Wrong(Answer::OutOfRange);
-    }
-    if a < low {
-        return Next::Link(low, high);
-    }
-    if a != low {
-        return Next::Wrong(Answer::OutOfOrder);
-    }
-    if b < high {
-        return Next::Link(low, high);
-    }
-    Next::Wrong(Answer::OutOfOrder)
-}
-
-// A field after the first.
-fn next_field(bytes: &[u8], n: u8, a: u8, b: u8) -> Next
-    ensures { verdict_of bytes.now result ≡ judged n (ends_of a b) (first_field bytes.now) }
-{
-    let Cut::Whole { tag, length } = fields::cut_first(bytes) else {
-        return Next::Wrong(Answer::Short);
-    };
-    if tag == LINK {
-        if length != 2 {
-            return Next::Wrong(Answer::Malformed);
+impl WriteError {
+    // Promise: equals `Values.write_error_number`: the paper's number, 10 or 11.
+    pub fn number(self) -> u8
+        ensures { result ≡ write_error_number self }
+    {
+        match self {
+            WriteError::OutputShort => 10,
+            WriteError::BadNetwork => 11,
         }
-        return link_verdict(n, a, b, bytes[3], bytes[4]);
     }
-    if tag != END {
-        return Next::Wrong(Answer::Malformed);
-    }
-    if length != 0 {
-        return Next::Wrong(Answer::Malformed);
-    }
-    if bytes.len() != 3 {
-        return Next::Wrong(Answer::Malformed);
-    }
-    Next::Last
 }
 
-// The links of a sheet of n stations, whose first field takes 4 bytes.
-fn read_links(bytes: &[u8], n: u8) -> Reading
-    requires { 4 ≤ length bytes.now }
+impl fmt::Display for WriteError {
+    fn fmt<W: fmt::Write>(&self, f: &mut fmt::Formatter<W>) -> fmt::Result {
+        match self {
+            WriteError::OutputShort => write!(f, "the output is too short"),
+            WriteError::BadNetwork => write!(f, "no good network"),
+        }
+    }
+}
+
+impl Error for WriteError {}
+
+// The number of stations, and the bytes after the first field.
+#[tactic(auto, unfolding(crate::specs::Sheet::opened))]
+fn first_field(bytes: &[u8]) -> Result<(u8, &[u8]), SheetError>
+    ensures { opening_of result ≡ opened (first_field bytes.now) }
+{
+    let Some(field) = fields::cut_first(bytes) else {
+        return Err(SheetError::Short);
+    };
+    let [n] = field.value else {
+        return Err(SheetError::Malformed);
+    };
+    if field.tag != STATIONS {
+        return Err(SheetError::Malformed);
+    }
+    if *n < 1 || MOST_STATIONS < *n {
+        return Err(SheetError::OutOfRange);
+    }
+    Ok((*n, field.rest))
+}
+
+// A link's ends, in a sheet of n stations; the link before it has the ends `before`.
+#[tactic(auto, unfolding(crate::specs::Steps::link_verdict))]
+fn check_link(n: u8, before: (u8, u8), low: u8, high: u8) -> Result<(), SheetError>
+    ensures { result ≡ link_verdict n before.0 before.1 low high }
+{
+    if high <= low || n <= high {
+        return Err(SheetError::OutOfRange);
+    }
+    if low < before.0 || low == before.0 && high <= before.1 {
+        return Err(SheetError::OutOfOrder);
+    }
+    Ok(())
+}
+
+// A field after the first: a link and the bytes after it, or none where it is the last.
+#[tactic(auto, unfolding(crate::specs::Sheet::judged, crate::specs::Steps::link_verdict))]
+fn next_field(
+    bytes: &[u8],
+    n: u8,
+    before: (u8, u8),
+) -> Result<Option<((u8, u8), &[u8])>, SheetError>
+    ensures { verdict_of result ≡ judged n (ends_of before.0 before.1) (first_field bytes.now) }
+{
+    let Some(field) = fields::cut_first(bytes) else {
+        return Err(SheetError::Short);
+    };
+    match (field.tag, field.value) {
+        (LINK, [low, high]) => {
+            check_link(n, before, *low, *high)?;
+            Ok(Some(((*low, *high), field.rest)))
+        }
+        (END, []) if field.rest.is_empty() => Ok(None),
+        _ => Err(SheetError::Malformed),
+    }
+}
+
+// The links of a sheet of n stations, from the bytes after its first field.
+fn read_links(bytes: &[u8], n: u8) -> Result<Net, SheetError>
     ensures { Says result (links_of n bytes.now) }
 {
-    let mut low = zeros();
-    let mut high = zeros();
-    let mut a: u8 = 0;
-    let mut b: u8 = 0;
-    let mut k: u8 = 0;
-    let mut at: usize = 4;
-    loop {
-        match next_field(&bytes[at..], n, a, b) {
-            Next::Wrong(answer) => {
-                return refusal(answer);
-            }
-            Next::Last => {
-                return Reading {
-                    answer: Answer::Good,
-                    net: Net {
-                        stations: n,
-                        links: k,
-                        low,
-                        high,
-                    },
-                };
-            }
-            Next::Link(l, h) => {
-                if MOST_LINKS <= k {
-                    return refusal(Answer::TooManyLinks);
-                }
-                let i = k as usize;
-                low[i] = l;
-                high[i] = h;
-                a = l;
-                b = h;
-                k += 1;
-                at += 5;
-            }
+    let mut low = [0u8; LINK_ROOM];
+    let mut high = [0u8; LINK_ROOM];
+    let mut links = 0u8;
+    let mut before = (0, 0);
+    let mut rest = bytes;
+    while let Some((ends, after)) = next_field(rest, n, before)? {
+        if MOST_LINKS <= links {
+            return Err(SheetError::TooManyLinks);
         }
+        low[links as usize] = ends.0;
+        high[links as usize] = ends.1;
+        links += 1;
+        before = ends;
+        rest = after;
     }
+    Ok(Net {
+        stations: n,
+        links,
+        low,
+        high,
+    })
 }
 
 // Bytes to a network.
 // Promise: `Says r (read_sheet bytes)`: the network, or the refusal's number and no network.
-pub fn read(bytes: &[u8]) -> Reading
+pub fn read(bytes: &[u8]) -> Result<Net, SheetError>
     ensures { Says result (read_sheet bytes.now) }
 {
-    match first_field(bytes) {
-        First::Faulty(answer) => refusal(answer),
-        First::Stations(n) => read_links(bytes, n),
-    }
+    let (n, rest) = first_field(bytes)?;
+    read_links(rest, n)
 }
 
 // ---- A network as a sheet's bytes, into lent output.
 
-// The fields that are written, each at the front of what is left of the output.
-fn put_stations(out: &mut [u8], n: u8)
-    requires { 4 ≤ length out.old }
-    ensures { out.new ≡ onto (write_field stations_tag (n ∷ [])) out.old }
+// The links of a network, field by field.
+fn put_links(out: &mut [u8], net: &Net)
+    requires { (net.now.links ≤ link_room) × (5 * net.now.links ≤ length out.old) }
+    ensures { out.new ≡ onto (write_links (first_ends net.now.low net.now.high net.now.links)) out.old }
 {
-    let value = [n];
-    fields::put(out, STATIONS, &value);
-}
-
-fn put_link(out: &mut [u8], low: u8, high: u8)
-    requires { 5 ≤ length out.old }
-    ensures { out.new ≡ onto (link_bytes (ends_of low high)) out.old }
-{
-    let value = [low, high];
-    fields::put(out, LINK, &value);
-}
-
-fn put_last(out: &mut [u8])
-    requires { 3 ≤ length out.old }
-    ensures { out.new ≡ onto (write_field end_tag []) out.old }
-{
-    fields::put(out, END, b"");
-}
-
-fn put_links(out: &mut [u8], low: [u8; LINK_ROOM], high: [u8; LINK_ROOM], m: usize)
-    requires { (m ≤ link_room) × (5 * m ≤ length out.old) }
-    ensures { out.new ≡ onto (write_links (first_ends low high m)) out.old }
-{
-    for i in 0..m {
-        let at = 5 * i;
-        put_link(&mut out[at..], low[i], high[i]);
+    for (i, low) in net.low[..net.links as usize].iter().enumerate() {
+        fields::put(&mut out[5 * i..], LINK, &[*low, net.high[i]]);
     }
 }
 
 // A network to lent output. A longer output keeps its tail, and a refusal touches none of it.
 // Promise: equals `Values.writing`: 11, then 10, else the bytes of `write_sheet`.
-pub fn write(net: Net, out: &mut [u8]) -> Wrote
+pub fn write(net: Net, out: &mut [u8]) -> Result<usize, WriteError>
     ensures answer { wrote_numbers result ≡ writing_numbers (writing net out.old) }
     ensures output { out.new ≡ writing_output (writing net out.old) out.old }
 {
     if !sheet_rules::keeps_sheet_rules(net) {
-        return Wrote::BadNetwork;
+        return Err(WriteError::BadNetwork);
     }
-    let m = net.links as usize;
-    let end = 4 + 5 * m;
+    let end = 4 + 5 * net.links as usize;
     let size = end + 3;
     if out.len() < size {
-        return Wrote::OutputShort;
+        return Err(WriteError::OutputShort);
     }
-    put_stations(out, net.stations);
-    let low = net.low;
-    let high = net.high;
-    put_links(&mut out[4..], low, high, m);
-    put_last(&mut out[end..]);
-    Wrote::Bytes(size)
+    fields::put(out, STATIONS, &[net.stations]);
+    put_links(&mut out[4..], &net);
+    fields::put(&mut out[end..], END, b"");
+    Ok(size)
 }

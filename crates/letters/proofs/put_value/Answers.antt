@@ -1,12 +1,14 @@
-use Rattle.letters.proofs.Output.{put_none, put_some}
+use Rattle.std.proofs.Common.{ap, ◌∙◌}
+use Rattle.std.specs.Prelude.{ok_or}
+use Rattle.letters.specs.declared.WriteError.TheVariants.{OutputShort}
+use Rattle.letters.specs.Values.{wrote_numbers}
+use Rattle.letters.proofs.Output.{put_said}
 use Rattle.letters.proofs.put_value.Goals as goal
-
-pub returns-then-n-eq0 : goal.returns-then-n-eq0
-returns-then-n-eq0 c =
-    let p = put_none c.args.tag c.args.value.now c.args.out.now c.requires _ c.put-n.ensures.size _ c.put-n.ensures.output c.if-n-eq0.true in
-    record { answer = p.0; output = p.1 }
 
 pub returns : goal.returns
 returns c =
-    let p = put_some c.args.tag c.args.value.now c.args.out.now c.requires _ c.put-n.ensures.size _ c.put-n.ensures.output c.if-n-eq0.false in
-    record { answer = p.0; output = p.1 }
+    let p = put_said c.args.tag c.args.value.now c.args.out.now c.requires in
+    record {
+      answer = ap wrote_numbers (c.ok_or.ensures.value ∙ ap (λ r. ok_or r OutputShort) c.put.ensures.size) ∙ p.0;
+      output = c.put.ensures.output ∙ p.1;
+    }

@@ -4,8 +4,8 @@ use Rattle.sheet.specs.Steps.{links_of}
 use Rattle.sheet.proofs.Loop.{Standing}
 use Rattle.sheet.proofs.read_links.Given as goal
 
-abbrev pub invariant-loop-answer : goal.invariant-loop-answer
-invariant-loop-answer l = Standing (links_of l.n l.bytes) l.n l.bytes l.low l.high l.a l.b l.k l.at
+abbrev pub invariant-loop-ends : goal.invariant-loop-ends
+invariant-loop-ends l = Standing (links_of l.n l.fn.bytes) l.n l.low l.high l.before.0 l.before.1 l.links l.rest
 
-abbrev pub decreases-loop-answer : goal.decreases-loop-answer
-decreases-loop-answer l = link_room - l.k
+abbrev pub decreases-loop-ends : goal.decreases-loop-ends
+decreases-loop-ends l = link_room - l.links

@@ -15,11 +15,11 @@ returns-then-out-size c =
 pub put_links-requires : goal.put_links-requires
 put_links-requires c = (
   few_links _ (sym c.if-not-keeps_sheet_rules.ensures),
-  links_room _ (sym c.if-not-keeps_sheet_rules.ensures) c.args.out.now c.if-out-size.false _ c.put_stations.ensures,
+  links_room _ (sym c.if-not-keeps_sheet_rules.ensures) c.args.out.now c.if-out-size.false _ c.put.ensures.output,
 )
 
 pub returns : goal.returns
 returns c =
-    let p = write_all _ (sym c.if-not-keeps_sheet_rules.ensures) c.args.out.now c.if-out-size.false _ c.put_stations.ensures _ _
-    c.put_links.ensures refl _ _ c.put_last.ensures refl in
+    let p = write_all _ (sym c.if-not-keeps_sheet_rules.ensures) c.args.out.now c.if-out-size.false _ c.put.ensures.output _ _
+    c.put_links.ensures refl _ _ c.put-2.ensures.output refl in
     record { answer = p.0; output = p.1 }
