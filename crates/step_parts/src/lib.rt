@@ -16,6 +16,7 @@ ghost use Rattle.sets.specs.Rooms.{in_room};
 
 use net::{Body, LETTER_ROOM, LINK_ROOM, Letter, MOST_LINKS, MOST_STATIONS, Net};
 use station::{Kind, Station};
+use station_event::Here;
 use station_plan::Plan;
 
 // The rooms, in the widths of an event's numbers and of a letter's link.
@@ -29,24 +30,19 @@ const LETTER_LINKS: u16 = LINK_ROOM as u16;
 // about
 
 // A link's two ends.
-#[derive(Clone, Copy)]
+#[derive(Debug, Clone, Copy, PartialEq, Eq, Default)]
 struct Ends {
     low: u8,
     high: u8,
-}
-
-fn at_most_32(x: u8) -> u8
-    ensures { result ≡ min x station_room }
-{
-    if x < MOST_STATIONS { x } else { MOST_STATIONS }
 }
 
 // A link that is not there has the ends 0 and 0.
 fn ends_of(net: Net, k: u32) -> Ends
     ensures { (result.low ≡ (ends (network_of net) k).low) × (result.high ≡ (ends (network_of net) k).high) }
 {
-    if sets::at_most_64(net.links) as u32 <= k {
-        return Ends { low: 0, high: 0 };
+    let links = net.links.min(MOST_LINKS);
+    if u32::from(links) <= k {
+        return Ends::default();
     }
     let i = k as usize;
     Ends {
@@ -60,27 +56,19 @@ fn receiver(net: Net, letter: Letter) -> u8
     ensures { result ≡ receiver_in (network_of net) letter }
 {
     let e = ends_of(net, letter.link as u32);
-    if e.low as u16 == letter.sender {
-        return e.high;
+    if u16::from(e.low) == letter.sender {
+        e.high
+    } else {
+        e.low
     }
-    e.low
 }
 
 // Whether an event of this kind takes a letter off the list.
 fn takes_letter(kind: Kind) -> bool
     ensures { result ≡ takes_letter kind }
 {
-    match kind {
-        Kind::NoSuch => false,
-        Kind::Start => false,
-        Kind::Stop => false,
-        Kind::Recovery => false,
-        Kind::IntervalEnd => false,
-        Kind::TimeoutEnd => false,
-        Kind::QuietEnd => false,
-        Kind::Delivery => true,
-        Kind::Loss => true, // it leaves, though nobody hears it
-    }
+    // a lost letter leaves too, though nobody hears it
+    matches!(kind, Kind::Delivery | Kind::Loss)
 }
 
 // Whose station an event concerns: a, or the receiver of the letter that it takes off. Always below 32, so that it may be read in
@@ -89,10 +77,10 @@ fn concerned(net: Net, kind: Kind, a: u32, letter: Letter) -> u8
     ensures { result ≡ in_room (concerned_by kind (network_of net) a letter) }
 {
     if takes_letter(kind) {
-        let to = receiver(net, letter);
-        return sets::in_room(to as u32);
+        sets::in_room(u32::from(receiver(net, letter)))
+    } else {
+        sets::in_room(a)
     }
-    sets::in_room(a)
 }
 
 // The link that an event is about, for a room of 64: that of the letter, or b.
@@ -100,19 +88,18 @@ fn link_of(kind: Kind, b: u32, letter: Letter) -> u8
     ensures { result ≡ link_of kind b letter % link_room }
 {
     if takes_letter(kind) {
-        return (letter.link % LETTER_LINKS) as u8;
+        (letter.link % LETTER_LINKS) as u8
+    } else {
+        (b % EVENT_LINKS) as u8
     }
-    (b % EVENT_LINKS) as u8
 }
 
 // The link that a letter tells of, for a room of 64.
 fn subject_of(letter: Letter) -> u8
     ensures { result ≡ subject_of letter.body % link_room }
 {
-    let body = letter.body;
-    match body {
-        Body::Request => 0,
-        Body::Reply(_) => 0,
+    match letter.body {
+        Body::Request | Body::Reply(_) => 0,
         Body::Notice(j, _) => j % MOST_LINKS,
     }
 }
@@ -123,44 +110,32 @@ fn subject_of(letter: Letter) -> u8
 fn station_named(stations: u8, a: u32, b: u32) -> bool
     ensures { result ≡ (ltb a (min stations station_room) && eqb b 0) }
 {
-    if at_most_32(stations) as u32 <= a {
-        return false;
-    }
-    b == 0
+    let stations = stations.min(MOST_STATIONS);
+    a < u32::from(stations) && b == 0
 }
 
 // Whether b is a link at the station a.
 fn link_at(net: Net, a: u32, b: u32) -> bool
     ensures { result ≡ is_link_at (network_of net) a b }
 {
-    if sets::at_most_64(net.links) as u32 <= b {
-        return false;
-    }
+    let links = net.links.min(MOST_LINKS);
     let e = ends_of(net, b);
-    if e.low as u32 == a {
-        return true;
-    }
-    e.high as u32 == a
+    b < u32::from(links) && (u32::from(e.low) == a || u32::from(e.high) == a)
 }
 
 // Whether a is a station, and b a link there.
 fn link_named(net: Net, a: u32, b: u32) -> bool
     ensures { result ≡ (ltb a (min net.stations station_room) && is_link_at (network_of net) a b) }
 {
-    if at_most_32(net.stations) as u32 <= a {
-        return false;
-    }
-    link_at(net, a, b)
+    let stations = net.stations.min(MOST_STATIONS);
+    a < u32::from(stations) && link_at(net, a, b)
 }
 
 // Whether a is a letter in flight, and b is not used.
 fn letter_named(flying: u16, a: u32, b: u32) -> bool
     ensures { result ≡ (ltb a flying && eqb b 0) }
 {
-    if flying as u32 <= a {
-        return false;
-    }
-    b == 0
+    a < u32::from(flying) && b == 0
 }
 
 // Whether there is such an event kind, station, link at that station or letter, and an unused number is 0; where not, the
@@ -170,20 +145,15 @@ fn there(net: Net, flying: u16, kind: Kind, a: u32, b: u32) -> bool
 {
     match kind {
         Kind::NoSuch => false,
-        Kind::Start => station_named(net.stations, a, b),
-        Kind::Stop => station_named(net.stations, a, b),
-        Kind::Recovery => station_named(net.stations, a, b),
-        Kind::IntervalEnd => link_named(net, a, b),
-        Kind::TimeoutEnd => link_named(net, a, b),
-        Kind::QuietEnd => link_named(net, a, b),
-        Kind::Delivery => letter_named(flying, a, b),
-        Kind::Loss => letter_named(flying, a, b),
+        Kind::Start | Kind::Stop | Kind::Recovery => station_named(net.stations, a, b),
+        Kind::IntervalEnd | Kind::TimeoutEnd | Kind::QuietEnd => link_named(net, a, b),
+        Kind::Delivery | Kind::Loss => letter_named(flying, a, b),
     }
 }
 
 // What an event names: the station that it concerns (a place of the 32), whether there is what it names (where not, 6), the link that it
 // is about and the link that its letter tells of (places of the 64).
-#[derive(Clone, Copy)]
+#[derive(Debug, Clone, Copy, PartialEq, Eq)]
 pub struct Names {
     pub station: u8,
     pub there: bool,
@@ -216,23 +186,18 @@ pub fn names_of(net: Net, flying: u16, kind: Kind, a: u32, b: u32, letter: Lette
 pub fn plan_at(names: Names, kind: Kind, own: u64, letter: Letter, st: Station) -> Plan
     ensures { (result ≡ plan_by names kind own letter st) × PlansAt names kind own letter st result }
 {
-    let condition = st.condition;
-    let table = st.counters;
-    let marks = st.marks;
     let on = (names.link % MOST_LINKS) as usize;
     let of = (names.subject % MOST_LINKS) as usize;
-    station_event::events::plan_event(
-        names.there,
-        kind,
+    let here = Here {
         own,
-        names.station,
-        names.link,
-        letter,
-        table[on],
-        table[of],
-        condition,
-        marks,
-    )
+        me: names.station,
+        link: names.link,
+        counter: st.counters[on],
+        told: st.counters[of],
+        condition: st.condition,
+        marks: st.marks,
+    };
+    station_event::events::plan_event(names.there, kind, letter, here)
 }
 
 // ---- the room of letters
@@ -249,10 +214,11 @@ pub fn place_of(a: u32) -> usize
 fn left_of(leaves: bool, flying: u16) -> u16
     ensures { result ≡ fewer_by leaves flying }
 {
-    if !leaves {
-        return flying;
+    if leaves {
+        flying.saturating_sub(1)
+    } else {
+        flying
     }
-    if 0 < flying { flying - 1 } else { 0 }
 }
 
 // The number that the plan says, or 9 where so many letters more would be too many.
@@ -260,9 +226,8 @@ fn number_of(planned: u8, left: u16, count: u16) -> u8
     ensures { result ≡ number_by planned left count }
 {
     if planned != 0 {
-        return planned;
-    }
-    if EVENT_LETTERS < left as u32 + count as u32 {
+        planned
+    } else if EVENT_LETTERS < u32::from(left) + u32::from(count) {
         9
     } else {
         0
@@ -271,7 +236,7 @@ fn number_of(planned: u8, left: u16, count: u16) -> u8
 
 // Where a letter leaves, the later ones close up from its place on, and the last place falls free. Where none does, none moves, and what is
 // laid down again stands where it was.
-#[derive(Clone, Copy)]
+#[derive(Debug, Clone, Copy, PartialEq, Eq)]
 struct Gap {
     from: usize,
     free: usize,
@@ -282,14 +247,15 @@ fn gap_of(leaves: bool, place: usize, last: usize) -> Gap
     ensures free { result.free ≡ (if leaves then last else place) }
 {
     if leaves {
-        return Gap {
+        Gap {
             from: place,
             free: last,
-        };
-    }
-    Gap {
-        from: last,
-        free: place,
+        }
+    } else {
+        Gap {
+            from: last,
+            free: place,
+        }
     }
 }
 
@@ -297,19 +263,12 @@ fn gap_of(leaves: bool, place: usize, last: usize) -> Gap
 fn freed(leaves: bool, x: Letter) -> Letter
     ensures { result ≡ (if leaves then no_letter else x) }
 {
-    if leaves {
-        return Letter {
-            link: 0,
-            sender: 0,
-            body: Body::Request,
-        };
-    }
-    x
+    if leaves { Letter::default() } else { x }
 }
 
 // What becomes of the list of letters: the number that says no (the plan's, or 9), how many letters are left once the event's own has left,
 // from where the later ones close up, which place falls free and what stands there then.
-#[derive(Clone, Copy)]
+#[derive(Debug, Clone, Copy, PartialEq, Eq)]
 pub struct Room {
     pub answer: u8,
     pub left: u16,

@@ -1,16 +1,12 @@
 use Rattle.std.proofs.Common.{arith}
-use Rattle.step_parts.proofs.Present.{link_past, link_low, link_high}
+use Rattle.step_parts.proofs.Present.{link_is}
 use Rattle.step_parts.proofs.link_at.Goals as goal
 
-pub returns-then-at_most_64-b : goal.returns-then-at_most_64-b
-returns-then-at_most_64-b c = link_past c.args.net c.args.b c.args.a (omega (arith, c.at_most_64.ensures))
+pub returns-then-from-a : goal.returns-then-from-a
+returns-then-from-a c = link_is c.args.net c.args.b c.args.a _ _ _ c.ends_of-e.ensures.0 c.ends_of-e.ensures.1 (grind arith)
 
-pub returns-then-e-a : goal.returns-then-e-a
-returns-then-e-a c =
-    link_low c.args.net c.args.b c.args.a _ _ (omega (arith, c.at_most_64.ensures)) c.ends_of-e.ensures.0
-    c.ends_of-e.ensures.1 c.if-e-a.true
+pub returns-else-from-a : goal.returns-else-from-a
+returns-else-from-a c = link_is c.args.net c.args.b c.args.a _ _ _ c.ends_of-e.ensures.0 c.ends_of-e.ensures.1 (grind arith)
 
-pub returns : goal.returns
-returns c =
-    link_high c.args.net c.args.b c.args.a _ _ (omega (arith, c.at_most_64.ensures)) c.ends_of-e.ensures.0
-    c.ends_of-e.ensures.1 c.if-e-a.false
+pub returns-else-b-from : goal.returns-else-b-from
+returns-else-b-from c = link_is c.args.net c.args.b c.args.a _ _ _ c.ends_of-e.ensures.0 c.ends_of-e.ensures.1 (grind arith)
