@@ -8,6 +8,7 @@ use native.Mathlib.Omega.{arith}
 use lib.Dec.{eqb}
 use lib.ListN.{length, get_or, length-append}
 use borrow.Author.Tests.{eq-eqb, ne_eqb}
+use Rattle.net.specs.declared.Net.{Net}
 use Rattle.text.specs.Text.{digits}
 use Rattle.text.proofs.Puts.{place_fits}
 use Rattle.text.proofs.Chains.{Chain, chain_fits}
@@ -18,26 +19,10 @@ use Rattle.page_part.specs.Words.{under_station, working_word, unreachable_word,
 use Rattle.page_part.specs.Words.{link_working, unresponsive_word}
 use Rattle.page_part.specs.Texts.{still_text, reach_text, lowest_text, station_shown, link_shown, seen_text, link_text}
 
--- a text that was put in parts
-pub put_parts : {parts text : List ℕ} (most : ℕ) {at : ℕ} {old : List ℕ} {r : ℕ} {new : List ℕ} → Chain parts at old r new → parts ≡ text
-    → length text ≤ most → at + most ≤ length old → Put text most at old r new
-put_parts {parts} {text} most {at} {old} {r} {new} c e few h = put_done text most at old r new (chain_same e c) few h
-
--- what fits is no longer than the place behind it
-pub put_lines : (text : List ℕ) (most at : ℕ) (old : List ℕ) (r : ℕ) (new : List ℕ) → Chain text at old r new → r ≤ at + most
-    → at + most ≤ length old → Put text most at old r new
-put_lines text most at old r new c h l =
-    let fits : at + length text ≤ length old = chain_fits text at old r new c (omega arith) in
-    put_done text most at old r new c (omega (arith, c.place ∙ place_fits text at old fits)) l
-
 -- the same word, by a test's answer
 -- ---- a station that isn't live
 abbrev pub condition_word : Bool → List ℕ
 condition_word waiting = if waiting then waiting_word else down_word
-
-pub still_whole : (s : ℕ) (w : Bool) → (([] ++ station_word) ++ digits s) ++ condition_word w ≡ still_text s w
-unfolding still_text
-still_whole s w = simp append_assoc
 
 condition_few : (w : Bool) → length (condition_word w) ≤ 9
 condition_few true = omega arith
@@ -48,20 +33,15 @@ unfolding still_text
 still_few s w h = simp length-append (omega (arith, byte_digits s h, condition_few w))
 
 -- ---- a live one
-pub reach_whole : (s ones n : ℕ)
-    → ((((([] ++ station_word) ++ digits s) ++ live_word) ++ digits ones) ++ of_word) ++ digits n ≡ reach_text s ones n
-unfolding reach_text
-reach_whole s ones n = simp append_assoc
-
 pub reach_few : (s ones n : ℕ) → s < 256 → ones < 256 → n < 256 → length (reach_text s ones n) ≤ 40
 unfolding reach_text
 reach_few s ones n a b c = simp length-append (omega (arith, byte_digits s a, byte_digits ones b, byte_digits n c))
 
-pub lowest_all : (l : ℕ) → l ≡ 255 → [] ++ (10 ∷ []) ≡ lowest_text l
+pub lowest_all : (l : ℕ) → l ≡ 255 → 10 ∷ [] ≡ lowest_text l
 unfolding lowest_text
 lowest_all l e = simp (eq-eqb l 255 e)
 
-pub lowest_whole : (l : ℕ) → (l ≡ 255 → ⊥) → (([] ++ lowest_word) ++ digits l) ++ (10 ∷ []) ≡ lowest_text l
+pub lowest_whole : (l : ℕ) → (l ≡ 255 → ⊥) → lowest_word ++ digits l ++ (10 ∷ []) ≡ lowest_text l
 unfolding lowest_text
 lowest_whole l h = simp (ne_eqb l 255 h, append_assoc)
 
@@ -78,10 +58,6 @@ shown_few : (b : Bool) → length (if b then working_word else unreachable_word)
 shown_few true = omega arith
 shown_few false = omega arith
 
-pub seen_whole : (t x : ℕ) → (([] ++ under_station) ++ digits t) ++ station_shown x ≡ seen_text t x
-unfolding seen_text
-seen_whole t x = simp append_assoc
-
 pub seen_few : (t x : ℕ) → t < 256 → length (seen_text t x) ≤ 26
 unfolding seen_text
 seen_few t x h = simp length-append (omega (arith, byte_digits t h, shown_few (eqb x 1)))
@@ -92,11 +68,6 @@ link_shown_few true b = omega arith
 link_shown_few false true = omega arith
 link_shown_few false false = omega arith
 
-pub link_whole : (k low high x : ℕ) → (((((([] ++ under_link) ++ digits k) ++ open_word) ++ digits low) ++ dash_word) ++ digits
-    high) ++ link_shown x ≡ link_text k low high x
-unfolding link_text
-link_whole k low high x = simp append_assoc
-
 pub link_few : (k low high x : ℕ) → k < 256 → low < 256 → high < 256 → length (link_text k low high x) ≤ 44
 unfolding link_text
 link_few k low high x a b c =
@@ -106,5 +77,5 @@ link_few k low high x a b c =
 abbrev pub station_by : List ℕ → ℕ → List ℕ
 station_by seen t = seen_text t (get_or seen t 0)
 
-abbrev pub link_by : List ℕ → List ℕ → List ℕ → ℕ → ℕ → List ℕ
-link_by low high seen n k = link_text k (get_or low k 0) (get_or high k 0) (get_or seen (n + k) 0)
+abbrev pub link_by : Net → List ℕ → ℕ → List ℕ
+link_by net seen k = link_text k (get_or net.low k 0) (get_or net.high k 0) (get_or seen k 0)
