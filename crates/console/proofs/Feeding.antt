@@ -1,5 +1,6 @@
 -- The loop over the lines that end in a piece of the input: what holds between its turns, and what it leaves. For any reading, any value
 -- that is held, and lines of at most so many bytes.
+use Rattle.std.specs.Prelude.{Some, None}
 use Prim.Native.Nat.{ℕ, suc, ◌+◌, ◌-◌, ◌*◌, ◌≤◌, ◌<◌}
 use mathlib.Core.Bool.{true, false}
 use mathlib.Core.Path.{◌≡◌, refl, sym, ap, ap₂, ◌∙◌}
@@ -14,10 +15,9 @@ use Rattle.text.proofs.Puts.{put_fits, length_put}
 use Rattle.fields.specs.Fields.{onto}
 use Rattle.console.specs.Outputs.{Counts, Put}
 use Rattle.event_lines.specs.Split.{fed_by}
-use Rattle.event_lines.specs.declared.End.{End}
 use Rattle.event_lines.specs.Ends.{line_size, line_ends, end_from}
 use Rattle.console.specs.Feeding.{held_after, read_after, text_after}
-use Rattle.event_lines.proofs.Ends.{ends_is, line_is, line_whole, end_after, end_inside, end_behind}
+use Rattle.event_lines.proofs.Ends.{open_is, line_whole, ends_is, line_is, end_after, end_inside, end_behind}
 
 module _ {Y R A : Type 0} (fresh : R) (on : R → ℕ → R) (ends : R → A) (act : Y → A → Y) (say : Y → A → List ℕ) where
   abbrev held : Y → R → List ℕ → Y
@@ -90,28 +90,27 @@ module _ {Y R A : Type 0} (fresh : R) (on : R → ℕ → R) (ends : R → A) (a
         enough = h;
       }
 
-  -- ---- a turn, whose line is read as far as its end
+  -- ---- a turn
   module _ (most : ℕ) (bytes old : List ℕ) (y₀ : Y) (r₀ : R) (out : List ℕ) (y : Y) (r : R) (at from : ℕ)
-      (g : Going most bytes old y₀ r₀ out y r at from) (end : End) (is : end ≡ end_from bytes from) (line : R)
-      (reads : line ≡ fed_by on r (take (end.stop - from) (drop from bytes))) where
+      (g : Going most bytes old y₀ r₀ out y r at from) where
     abbrev later : List ℕ
     later = drop from bytes
 
-    -- the line ends here
-    module _ (e : end.ended ≡ true) where
+    -- the line ends in these bytes, and is read as far as its end
+    module _ (stop : ℕ) (is : Some stop ≡ end_from bytes from) (line : R) (reads : line ≡ fed_by on r (take (stop - from) later)) where
       said_is : ends line ≡ line_at r later
-      said_is = ap ends (reads ∙ ap (fed_by on r) (line_is bytes from g.within end is))
+      said_is = ap ends (reads ∙ ap (fed_by on r) (line_is bytes from stop is))
 
-      steps : most * from + most ≤ most * (end.stop + 1)
+      steps : most * from + most ≤ most * (stop + 1)
       steps =
-          let more : most * (from + 1) ≤ most * (end.stop + 1) =
-          mul-le-mul_left most (omega (arith, end_after bytes from g.within end is)) in
+          let more : most * (from + 1) ≤ most * (stop + 1) =
+          mul-le-mul_left most (omega (arith, end_after bytes from stop is)) in
           let spread : most * (from + 1) ≡ most * from + most * 1 = mul-add most from 1 in
           omega arith
 
       pub going_room : at + most ≤ length out
       going_room =
-          let inside : end.stop + 1 ≤ length bytes = omega (arith, end_inside bytes from g.within end is e) in
+          let inside : stop + 1 ≤ length bytes = omega (arith, end_inside bytes from stop is) in
           omega (arith, steps, mul-le-mul_left most inside, g.room, g.enough, g.size)
 
       module _ (z : Y) (does : z ≡ act y (ends line)) (words : List ℕ) (says : words ≡ say y (ends line)) (n : ℕ) (new : List ℕ)
@@ -126,17 +125,17 @@ module _ {Y R A : Type 0} (fresh : R) (on : R → ℕ → R) (ends : R → A) (a
         new_is = w.output ∙ put_fits words at out fits
 
         did : Ended y r later
-        did = line_ended later y r (sym (ends_is bytes from g.within end is) ∙ e)
+        did = line_ended later y r (ends_is bytes from stop is)
 
         -- what is to come, in the words of the turn
         abbrev to_come : List ℕ
-        to_come = drop (end.stop + 1) bytes
+        to_come = drop (stop + 1) bytes
 
         here : z ≡ act y (line_at r later)
         here = does ∙ ap (act y) said_is
 
         rest : behind later ≡ to_come
-        rest = sym (end_behind bytes from g.within end is)
+        rest = sym (end_behind bytes from stop is)
 
         later_text : text y r later ≡ words ++ text z start to_come
         later_text = did.0 ∙ cc (here, rest, says, said_is, begins)
@@ -147,7 +146,7 @@ module _ {Y R A : Type 0} (fresh : R) (on : R → ℕ → R) (ends : R → A) (a
         later_read : read y r later ≡ read z start to_come
         later_read = did.2 ∙ cc (here, rest, begins)
 
-        pub going_more : Going most bytes old y₀ r₀ new z start n (end.stop + 1)
+        pub going_more : Going most bytes old y₀ r₀ new z start n (stop + 1)
         going_more =
             record {
               size = ap length w.output ∙ length_put words at out ∙ g.size;
@@ -162,31 +161,31 @@ module _ {Y R A : Type 0} (fresh : R) (on : R → ℕ → R) (ends : R → A) (a
               held = g.held ∙ later_held;
               read = g.read ∙ later_read;
               room = omega (arith, steps, g.room, w.place, w.few);
-              within = omega (arith, end_inside bytes from g.within end is e);
+              within = omega (arith, end_inside bytes from stop is);
               enough = g.enough;
             }
 
-        pub going_less : length bytes - (end.stop + 1) < length bytes - from
-        going_less = omega (arith, end_after bytes from g.within end is, end_inside bytes from g.within end is e)
+        pub going_less : length bytes - (stop + 1) < length bytes - from
+        going_less = omega (arith, end_after bytes from stop is, end_inside bytes from stop is)
 
     -- ---- the line goes on behind these bytes: all of the piece was printed
-    pub record Done : Type 0 where
+    pub record Done (line : R) : Type 0 where
       pub held : y ≡ held_after fresh on ends act say y₀ r₀ bytes
       pub read : line ≡ read_after fresh on ends act say y₀ r₀ bytes
       pub written : at ≡ length (text_after fresh on ends act say y₀ r₀ bytes)
       pub output : out ≡ onto (text_after fresh on ends act say y₀ r₀ bytes) old
       pub counts : Counts at out
 
-    pub going_done : end.ended ≡ false → Done
-    going_done e =
-        let left : Open y r later = line_open later y r (sym (ends_is bytes from g.within end is) ∙ e) in
+    pub going_done : None ≡ end_from bytes from → (line : R) → line ≡ fed_by on r (take (length bytes - from) later) → Done line
+    going_done is line reads =
+        let left : Open y r later = line_open later y r (open_is bytes from is) in
         let within : at ≤ length out = omega (arith, g.room, mul-le-mul_left most g.within, g.enough, g.size) in
         let said : text y₀ r₀ bytes ≡ take at out =
         g.text ∙ ap (λ (l : List ℕ). take at out ++ l) left.0 ∙ append-nil (take at out) in
         let count : at ≡ length (text y₀ r₀ bytes) = sym (ap length said ∙ length-take-le at out within) in
         record {
           held = sym (g.held ∙ left.1);
-          read = reads ∙ ap (fed_by on r) (line_whole bytes from g.within end is e) ∙ sym (g.read ∙ left.2);
+          read = reads ∙ ap (fed_by on r) (line_whole bytes from) ∙ sym (g.read ∙ left.2);
           written = count;
           output =
               sym (take-append-drop at out) ∙ ap₂ (λ (a b : List ℕ). a ++ b) (sym said) (g.tail ∙ ap (λ (n : ℕ). drop n old) count);

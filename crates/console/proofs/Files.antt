@@ -1,35 +1,31 @@
 -- The file of a sheet: one that is too long, and one that is read.
-use Rattle.std.specs.Prelude.{if◌then◌else◌}
+use Rattle.std.specs.Prelude.{if◌then◌else◌, Result, Err}
 use Prim.Native.Nat.{ℕ, ◌≤◌, ◌<◌}
 use mathlib.Core.Bool.{Bool}
 use mathlib.Core.Path.{◌≡◌, refl, sym, ap, ◌∙◌}
-use mathlib.Core.List.{List, []}
+use mathlib.Core.List.{List}
 use native.Mathlib.Decide.{dec_le}
 use native.Mathlib.Omega.{arith}
 use lib.Dec.{ltb}
-use lib.ListN.{length, take, replicate}
+use lib.ListN.{length, take}
 use lib.Seq.{take_all, length-take-le}
 use borrow.Author.Tests.{lt-ltb, le-ltb}
 use Rattle.net.specs.declared.Net.{Net}
-use Rattle.sheet.specs.declared.Reading as Read
+use Rattle.sheet.specs.declared.SheetError.{SheetError}
+use Rattle.sheet.specs.declared.SheetError.TheVariants.{Malformed}
 use Rattle.sheet.specs.Sheet.{refused, read_sheet}
-use Rattle.sheet.specs.Values.{number_of, zero_net, room_of, Says}
-use Rattle.console.specs.Sheets.{file_sheet, opened_by}
+use Rattle.sheet.specs.Values.{Says}
+use Rattle.console.specs.Sheets.{file_sheet, opened_by, opened_in}
 
 -- ---- the sheet's file
-pub no_room : replicate 64 0 ≡ room_of []
-unfolding room_of
-no_room = refl
-
 module _ (file : List ℕ) where
-  pub file_long : (net : Net) → 4096 < length file → net ≡ zero_net → record { number = 2; net = net } ≡ opened_by (file_sheet file)
+  pub file_long : 4096 < length file → opened_in (Err Malformed) ≡ opened_by (file_sheet file)
   unfolding file_sheet
-  file_long net h e = simp (lt-ltb 4096 (length file) h) (λ i. record { number = 2; net = e i })
+  file_long h = simp (lt-ltb 4096 (length file) h) refl
 
-  pub file_read : (r : Read.Reading) (n : ℕ) → length file ≤ 4096 → Says r (read_sheet file) → n ≡ number_of r.answer
-      → record { number = n; net = r.net } ≡ opened_by (file_sheet file)
+  pub file_read : (r : Result Net SheetError) → length file ≤ 4096 → Says r (read_sheet file) → opened_in r ≡ opened_by (file_sheet file)
   unfolding file_sheet
-  file_read r n h s e = simp (le-ltb 4096 (length file) h) (λ i. record { number = (e ∙ s.number) i; net = s.net i })
+  file_read r h s = simp (le-ltb 4096 (length file) h) (λ i. record { number = s.number i; net = s.net i })
 
   above : (n : ℕ) → 4096 < n → (length file ≤ 4096 → ⊥) → 4096 < length (take n file)
   above n h l = go (dec_le n (length file))

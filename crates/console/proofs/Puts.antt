@@ -18,6 +18,10 @@ use Rattle.fields.specs.Output.{with_room, writing_output}
 use Rattle.text.proofs.Chains.{Chain, chain_none, chain_next}
 use Rattle.console.specs.Sheets.{refusal_text}
 use Rattle.console.specs.Outputs.{Counts, wrote_by, Put}
+use Rattle.std.specs.Prelude.{Ok, Err, ⊤}
+use Rattle.text.specs.Line.{Adds}
+use Rattle.text.specs.declared.Line.{Line}
+use Rattle.text.proofs.Lines.{adds_front}
 
 -- a chain that has room for its text
 pub put_done : (text : List ℕ) (most at : ℕ) (old : List ℕ) (r : ℕ) (new : List ℕ) → Chain text at old r new → length text ≤ most
@@ -48,22 +52,39 @@ put_onto text old h =
     put_fits text 0 old (omega arith) ∙ ap (λ (n : ℕ). text ++ drop n old) behind
 
 module _ (most : ℕ) (text old : List ℕ) where
-  pub wrote_short : length old < most → (record { answer = 10; written = 0 } ≡ wrote_by (with_room most text old))
-      × ((old ≡ writing_output (with_room most text old) old) × Counts 0 old)
-  wrote_short h = simp (lt-ltb (length old) most h) (refl, (refl, (omega arith, refl)))
+  pub wrote_short : length old < most → (Err (record { 0 = 10 }) ≡ wrote_by (with_room most text old))
+      × ((old ≡ writing_output (with_room most text old) old) × ⊤)
+  wrote_short h = simp (lt-ltb (length old) most h) (refl, (refl, tt))
 
   pub wrote_all : (r : ℕ) (new : List ℕ) → most ≤ length old → Put text most 0 old r new
-      → (record { answer = 0; written = r } ≡ wrote_by (with_room most text old))
-      × ((new ≡ writing_output (with_room most text old) old) × Counts r new)
+      → (Ok r ≡ wrote_by (with_room most text old)) × ((new ≡ writing_output (with_room most text old) old) × Counts r new)
   wrote_all r new h p =
       let size : length new ≡ length old = ap length p.output ∙ length_put text 0 old in
       let within : r ≤ length new = omega (arith, p.place, p.few) in
       let here : r ≡ length text = omega (arith, p.place) in
       simp (le-ltb (length old) most h) (
-        (λ i. record
-            { answer = 0; written = here i }),
+        ap Ok here,
         (p.output ∙ put_onto text old (omega (arith, p.few)), (within, sym (length-take-le r new within))),
       )
+
+-- the same for a line that was put from the output's front
+module _ (most : ℕ) {text : List ℕ} {a b : Line} (p : Adds text a b) (z : a.at ≡ 0) (few : length text ≤ most)
+    (h : most ≤ length a.out.now) where
+  ends : b.at ≡ length text
+  ends = omega (arith, p.place (omega arith))
+
+  pub line_answer : Ok b.at ≡ wrote_by (with_room most text a.out.now)
+  line_answer = simp (le-ltb (length a.out.now) most h) (ap Ok ends)
+
+  module _ {last : List ℕ} (e : last ≡ b.out.now) where
+    pub line_output : last ≡ writing_output (with_room most text a.out.now) a.out.now
+    line_output =
+        simp (le-ltb (length a.out.now) most h)
+        ((adds_front p z (omega arith) e).1 ∙ put_onto text a.out.now (omega arith))
+
+    pub line_counts : Counts b.at last
+    line_counts =
+        let within : b.at ≤ length last = omega (arith, ends, ap length e, p.size) in (within, sym (length-take-le b.at last within))
 
 -- what a chain takes of a text that was put
 pub put_next : {text : List ℕ} {most at : ℕ} {old : List ℕ} {r : ℕ} {new : List ℕ} → at + most ≤ length old → Put text most at old r new
@@ -75,11 +96,8 @@ pub chain_same : {text other : List ℕ} {from : ℕ} {old : List ℕ} {at : ℕ
 chain_same {from = from} {old = old} {at = at} {out = out} e c = subst (λ (x : List ℕ). Chain x from old at out) e c
 
 -- ---- a refused sheet's number
-pub refusal_whole : (n : ℕ) → ([] ++ digits n) ++ (10 ∷ []) ≡ refusal_text n
+pub refusal_few : (n : ℕ) → n < 256 → length (refusal_text n) ≤ 4
 unfolding refusal_text
-refusal_whole n = refl
-
-pub refusal_few : (n : ℕ) → n < 256 → length (([] ++ digits n) ++ (10 ∷ [])) ≤ 4
 refusal_few n h = simp length-append (omega (arith, byte_digits n h))
 
 -- ---- texts one after the other

@@ -1,14 +1,14 @@
 -- What a part of a program answers when it writes to lent output (`fields/specs/Output`: a text at its front, or 10 where the output has
 -- less room than the longest such text takes).
-use Rattle.std.specs.Prelude.{ℕ, ◌+◌, ◌≤◌, ◌≡◌, List, length, take}
+use Rattle.std.specs.Prelude.{ℕ, ◌+◌, ◌≤◌, ◌≡◌, List, length, take, Result, Ok, Err}
 use Rattle.fields.specs.Output.{Writing, denied, writes}
 use Rattle.text.specs.Text.{put_at}
-use Rattle.console.specs.declared.Wrote.{Wrote}
+use Rattle.console.specs.declared.Refusal.{Refusal}
 
--- the answer, and how many bytes were written
-abbrev pub wrote_by : Writing → Wrote
-wrote_by (denied k) = record { answer = k; written = 0 }
-wrote_by (writes text) = record { answer = 0; written = length text }
+-- how many bytes were written, or the number that says no
+abbrev pub wrote_by : Writing → Result ℕ Refusal
+wrote_by (denied k) = Err (record { 0 = k })
+wrote_by (writes text) = Ok (length text)
 
 -- n bytes at the front of xs, said twice over: so a caller lends `&xs[..n]` with no proof of its own
 abbrev pub Counts : ℕ → List ℕ → Type 0

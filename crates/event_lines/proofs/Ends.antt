@@ -73,6 +73,10 @@ module _ (bytes : List ℕ) (from : ℕ) where
       go true e p = cc
       go false e p = e
 
+  -- all of them are read
+  pub line_whole : take (length bytes - from) later ≡ later
+  line_whole = take_all (length bytes - from) later (omega (arith, length-drop from bytes))
+
   module _ (stop : ℕ) (is : Some stop ≡ end_from bytes from) where
     pub ends_is : line_ends later ≡ true
     ends_is = (ended bytes from stop is).ends
@@ -125,8 +129,7 @@ module _ (bytes : List ℕ) (from : ℕ) where
   module _ (rest : List ℕ) (is : rest ≡ slice_range bytes from (length bytes)) where
     found : newline_place rest ≡ (if line_ends (drop from bytes) then Some (line_size (drop from bytes)) else None)
     found =
-        ap newline_place (is ∙ take_all (length bytes - from) (drop from bytes) (omega (arith, length-drop from bytes)))
-        ∙ place_is (drop from bytes)
+        ap newline_place (is ∙ line_whole bytes from) ∙ place_is (drop from bytes)
 
     pub end_some : (place : ℕ) → Some place ≡ newline_place rest → Some (from + place) ≡ end_from bytes from
     unfolding end_from

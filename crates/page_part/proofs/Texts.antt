@@ -1,8 +1,8 @@
 -- A part's texts as the code puts them, part by part, and how long they are.
 use Rattle.std.specs.Prelude.{if◌then◌else◌}
-use Prim.Native.Nat.{ℕ, ◌+◌, ◌≤◌, ◌<◌}
+use Prim.Native.Nat.{ℕ, ◌≤◌, ◌<◌}
 use mathlib.Core.Bool.{Bool, true, false}
-use mathlib.Core.Path.{◌≡◌, ◌∙◌}
+use mathlib.Core.Path.{◌≡◌}
 use mathlib.Core.List.{List, [], ◌∷◌, ◌++◌, append_assoc}
 use native.Mathlib.Omega.{arith}
 use lib.Dec.{eqb}
@@ -10,14 +10,11 @@ use lib.ListN.{length, get_or, length-append}
 use borrow.Author.Tests.{eq-eqb, ne_eqb}
 use Rattle.net.specs.declared.Net.{Net}
 use Rattle.text.specs.Text.{digits}
-use Rattle.text.proofs.Puts.{place_fits}
-use Rattle.text.proofs.Chains.{Chain, chain_fits}
-use Rattle.console.specs.Outputs.{Put}
-use Rattle.console.proofs.Puts.{put_done, chain_same, byte_digits}
-use Rattle.page_part.specs.Words.{station_word, down_word, waiting_word, live_word, of_word, lowest_word}
-use Rattle.page_part.specs.Words.{under_station, working_word, unreachable_word, under_link, open_word, dash_word, perceived_word}
+use Rattle.console.proofs.Puts.{byte_digits}
+use Rattle.page_part.specs.Words.{down_word, waiting_word, lowest_word}
+use Rattle.page_part.specs.Words.{working_word, unreachable_word, perceived_word}
 use Rattle.page_part.specs.Words.{link_working, unresponsive_word}
-use Rattle.page_part.specs.Texts.{still_text, reach_text, lowest_text, station_shown, link_shown, seen_text, link_text}
+use Rattle.page_part.specs.Texts.{still_text, reach_text, lowest_text, seen_text, link_text}
 
 -- the same word, by a test's answer
 -- ---- a station that isn't live

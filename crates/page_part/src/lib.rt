@@ -62,7 +62,11 @@ fn put_lowest(line: &mut Line, lowest: u8)
 fn station_shown(shown: u8) -> &'static [u8]
     ensures { result.now ≡ station_shown shown }
 {
-    if shown == 1 { b" working\n" } else { b" unreachable\n" }
+    if shown == 1 {
+        b" working\n"
+    } else {
+        b" unreachable\n"
+    }
 }
 
 fn put_seen(line: &mut Line, t: usize, shown: u8)

@@ -1,22 +1,18 @@
-use Rattle.console.proofs.Puts.{put_done, put_same, wrote_short, wrote_all, refusal_whole, refusal_few}
-use Rattle.console.specs.Sheets.{refusal_text}
-use Rattle.text.proofs.Chains.{chain_none, chain_next}
-use Rattle.text.specs.Text.{digits}
-use mathlib.Core.List.{[], ◌∷◌}
+use Rattle.std.proofs.Common.{rules}
+use mathlib.Core.Path.{refl}
 use native.Mathlib.Omega.{arith}
+use Rattle.text.proofs.Lines.{adds_put, adds_then}
+use Rattle.console.specs.Sheets.{refusal_text}
+use Rattle.console.proofs.Puts.{refusal_few, line_answer, line_output, line_counts}
 use Rattle.console.proofs.put_refusal.Goals as goal
 
-pub returns-then-out-lt4 : goal.returns-then-out-lt4
-returns-then-out-lt4 c =
-    let t = wrote_short 4 (refusal_text c.args.n) c.args.out.now c.if-out-lt4.true in
-    record { answer = t.0; output = t.1.0; room = t.1.1 }
-
 pub returns : goal.returns
+unfolding refusal_text
 returns c =
-    let a = c.args in
-    let n1 = chain_next (digits a.n) (chain_none 0 a.out.now (omega arith))
-    (c.put_number-at.ensures.place, c.put_number-at.ensures.output) in
-    let n2 = chain_next (10 ∷ []) n1 (c.put_word-end.ensures.place, c.put_word-end.ensures.output) in
-    let t = wrote_all 4 (refusal_text a.n) a.out.now _ _ (omega arith) (put_same _ _ 4 0 a.out.now _ _ (refusal_whole a.n)
-    (put_done _ 4 0 a.out.now _ _ n2 (refusal_few a.n (omega arith)) (omega arith))) in
-    record { answer = t.0; output = t.1.0; room = t.1.1 }
+    let whole = adds_then (adds_put c.number.ensures) c.word.ensures in
+    let few = refusal_few c.args.n (omega arith) in
+    record {
+      answer = line_answer 4 whole refl few (omega arith);
+      output = line_output 4 whole refl few (omega arith) (search rules);
+      room = line_counts 4 whole refl few (omega arith) (search rules);
+    }

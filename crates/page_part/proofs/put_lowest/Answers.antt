@@ -1,6 +1,5 @@
 use Rattle.page_part.proofs.Texts.{lowest_all, lowest_whole}
 use Rattle.text.proofs.Lines.{adds_put, adds_then, adds_same}
-use Rattle.page_part.specs.Texts.{lowest_text}
 use Rattle.page_part.proofs.put_lowest.Goals as goal
 
 pub returns-then-lowest-eq255 : goal.returns-then-lowest-eq255
