@@ -26,23 +26,9 @@ module _ (n : ℕ) (table : List ℕ) (x : Sending) where
   pub narrow_is : (knows : Bool) (known unknown subjects : ℕ) → knows ≡ true → known ≡ word_by (known_in n table)
       → unknown ≡ word_by (λ t. in_word x.subjects t && not (in_word known t))
       → subjects ≡ word_by (λ t. in_word x.subjects t && not (in_word unknown t))
-      → ◌≡◌ {A = Sending} (record {
-        requests = x.requests;
-        subjects = subjects;
-        ways = x.ways;
-        replies = x.replies;
-        reply = x.reply;
-        link = x.link;
-      }) (narrowed knows n table x)
+      → ◌≡◌ {A = Sending} (record x { subjects = subjects }) (narrowed knows n table x)
   narrow_is knows known unknown subjects e k u s =
-      ap (λ (w : ℕ). record {
-        requests = x.requests;
-        subjects = w;
-        ways = x.ways;
-        replies = x.replies;
-        reply = x.reply;
-        link = x.link;
-      })
+      ap (λ (w : ℕ). record x { subjects = w })
       (s ∙ by_same (λ t. in_word x.subjects t && not (in_word unknown t)) (λ t. in_word x.subjects t && known_in n table t) same)
       ∙ sym (ap (λ (b : Bool). narrowed b n table x) e)
     where

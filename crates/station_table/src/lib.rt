@@ -17,15 +17,10 @@ use station::Sending;
 pub fn told_table(sets: bool, at: u8, counter: u16, table: Counters) -> Counters
     ensures { result ≡ told_by sets at counter table }
 {
-    if !sets {
-        return table;
-    }
-    if MOST_LINKS <= at {
-        return table;
-    }
-    let i = at as usize;
     let mut next = table;
-    next[i] = counter;
+    if sets && at < MOST_LINKS {
+        next[usize::from(at)] = counter;
+    }
     next
 }
 
@@ -40,14 +35,7 @@ pub fn narrow(knows: bool, links: u8, table: Counters, sends: Sending) -> Sendin
     let known = known_links(links, table);
     let unknown = sets::without(sends.subjects, known);
     let subjects = sets::without(sends.subjects, unknown);
-    Sending {
-        requests: sends.requests,
-        subjects,
-        ways: sends.ways,
-        replies: sends.replies,
-        reply: sends.reply,
-        link: sends.link,
-    }
+    Sending { subjects, ..sends }
 }
 
 // The table that the event leaves: every counter 1, or what is out of reach purged, or as it is told.
@@ -56,33 +44,25 @@ pub fn kept_table(net: Net, me: u8, resets: bool, purges: bool, table: Counters)
     ensures { result ≡ kept_by net me resets purges table }
 {
     if resets {
-        return fresh_counters(net.links);
-    }
-    if purges {
+        fresh_counters(net.links)
+    } else if purges {
         let working = reach::working_links(net.links, table);
-        return reach::purged(net, working, table, me);
+        reach::purged(net, working, table, me)
+    } else {
+        table
     }
-    table
 }
 
 // The links whose counter is above 1.
 fn known_links(links: u8, counters: Counters) -> u64
     ensures { result ≡ word_by (up_to (λ j. ltb 1 (get_or counters j 0)) (min links link_room)) }
 {
-    let m = sets::at_most_64(links);
+    let there = usize::from(links).min(LINK_ROOM);
     let mut known: u64 = 0;
-    for k in 0..m {
-        let i = k as usize;
-        let c = counters[i];
-        known = sets::put(known, k, 1 < c);
+    for (k, c) in counters[..there].iter().enumerate() {
+        known = sets::put(known, k as u8, 1 < *c);
     }
     known
-}
-
-fn no_counters() -> Counters
-    ensures { result ≡ replicate link_room 0 }
-{
-    [0u16; LINK_ROOM]
 }
 
 // The table of a station that knows of no link: every counter 1.
@@ -90,11 +70,7 @@ fn no_counters() -> Counters
 pub fn fresh_counters(links: u8) -> Counters
     ensures { result ≡ fresh_table (min links link_room) }
 {
-    let there = sets::at_most_64(links);
-    let mut counters = no_counters();
-    for k in 0..there {
-        let i = k as usize;
-        counters[i] = 1;
-    }
+    let mut counters = [0; LINK_ROOM];
+    counters[..usize::from(links).min(LINK_ROOM)].fill(1);
     counters
 }
