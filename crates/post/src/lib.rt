@@ -5,16 +5,16 @@
 // Inner doors: the calls are in docs/CALLS.md.
 #![tactic(auto)]
 
-ghost use Rattle.std.specs.Prelude.{◌≡◌, ◌&&◌, List, ℕ, length, if◌then◌else◌};
+ghost use Rattle.std.specs.Prelude.{◌≡◌, ◌&&◌, List, ℕ, length};
 ghost use Rattle.station.specs.Values.{members_of, letters_of};
 ghost use Rattle.post.specs.Links.{some_in, lowest_in, less_lowest};
-ghost use Rattle.post.specs.Post.{begun_post, changed_post, first_left, rest_left};
+ghost use Rattle.post.specs.Post.{begun_post, first_left, rest_left};
 
 use net::{Body, Letter};
 use station::Sending;
 
 // A sending that is being posted: what is left of it.
-#[derive(Clone, Copy)]
+#[derive(Debug, Clone, Copy, PartialEq, Eq)]
 pub struct Post {
     pub requests: u64, // links still to be asked
     pub subjects: u64, // links still to be told of, the lowest of them being told now
@@ -31,13 +31,7 @@ pub struct Post {
 fn size(w: u64) -> u16
     ensures { result ≡ length (members_of w) }
 {
-    u64::count_ones(w) as u16
-}
-
-fn bit(on: bool) -> u16
-    ensures { result ≡ (if on then 1 else 0) }
-{
-    if on { 1 } else { 0 }
+    w.count_ones() as u16
 }
 
 // How many letters the sending means, whoever sends it and whatever table is told.
@@ -46,7 +40,7 @@ pub fn count(send: Sending) -> u16
     ensures { (s : ℕ) (told : List ℕ) → result ≡ length (letters_of s told send) }
 {
     let notices = size(send.subjects) * size(send.ways);
-    size(send.requests) + notices + bit(send.replies)
+    size(send.requests) + notices + u16::from(send.replies)
 }
 
 // ---- sets of links
@@ -55,7 +49,7 @@ pub fn count(send: Sending) -> u16
 fn lowest(w: u64) -> u8
     ensures { result ≡ lowest_in w }
 {
-    let z = u64::trailing_zeros(w);
+    let z = w.trailing_zeros();
     if z < 64 { z as u8 } else { 0 }
 }
 
@@ -63,7 +57,7 @@ fn lowest(w: u64) -> u8
 fn less_lowest(w: u64) -> u64
     ensures { result ≡ less_lowest w }
 {
-    let z = u64::trailing_zeros(w);
+    let z = w.trailing_zeros();
     if z < 64 { w - (1u64 << z) } else { w }
 }
 
@@ -71,10 +65,7 @@ fn less_lowest(w: u64) -> u64
 fn tells(subjects: u64, left: u64) -> bool
     ensures { result ≡ (some_in subjects && some_in left) }
 {
-    if subjects != 0 {
-        return left != 0;
-    }
-    false
+    subjects != 0 && left != 0
 }
 
 // ---- posting
@@ -125,26 +116,10 @@ pub fn first(post: Post, me: u8, counter: u16) -> Letter
             body: Body::Notice(lowest(post.subjects), counter),
         };
     }
-    let link = post.link as u16;
     Letter {
-        link,
+        link: post.link as u16,
         sender,
         body: Body::Reply(post.reply),
-    }
-}
-
-// The same with this still to come.
-fn changed(post: Post, requests: u64, subjects: u64, left: u64, replies: bool) -> Post
-    ensures { result ≡ changed_post post requests subjects left replies }
-{
-    Post {
-        requests,
-        subjects,
-        ways: post.ways,
-        left,
-        replies,
-        reply: post.reply,
-        link: post.link,
     }
 }
 
@@ -154,26 +129,24 @@ pub fn rest(post: Post) -> Post
     ensures { result ≡ rest_left post }
 {
     if post.requests != 0 {
-        return changed(
-            post,
-            less_lowest(post.requests),
-            post.subjects,
-            post.left,
-            post.replies,
-        );
+        return Post {
+            requests: less_lowest(post.requests),
+            ..post
+        };
     }
     if tells(post.subjects, post.left) {
         let less = less_lowest(post.left);
         if less != 0 {
-            return changed(post, post.requests, post.subjects, less, post.replies);
+            return Post { left: less, ..post };
         }
-        return changed(
-            post,
-            post.requests,
-            less_lowest(post.subjects),
-            post.ways, // all of them again
-            post.replies,
-        );
+        return Post {
+            subjects: less_lowest(post.subjects),
+            left: post.ways, // all of them again
+            ..post
+        };
     }
-    changed(post, post.requests, post.subjects, post.left, false)
+    Post {
+        replies: false,
+        ..post
+    }
 }

@@ -1,4 +1,5 @@
-use Rattle.std.proofs.Common.{arith}
+use Rattle.std.proofs.Common.{◌≡◌, if◌then◌else◌, arith}
+use Rattle.std.proofs.lemmas.Grind.{common_steps}
 use Rattle.post.proofs.Counts.{count_made, few, few_notices, one_reply}
 use Rattle.post.proofs.count.Goals as goal
 
@@ -10,13 +11,15 @@ overflow_add-result c = omega (arith, few _ _ c.size-3.ensures, few_notices _ _ 
 
 pub overflow_add-result-2 : goal.overflow_add-result-2
 overflow_add-result-2 c =
+    let reply : c.from.result ≡ (if c.args.send.replies then 1 else 0) = grind (arith, common_steps) in
     omega (
       arith,
-      one_reply c.args.send.replies _ c.bit.ensures,
+      one_reply c.args.send.replies _ reply,
       few _ _ c.size-3.ensures,
       few_notices _ _ _ _ c.size.ensures c.size-2.ensures,
     )
 
 pub returns : goal.returns
 returns c s told =
-    count_made s told c.args.send _ _ _ _ c.size-3.ensures c.size.ensures c.size-2.ensures c.bit.ensures
+    let reply : c.from.result ≡ (if c.args.send.replies then 1 else 0) = grind (arith, common_steps) in
+    count_made s told c.args.send _ _ _ _ c.size-3.ensures c.size.ensures c.size-2.ensures reply
