@@ -16,7 +16,7 @@ pub enum Condition {
 }
 
 // Marks are words, bit k for link k.
-#[derive(Clone, Copy)]
+#[derive(Debug, Clone, Copy, PartialEq, Eq, Default)]
 pub struct Station {
     pub condition: Condition,
     pub counters: Counters,

@@ -2,7 +2,7 @@
 use Rattle.std.specs.Prelude.{if◌then◌else◌}
 use Prim.Native.Nat.{ℕ}
 use mathlib.Core.Bool.{Bool, true, false, not}
-use mathlib.Core.Path.{◌≡◌, refl, sym, ap, ap₂, ◌∙◌, subst⁻¹}
+use mathlib.Core.Path.{◌≡◌, refl, sym, ap, ◌∙◌, subst⁻¹}
 use Rattle.lists.specs.Words.{bit}
 use Rattle.net.specs.declared.Letter.{Letter}
 use Rattle.marks.specs.declared.Words.{Words}
@@ -21,20 +21,21 @@ use Rattle.station_plan.specs.Plans.{plan_of, stays, turns}
 use Rattle.station_plan.specs.Comes.{event_plan, own_plan, EventPlans}
 use Rattle.station_plan.proofs.Laws.{event_plans}
 
-module _ (there : Bool) (e : Kind) (own s k : ℕ) (l : Letter) (c told : ℕ) (x : Condition) (w : Words) (f : Fit w) (r : Plan) where
+module _ (own s k : ℕ) (l : Letter) (c told : ℕ) (x : Condition) (w : Words) (r : Plan) where
   -- the plan, and by the law of the plan what the event comes to
-  abbrev Right : Type 0
-  Right = (r ≡ event_plan there e own s k l c told x w) × EventPlans there e own s k l c told x w r
+  module _ (e : Kind) (f : Fit w) where
+    abbrev Right : Bool → Type 0
+    Right there = (r ≡ event_plan there e own s k l c told x w) × EventPlans there e own s k l c told x w r
 
-  right : r ≡ event_plan there e own s k l c told x w → Right
-  right q = (q, subst⁻¹ (EventPlans there e own s k l c told x w) q (event_plans own s k l c told x w f there e))
+    right : (there : Bool) → r ≡ event_plan there e own s k l c told x w → Right there
+    right there q = (q, subst⁻¹ (EventPlans there e own s k l c told x w) q (event_plans own s k l c told x w f there e))
 
-  pub none_there : there ≡ false → r ≡ stays 6 0 0 x w → Right
-  unfolding event_plan due_of
-  none_there p q = right (rw p q)
+    pub is_there : (there : Bool) → there ≡ true → r ≡ event_plan true e own s k l c told x w → Right there
+    is_there there p q = right there (rw p q)
 
-  pub by_kind : (g : Kind) → there ≡ true → e ≡ g → r ≡ event_plan true g own s k l c told x w → Right
-  by_kind g p i q = right (q ∙ ap₂ (λ (b : Bool) (y : Kind). event_plan b y own s k l c told x w) (sym p) (sym i))
+    pub none_there : (there : Bool) → there ≡ false → r ≡ stays 6 0 0 x w → Right there
+    unfolding event_plan due_of
+    none_there there p q = right there (rw p q)
 
   -- no such event does nothing, and a letter that is lost is dropped
   pub no_such : r ≡ turns x w 0 false → r ≡ event_plan true NoSuch own s k l c told x w

@@ -14,17 +14,17 @@ use Rattle.marks.specs.declared.Marks.{Marks}
 use Rattle.marks.specs.declared.Words.{Words}
 use Rattle.marks.specs.Marks.{marks_at, words_with}
 use Rattle.station.specs.declared.Condition.{Condition}
-use Rattle.station.specs.declared.Condition.TheVariants.{Down, Waiting, Live}
+use Rattle.station.specs.declared.Condition.TheVariants.{Down, Waiting}
 use Rattle.station.specs.declared.Kind.{Kind}
-use Rattle.station.specs.declared.Kind.TheVariants.{Start, Stop, Recovery, IntervalEnd, TimeoutEnd, QuietEnd}
-use Rattle.station.specs.Holding.{no_marks, set_token, set_quiet, is_down, is_waiting}
+use Rattle.station.specs.declared.Kind.TheVariants.{Start, Stop, IntervalEnd, TimeoutEnd}
+use Rattle.station.specs.Holding.{no_marks, set_token, set_quiet, is_down}
 use Rattle.station.specs.Acts.{all_own, other_own, on_link, kept, sets, nothing, notices, Act, act, is_open}
 use Rattle.station.specs.Acts.{may_end, interval_marks, interval_tests, test_ended}
-use Rattle.station.specs.Acts.{start_act, stop_act, recovery_act, interval_act, timeout_act}
+use Rattle.station.specs.Acts.{start_act, stop_act, interval_act, timeout_act}
 use Rattle.station.specs.Events.{counting, Rule, rule_of, due_of}
 use Rattle.station.specs.Values.{no_words}
 use Rattle.station_plan.specs.declared.Plan.{Plan}
-use Rattle.station_plan.specs.Plans.{putting, links_word, marks_by, done_plan, stays, turns, tells}
+use Rattle.station_plan.specs.Plans.{putting, links_word, marks_by, done_plan, turns, tells}
 use Rattle.station_plan.specs.Comes.{event_plan, own_plan}
 
 -- a link whose test failed is kept quiet
@@ -35,10 +35,6 @@ failed m = set_quiet true (test_ended m)
 module _ (e : Kind) (own k c : ℕ) (x : Condition) (w : Words) where
   abbrev ruled : Rule
   ruled = rule_of 0 k (record { link = 0; sender = 0; body = Request }) x (marks_at w k) c 0 e
-
-  pub refused : (r : Plan) → ruled.allowed ≡ false → r ≡ stays 7 0 0 x w → r ≡ own_plan e own k c x w
-  unfolding event_plan due_of
-  refused r n q = rw n q
 
   pub done : (r : Plan) → ruled.allowed ≡ true → ruled.over ≡ false → r ≡ done_plan own w ruled.act ruled.counts
       → r ≡ own_plan e own k c x w
@@ -85,20 +81,11 @@ module _ (x : Condition) (w : Words) where
   pub stop_done : (r : Plan) → is_down x ≡ false → r ≡ turns Down no_words 0 true → r ≡ own_plan Stop 0 0 0 x w
   stop_done r y q = done Stop 0 0 0 x w r (ap not y) refl (q ∙ ap (λ (v : Words). turns Down v 0 true) stopped)
 
-  -- ---- 3. Recovery wait ends
-  pub recovery_done : (own tests : ℕ) (ws : Words) (r : Plan) → is_waiting x ≡ true → ws ≡ marks_by own w recovery_act.marks
-      → tests ≡ links_word own w (all_own interval_tests)
-      → r ≡ turns Live ws tests false → r ≡ own_plan Recovery own 0 0 x w
-  recovery_done own tests ws r y ew et q = done Recovery own 0 0 x w r y refl (q ∙ ap₂ (λ (v : Words) (n : ℕ). turns Live v n false) ew et)
-
   module _ (k : ℕ) where
     -- ---- 4. Interval ends
     module _ (b : Bool) (m : Marks) (em : m ≡ marks_at w k) (eb : b ≡ may_end x m) where
       may : b ≡ may_end x (marks_at w k)
       may = eb ∙ ap (may_end x) em
-
-      pub interval_refused : (r : Plan) → b ≡ false → r ≡ stays 7 0 0 x w → r ≡ own_plan IntervalEnd 0 k 0 x w
-      interval_refused r v q = refused IntervalEnd 0 k 0 x w r (sym may ∙ v) q
 
       nothing_put : putting 0 k false ≡ 0
       nothing_put = sym (by_none (λ t. if eqb t k then false else in_word 0 t) (λ t h. go t (eqb t k)))
@@ -124,11 +111,6 @@ module _ (x : Condition) (w : Words) where
 
     -- ---- 5. Timeout ends
     module _ (own c : ℕ) (e : Bool) (ht : in_word w.testing k ≡ true) (ee : e ≡ even c) where
-      pub timeout_odd : (ws : Words) (r : Plan) → e ≡ false → ws ≡ words_with w k (test_ended (marks_at w k)) → r ≡ turns x ws 0 false
-          → r ≡ own_plan TimeoutEnd own k c x w
-      timeout_odd ws r v ew q =
-          done TimeoutEnd own k c x w r ht refl (rw (sym ee ∙ v) (q ∙ ap (λ (a : Words). turns x a 0 false) ew))
-
       pub timeout_even : (ws : Words) (subjects loud ways up : ℕ) (r : Plan) → e ≡ true → ws ≡ words_with w k (failed (marks_at w k))
           → subjects ≡ putting 0 k true
           → loud ≡ links_word own w (all_own is_open) → ways ≡ putting loud k false → up ≡ timed_out c
@@ -149,8 +131,3 @@ module _ (x : Condition) (w : Words) where
               by_even b =
                   if b then act x (on_link k failed) (sets k (timed_out c) true) (notices k (timed_out c) (other_own k is_open))
                   else act x (on_link k test_ended) kept nothing
-
-    -- ---- 6. Quiet ends
-    pub quiet_done : (ws : Words) (r : Plan) → in_word w.quiet k ≡ true → ws ≡ words_with w k (set_quiet false (marks_at w k))
-        → r ≡ turns x ws 0 false → r ≡ own_plan QuietEnd 0 k 0 x w
-    quiet_done ws r y e q = done QuietEnd 0 k 0 x w r y refl (q ∙ ap (λ (v : Words). turns x v 0 false) e)

@@ -5,7 +5,7 @@ ghost use Rattle.marks.specs.Marks.{marks_at, words_with};
 ghost use Rattle.station.specs.declared.Kind.TheVariants.{Start, Stop, Recovery, IntervalEnd, TimeoutEnd, QuietEnd};
 ghost use Rattle.station.specs.Holding.{is_down, is_waiting, set_quiet};
 ghost use Rattle.station.specs.Acts.{all_own, may_end, interval_marks, interval_tests, test_ended, recovery_act};
-ghost use Rattle.station_plan.specs.Plans.{links_word, marks_by};
+ghost use Rattle.station_plan.specs.Plans.{links_word, marks_by, stays};
 ghost use Rattle.station_plan.specs.Comes.{own_plan, event_plan, EventPlans};
 
 use crate::Here;
@@ -115,124 +115,139 @@ fn may_end(condition: Condition, m: Marks) -> bool
     station_kinds::is_live(condition) && !m.testing && !m.quiet
 }
 
-// 1. Start.
-#[tactic(auto, unfolding(station_plan::specs::Comes::event_plan, station::specs::Events::due_of))]
-fn plan_start(own: u64, condition: Condition, w: Words) -> Plan
-    ensures { result ≡ own_plan Start own 0 0 condition w }
+// What the station's condition or the link's marks do not allow.
+fn refused(here: Here) -> Plan
+    ensures { result ≡ stays 7 0 0 here.condition here.marks }
 {
-    if !station_kinds::is_down(condition) {
-        return crate::staying(7, 0, 0, condition, w);
+    crate::staying(7, 0, 0, here.condition, here.marks)
+}
+
+// 1. Start.
+#[tactic(auto, using(crate::proofs::Small::start_done), unfolding(station_plan::specs::Comes::event_plan, station::specs::Events::due_of))]
+fn plan_start(here: Here) -> Plan
+    ensures { result ≡ own_plan Start here.own 0 0 here.condition here.marks }
+{
+    if !station_kinds::is_down(here.condition) {
+        return refused(here);
     }
     let token = Words {
-        token: own,
-        turn: 0,
-        testing: 0,
-        asked: 0,
-        quiet: 0,
+        token: here.own,
+        ..Words::default()
     };
     crate::turning(Condition::Waiting, token, 0, false)
 }
 
 // 2. Stop.
-#[tactic(auto, unfolding(station_plan::specs::Comes::event_plan, station::specs::Events::due_of))]
-fn plan_stop(condition: Condition, w: Words) -> Plan
-    ensures { result ≡ own_plan Stop 0 0 0 condition w }
+#[tactic(auto, using(crate::proofs::Small::stop_done), unfolding(station_plan::specs::Comes::event_plan, station::specs::Events::due_of))]
+fn plan_stop(here: Here) -> Plan
+    ensures { result ≡ own_plan Stop 0 0 0 here.condition here.marks }
 {
-    if station_kinds::is_down(condition) {
-        return crate::staying(7, 0, 0, condition, w);
+    if station_kinds::is_down(here.condition) {
+        return refused(here);
     }
-    let none = Words {
-        token: 0,
-        turn: 0,
-        testing: 0,
-        asked: 0,
-        quiet: 0,
-    };
-    crate::turning(Condition::Down, none, 0, true)
+    crate::turning(Condition::Down, Words::default(), 0, true)
 }
 
 // 3. The recovery wait ends.
 #[tactic(auto, unfolding(station_plan::specs::Comes::event_plan, station::specs::Events::due_of))]
-fn plan_recovery(own: u64, condition: Condition, w: Words) -> Plan
-    ensures { result ≡ own_plan Recovery own 0 0 condition w }
+fn plan_recovery(here: Here) -> Plan
+    ensures { result ≡ own_plan Recovery here.own 0 0 here.condition here.marks }
 {
-    if !station_kinds::is_waiting(condition) {
-        return crate::staying(7, 0, 0, condition, w);
+    if !station_kinds::is_waiting(here.condition) {
+        return refused(here);
     }
-    let requests = tests_on(own, w);
-    let after = recovered_words(own, w);
+    let requests = tests_on(here.own, here.marks);
+    let after = recovered_words(here.own, here.marks);
     crate::turning(Condition::Live, after, requests, false)
 }
 
-// 4. An interval ends on link k.
+// 4. An interval ends on the link.
 #[tactic(auto, unfolding(station_plan::specs::Comes::event_plan, station::specs::Events::due_of))]
-fn plan_interval(k: u8, condition: Condition, w: Words) -> Plan
-    ensures { result ≡ own_plan IntervalEnd 0 k 0 condition w }
+fn plan_interval(here: Here) -> Plan
+    ensures { result ≡ own_plan IntervalEnd 0 here.link 0 here.condition here.marks }
 {
-    let m = marks::marks_at(w, k);
-    if !may_end(condition, m) {
-        return crate::staying(7, 0, 0, condition, w);
+    let m = marks::marks_at(here.marks, here.link);
+    if !may_end(here.condition, m) {
+        return refused(here);
     }
-    let requests = sets::put(0, k, tests_now(m));
-    let after = marks::with_marks(w, k, interval_marks(m));
-    crate::turning(condition, after, requests, false)
+    let requests = sets::put(0, here.link, tests_now(m));
+    let after = marks::with_marks(here.marks, here.link, interval_marks(m));
+    crate::turning(here.condition, after, requests, false)
 }
 
-// 5. A timeout ends on link k, whose counter is c. A link that worked is raised, told of and kept quiet; what is out of reach then is
-// purged.
+// 5. A timeout ends on the link. One that worked is raised, told of and kept quiet; what is out of reach then is purged.
 #[tactic(auto, unfolding(station_plan::specs::Comes::event_plan, station::specs::Events::due_of))]
-fn plan_timeout(own: u64, k: u8, c: u16, condition: Condition, w: Words) -> Plan
-    ensures { result ≡ own_plan TimeoutEnd own k c condition w }
+fn plan_timeout(here: Here) -> Plan
+    ensures { result ≡ own_plan TimeoutEnd here.own here.link here.counter here.condition here.marks }
 {
-    if !sets::has(w.testing, k) {
-        return crate::staying(7, 0, 0, condition, w);
+    if !sets::has(here.marks.testing, here.link) {
+        return refused(here);
     }
-    if !counters::is_even(c) {
-        return crate::turning(condition, ended_words(w, k), 0, false);
+    if !counters::is_even(here.counter) {
+        let after = ended_words(here.marks, here.link);
+        return crate::turning(here.condition, after, 0, false);
     }
-    let after = failed_words(w, k);
-    let subjects = sets::put(0, k, true);
-    let ways = sets::put(sets::without(own, w.quiet), k, false); // every other own link
+    let after = failed_words(here.marks, here.link);
+    let subjects = sets::put(0, here.link, true);
+    let ways = sets::put(sets::without(here.own, here.marks.quiet), here.link, false); // every other own link
     let raised = crate::counted(0, 1);
     // a link that failed may have cut others off: purge
-    let up = counters::timed_out(c);
-    crate::telling(condition, after, k, up, true, false, subjects, ways, raised)
+    let up = counters::timed_out(here.counter);
+    crate::telling(
+        here.condition,
+        after,
+        here.link,
+        up,
+        true,
+        false,
+        subjects,
+        ways,
+        raised,
+    )
 }
 
-// 6. Quiet ends on link k.
+// 6. Quiet ends on the link.
 #[tactic(auto, unfolding(station_plan::specs::Comes::event_plan, station::specs::Events::due_of))]
-fn plan_quiet_end(k: u8, condition: Condition, w: Words) -> Plan
-    ensures { result ≡ own_plan QuietEnd 0 k 0 condition w }
+fn plan_quiet_end(here: Here) -> Plan
+    ensures { result ≡ own_plan QuietEnd 0 here.link 0 here.condition here.marks }
 {
-    if !sets::has(w.quiet, k) {
-        return crate::staying(7, 0, 0, condition, w);
+    if !sets::has(here.marks.quiet, here.link) {
+        return refused(here);
     }
-    crate::turning(condition, loud_words(w, k), 0, false)
+    crate::turning(here.condition, loud_words(here.marks, here.link), 0, false)
 }
 
 // ---- any event
 
+// What an event of this kind comes to where what it names is there.
+#[tactic(auto, using(crate::proofs::ByKind::no_such, crate::proofs::ByKind::is_start, crate::proofs::ByKind::is_stop, crate::proofs::ByKind::is_recovery, crate::proofs::ByKind::is_interval, crate::proofs::ByKind::is_timeout, crate::proofs::ByKind::is_quiet_end, crate::proofs::ByKind::lost))]
+fn plan_kind(kind: Kind, letter: Letter, here: Here) -> Plan
+    ensures { result ≡ event_plan true kind here.own here.me here.link letter here.counter here.told here.condition here.marks }
+{
+    match kind {
+        Kind::NoSuch => crate::turning(here.condition, here.marks, 0, false),
+        Kind::Start => plan_start(here),
+        Kind::Stop => plan_stop(here),
+        Kind::Recovery => plan_recovery(here),
+        Kind::IntervalEnd => plan_interval(here),
+        Kind::TimeoutEnd => plan_timeout(here),
+        Kind::QuietEnd => plan_quiet_end(here),
+        Kind::Delivery => crate::plan_letter(letter, here),
+        Kind::Loss => crate::staying(0, crate::settled_by(letter), 1, here.condition, here.marks),
+    }
+}
+
 // What the event comes to at the station that is here. there: whether what it names is there.
 // Promise: equals `Comes.event_plan` of the words given: 6 where what the event names is not there, 7, 8, or what is done; and at every
 // station that has these words this is what the event comes to there, by document 01 (`Comes.EventPlans`: `due_of` of `rule_at`).
+#[tactic(auto, using(crate::proofs::ByKind::is_there))]
 pub fn plan_event(there: bool, kind: Kind, letter: Letter, here: Here) -> Plan
     ensures { (result ≡ event_plan there kind here.own here.me here.link letter here.counter here.told here.condition here.marks)
         × EventPlans there kind here.own here.me here.link letter here.counter here.told here.condition here.marks result }
 {
-    let condition = here.condition;
-    let marks = here.marks;
-    if !there {
-        return crate::staying(6, 0, 0, condition, marks);
-    }
-    match kind {
-        Kind::NoSuch => crate::turning(condition, marks, 0, false),
-        Kind::Start => plan_start(here.own, condition, marks),
-        Kind::Stop => plan_stop(condition, marks),
-        Kind::Recovery => plan_recovery(here.own, condition, marks),
-        Kind::IntervalEnd => plan_interval(here.link, condition, marks),
-        Kind::TimeoutEnd => plan_timeout(here.own, here.link, here.counter, condition, marks),
-        Kind::QuietEnd => plan_quiet_end(here.link, condition, marks),
-        Kind::Delivery => crate::plan_letter(letter, here),
-        Kind::Loss => crate::staying(0, crate::settled_by(letter), 1, condition, marks),
+    if there {
+        plan_kind(kind, letter, here)
+    } else {
+        crate::staying(6, 0, 0, here.condition, here.marks)
     }
 }

@@ -26,7 +26,7 @@ use tally::Tally;
 
 // What the plan of an event is made from: the station, by its links and its number; the link that the event is about, with its counter;
 // the counter of the link that the letter tells of; and the station's condition and marks.
-#[derive(Clone, Copy)]
+#[derive(Debug, Clone, Copy, PartialEq, Eq, Default)]
 pub struct Here {
     pub own: u64,
     pub me: u8,
@@ -44,20 +44,14 @@ fn turning(condition: Condition, marks: Words, requests: u64, resets: bool) -> P
     ensures { result ≡ turns condition marks requests resets }
 {
     Plan {
-        answer: 0,
         condition,
         marks,
         resets,
-        sets: false,
-        at: 0,
-        counter: 0,
-        purges: false,
-        knows: false,
         sends: Sending {
             requests,
             ..Sending::default()
         },
-        counts: Tally::default(),
+        ..Plan::default()
     }
 }
 
@@ -67,13 +61,15 @@ fn staying(number: u8, settled: u64, dropped: u64, condition: Condition, marks: 
 {
     Plan {
         answer: number,
+        condition,
+        marks,
         sends: Sending::default(), // silence
         counts: Tally {
             settled,
             dropped,
             ..Tally::default()
         },
-        ..turning(condition, marks, 0, false)
+        ..Plan::default()
     }
 }
 
@@ -92,6 +88,8 @@ fn telling(
     ensures { result ≡ tells condition marks at counter purges knows subjects ways counts }
 {
     Plan {
+        condition,
+        marks,
         sets: true, // or what is told would not be so here
         at,
         counter,
@@ -103,7 +101,7 @@ fn telling(
             ..Sending::default() // nobody is asked
         },
         counts,
-        ..turning(condition, marks, 0, false)
+        ..Plan::default()
     }
 }
 
@@ -219,6 +217,8 @@ fn plan_answer(settled: u64, here: Here) -> Plan
     let down = !counters::is_even(here.counter);
     let others = sets::put(u64::MAX, here.link, false);
     Plan {
+        condition: here.condition,
+        marks: requested_words(here.marks, here.link),
         knows: down,
         sends: Sending {
             requests: 0,

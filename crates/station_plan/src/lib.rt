@@ -9,7 +9,7 @@ use station::{Condition, Sending};
 use tally::Tally;
 
 // A plan: the number that says no, or 0 and what becomes of the station, what it sends, and what is added to the tally.
-#[derive(Clone, Copy)]
+#[derive(Debug, Clone, Copy, PartialEq, Eq, Default)]
 pub struct Plan {
     pub answer: u8,
     pub condition: Condition,

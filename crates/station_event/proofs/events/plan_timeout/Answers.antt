@@ -4,8 +4,8 @@ use Rattle.station_event.proofs.events.plan_timeout.Goals as goal
 
 pub returns : goal.returns
 returns c =
-    let a = c.args in
-    timeout_even a.condition a.w a.k a.own a.c _ (sym c.has.ensures ∙ c.if-not-has.false)
+    let h = c.args.here in
+    timeout_even h.condition h.marks h.link h.own h.counter _ (sym c.has.ensures ∙ c.if-not-has.false)
     c.is_even.ensures _ _ _ _ _ _ c.if-not-is_even.false
     c.failed_words-after.ensures c.put-subjects.ensures c.without.ensures c.put-ways.ensures c.timed_out-up.ensures
     (cc)
