@@ -8,7 +8,7 @@ use mathlib.Core.Path.{◌≡◌, refl, sym, ap, ap₂, ◌∙◌, subst, subst�
 use mathlib.Core.List.{List, ◌++◌}
 use native.Mathlib.Decide.{ℕ_discrete, dec_lt}
 use native.Mathlib.Omega.{arith}
-use borrow.Author.Tests.{lt-ltb, le-ltb}
+use borrow.Author.Tests.{le-ltb}
 use lib.Dec.{T, ltb}
 use lib.ListN.{length, get_or, set, take}
 use lib.Seq.{set_out, get_or-set_same}
@@ -48,7 +48,8 @@ use Rattle.run_rooms.specs.declared.Held.{Held}
 use Rattle.run_rooms.specs.Rooms.{held_by, no_held, held_in, side_by_side, table_in, with_table, station_by, spare_room, moving_room}
 use Rattle.run_rooms.specs.Rooms.{moving_in, stations_in, in_flight, letters_in, state_in}
 use Rattle.run_rooms.proofs.Loops.{counter_of}
-use Rattle.run_rooms.proofs.Moves.{Falling, fallen, Rising, risen}
+use Rattle.std.specs.List.{CopiedTo, SameBelow, SameFrom}
+use Rattle.run_rooms.proofs.Moves.{fallen, risen}
 use Rattle.run_rooms.proofs.Parts.{whole, counter_in_lem, length_table, station_in_lem, Elsewhere, nowhere, both_elsewhere}
 use Rattle.run_rooms.proofs.Parts.{set_elsewhere, set_table, put_elsewhere, put_table, stored_in}
 use Rattle.backlog_rules.proofs.Threes.{stopped_at}
@@ -114,9 +115,6 @@ module _ (s : State) (held : List Held) (tables : List ℕ) (room : List Letter)
       }
 
 -- ---- the table that is told, once its counter is set
-clash : true ≡ false → ⊥
-clash e = let z : ◌≡◌ {A = ℕ} 0 1 = cc in omega arith
-
 abbrev pub telling : List ℕ → ℕ → Plan → List ℕ
 telling tables me p = told_by p.sets p.at p.counter (table_in tables me)
 
@@ -124,41 +122,31 @@ pub record Told (tables new : List ℕ) (me : ℕ) (told : List ℕ) : Type 0 wh
   pub others : Elsewhere tables new me
   pub mine : table_in new me ≡ told
 
--- where a counter is set, it has a place in the table
-pub at_few : (sets : Bool) (at : ℕ) → (sets && ltb at link_room) ≡ true → at < link_room
-at_few false at e = absurd (clash (sym e))
-at_few true at e = go (dec_lt at link_room)
-  where
-    go : Dec (at < link_room) → at < link_room
-    go (yes h) = h
-    go (no h) = absurd (clash (sym e ∙ le-ltb at link_room (omega (arith, h))))
-
 module _ (tables : List ℕ) (me at c : ℕ) (room : link_room * me + link_room ≤ length tables) where
-  pub told_set : (sets : Bool) → (sets && ltb at link_room) ≡ true → (new : List ℕ) → new ≡ set tables (link_room * me + at) c
-      → Told tables new me (told_by sets at c (table_in tables me))
-  told_set false e new is = absurd (clash (sym e))
-  told_set true e new is =
-      let h = at_few true at e in
-      subst⁻¹ (λ (l : List ℕ). Told tables l me (set (table_in tables me) at c)) is (record {
+  abbrev told : Bool → List ℕ
+  told sets = told_by sets at c (table_in tables me)
+
+  pub told_set : (sets : Bool) → sets ≡ true → at < link_room → (new : List ℕ) → new ≡ set tables (link_room * me + at) c
+      → Told tables new me (told sets)
+  told_set sets e h new is =
+      subst⁻¹ (λ (b : Bool). Told tables new me (told b)) e
+      (subst⁻¹ (λ (l : List ℕ). Told tables l me (told true)) is (record {
         others = set_elsewhere tables me at c h (omega (arith, room, h));
         mine = set_table tables me at c h (omega (arith, room, h));
-      })
+      }))
 
-  as_is : (sets : Bool) → (sets && ltb at link_room) ≡ false → Told tables tables me (told_by sets at c (table_in tables me))
-  as_is false e = record { others = nowhere tables me; mine = refl }
-  as_is true e = go (dec_lt at link_room)
-    where
-      go : Dec (at < link_room) → Told tables tables me (set (table_in tables me) at c)
-      go (yes h) = absurd (clash (sym (lt-ltb at link_room h) ∙ e))
-      go (no h) =
-          record {
-            others = nowhere tables me;
-            mine = sym (set_out (table_in tables me) at c (omega (arith, h, length_table tables me)));
-          }
+  as_is : (sets : Bool) (new : List ℕ) → new ≡ tables → table_in tables me ≡ told sets → Told tables new me (told sets)
+  as_is sets new is same =
+      subst⁻¹ (λ (l : List ℕ). Told tables l me (told sets)) is (record { others = nowhere tables me; mine = same })
 
-  pub told_as_is : (sets : Bool) → (sets && ltb at link_room) ≡ false → (new : List ℕ) → new ≡ tables
-      → Told tables new me (told_by sets at c (table_in tables me))
-  told_as_is sets e new is = subst⁻¹ (λ (l : List ℕ). Told tables l me (told_by sets at c (table_in tables me))) is (as_is sets e)
+  pub told_none : (sets : Bool) → sets ≡ false → (new : List ℕ) → new ≡ tables → Told tables new me (told sets)
+  told_none sets e new is = as_is sets new is (sym (ap told e))
+
+  -- a place that the table doesn't have
+  pub told_past : (sets : Bool) → link_room ≤ at → (new : List ℕ) → new ≡ tables → Told tables new me (told sets)
+  told_past true h new is =
+      as_is true new is (sym (set_out (table_in tables me) at c (omega (arith, h, length_table tables me))))
+  told_past false h new is = as_is false new is refl
 
 -- ---- the table that is kept
 pub table_kept : (tables : List ℕ) (me : ℕ) (told kept kept₁ new : List ℕ) → link_room * me + link_room ≤ length tables
@@ -174,6 +162,9 @@ table_stays tables me kept new e is =
     subst⁻¹ (λ (l : List ℕ). Told tables l me kept) is (record { others = nowhere tables me; mine = e })
 
 -- ---- the letters that are left, once the one that leaves is gone
+clash : true ≡ false → ⊥
+clash e = let z : ◌≡◌ {A = ℕ} 0 1 = cc in omega arith
+
 pub front_few : (start place left : ℕ) → (ltb start spare_room && ltb place (left - place)) ≡ true → start < spare_room
 front_few start place left e = go (dec_lt start spare_room)
   where
@@ -278,12 +269,12 @@ module _ (net : Net) (held : List Held) (tables : List ℕ) (room : List Letter)
 
   -- the letters that are left: without the one that leaves, or all
   pub one_leaves : r.left < flying
-      → (place ≤ r.left) × (without place (in_flight room start (r.left + 1)) ≡ left_letters f q)
+      → (place ≤ r.left) × ((without place (in_flight room start (r.left + 1)) ≡ left_letters f q) × (r.left + 1 ≡ flying))
   one_leaves h =
       ⊎_elim
       (λ w. (
         omega (arith, w.1.0, w.1.1),
-        ap (λ (k : ℕ). without place (in_flight room start k)) w.1.1 ∙ ap (without place) (sym letters_are) ∙ sym w.0,
+        (ap (λ (k : ℕ). without place (in_flight room start k)) w.1.1 ∙ ap (without place) (sym letters_are) ∙ sym w.0, w.1.1),
       ))
       (λ w. absurd (never w.1))
       (left_cases f q)
@@ -310,25 +301,27 @@ module _ (net : Net) (held : List Held) (tables : List ℕ) (room : List Letter)
           size = ap length i ∙ size;
         }
 
-    pub front_closed : r.left < flying → start < spare_room → {at i : ℕ} {l : List Letter} → Rising room at l i → at ≡ start + place
-        → i ≡ place → (room₁ : List Letter) (start₁ : ℕ) → room₁ ≡ l → start₁ ≡ start + 1
-        → Closed (left_letters f q) r.left room₁ start₁
-    front_closed h few g p k room₁ start₁ i j =
+    pub front_closed : r.left < flying → start < spare_room → (l : List Letter) (n : ℕ) → length l ≡ length room
+        → CopiedTo room l start (start + 1) n → SameFrom room l (start + 1 + n) → n ≡ place → (room₁ : List Letter) (start₁ : ℕ)
+        → room₁ ≡ l → start₁ ≡ start + 1 → Closed (left_letters f q) r.left room₁ start₁
+    front_closed h few l n same moved behind k room₁ start₁ i j =
         record {
-          window = ap₂ (λ (l : List Letter) (k : ℕ). in_flight l k r.left) i j ∙ risen g start place r.left p k (one_leaves h).0
-              ∙ (one_leaves h).1;
+          window = ap₂ (λ (l : List Letter) (k : ℕ). in_flight l k r.left) i j
+              ∙ risen room l start n moved behind place r.left k (one_leaves h).0 ∙ (one_leaves h).1.0;
           front = omega (arith, few, j);
-          size = ap length i ∙ g.size ∙ size;
+          size = ap length i ∙ same ∙ size;
         }
 
-    pub back_closed : r.left < flying → {at i : ℕ} {l : List Letter} → Falling room at l i → at ≡ start + place → i ≡ start + r.left
-        → (room₁ : List Letter) (start₁ : ℕ) → room₁ ≡ l → start₁ ≡ start → Closed (left_letters f q) r.left room₁ start₁
-    back_closed h g p k room₁ start₁ i j =
+    pub back_closed : r.left < flying → (l : List Letter) (at n : ℕ) → length l ≡ length room → CopiedTo room l (at + 1) at n
+        → SameBelow room l at → at ≡ start + place → at + n + 1 ≡ start + flying → (room₁ : List Letter) (start₁ : ℕ) → room₁ ≡ l
+        → start₁ ≡ start → Closed (left_letters f q) r.left room₁ start₁
+    back_closed h l at n same moved before p k room₁ start₁ i j =
+        let few = one_leaves h in
         record {
-          window = ap₂ (λ (l : List Letter) (k : ℕ). in_flight l k r.left) i j ∙ fallen g start place r.left p k (one_leaves h).0
-              ∙ (one_leaves h).1;
+          window = ap₂ (λ (l : List Letter) (k : ℕ). in_flight l k r.left) i j
+              ∙ fallen room l at n moved before start place r.left p (omega (arith, k, few.1.1)) few.0 ∙ few.1.0;
           front = omega (arith, front, j);
-          size = ap length i ∙ g.size ∙ size;
+          size = ap length i ∙ same ∙ size;
         }
 
   -- the table that it leaves has its room: the state after it is well formed

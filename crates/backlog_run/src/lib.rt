@@ -5,7 +5,7 @@
 // can be spared.
 #![tactic(auto)]
 
-ghost use Rattle.std.specs.Prelude.{◌≡◌, ◌&&◌, ◌||◌, [], ◌∷◌, ◌*◌, ◌-◌, ltb, if◌then◌else◌};
+ghost use Rattle.std.specs.Prelude.{◌≡◌, ◌&&◌, [], ◌∷◌, ◌*◌, ◌-◌, ltb, if◌then◌else◌};
 ghost use Rattle.world.specs.World.{no_letter};
 ghost use Rattle.fields.specs.Output.{writing_output};
 ghost use Rattle.text.specs.Text.{put_at};
@@ -13,19 +13,20 @@ ghost use Rattle.step_rules.proofs.Bridge.{Good};
 ghost use Rattle.run_rooms.specs.Rooms.{spare_room};
 ghost use Rattle.backlog_rules.specs.Backlog.{backlog_of};
 ghost use Rattle.backlog_rules.specs.Answers.{tracing, answered_by};
-ghost use Rattle.backlog_run.specs.Events.{asked_at, event_count, Went};
+ghost use Rattle.backlog_run.specs.Events.{asking, asked_at, event_count, Went};
 
 use backlog_rules::{Answered, Taken};
-use net::{Body, LINK_ROOM, Letter, MOST_LINKS};
+use net::{LINK_ROOM, Letter, MOST_LINKS};
 use run_rooms::{Held, SPARE_ROOM};
 use state::State;
 use station::Kind;
+use station_event::Here;
 use tally::Tally;
 
 // ---- the list of events
 
 // The three numbers of an event; which kind the first says, and the place of the letter that the second may name.
-#[derive(Clone, Copy)]
+#[derive(Debug, Clone, Copy, PartialEq, Eq)]
 struct Asked {
     kind: u32,
     a: u32,
@@ -34,24 +35,9 @@ struct Asked {
     place: usize,
 }
 
-// One or two numbers left over at the end of the list are an event that names nothing: there is no kind 0.
-#[tactic(auto, unfolding(crate::specs::Events::asked_at))]
-fn event_at(events: &[u32], i: usize) -> Asked
-    ensures { result ≡ asked_at events.now i }
+fn asking(kind: u32, a: u32, b: u32) -> Asked
+    ensures { result ≡ asking kind a b }
 {
-    if events.len() / 3 <= i {
-        return Asked {
-            kind: 0,
-            a: 0,
-            b: 0,
-            what: station_kinds::kind_of(0),
-            place: step_parts::place_of(0),
-        };
-    }
-    let first = 3 * i;
-    let kind = events[first];
-    let a = events[first + 1];
-    let b = events[first + 2];
     Asked {
         kind,
         a,
@@ -61,16 +47,23 @@ fn event_at(events: &[u32], i: usize) -> Asked
     }
 }
 
+// One or two numbers left over at the end of the list are an event that names nothing: there is no kind 0.
+#[tactic(auto, unfolding(crate::specs::Events::asked_at))]
+fn event_at(events: &[u32], i: usize) -> Asked
+    ensures { result ≡ asked_at events.now i }
+{
+    if events.len() / 3 <= i {
+        return asking(0, 0, 0);
+    }
+    asking(events[3 * i], events[3 * i + 1], events[3 * i + 2])
+}
+
 // How many events so many numbers are.
 #[tactic(auto, unfolding(crate::specs::Events::event_count))]
 fn event_count(size: usize) -> usize
     ensures { result ≡ event_count size }
 {
-    if size % 3 == 0 {
-        size / 3
-    } else {
-        size / 3 + 1
-    }
+    size.div_ceil(3)
 }
 
 // What stands in the trace for event i: its answer, the letters in flight after it, the notices settled so far. A trace that has no room
@@ -82,16 +75,7 @@ fn put_turn(trace: &mut [u64], i: usize, answer: u8, flying: u16, settled: u64)
     if trace.len() / 3 <= i {
         return;
     }
-    let first = 3 * i;
-    trace[first] = answer as u64;
-    trace[first + 1] = flying as u64;
-    trace[first + 2] = settled;
-}
-
-fn either(a: bool, b: bool) -> bool
-    ensures { result ≡ (a || b) }
-{
-    if a { true } else { b }
+    trace[3 * i..3 * i + 3].copy_from_slice(&[answer as u64, flying as u64, settled]);
 }
 
 // ---- the call
@@ -100,44 +84,29 @@ fn either(a: bool, b: bool) -> bool
 fn in_flight(flies: bool, y: Letter) -> Letter
     ensures { result ≡ (if flies then y else no_letter) }
 {
-    if flies {
-        return y;
-    }
-    Letter {
-        link: 0,
-        sender: 0,
-        body: Body::Request,
-    }
+    if flies { y } else { Letter::default() }
 }
 
 // Whether the front of the letters in flight closes up where one leaves: it is the shorter side, and has room to move up to.
 fn front_closes(place: usize, left: u16, start: usize) -> bool
     ensures { result ≡ (ltb start spare_room && ltb place (left - place)) }
 {
-    if SPARE_ROOM <= start {
-        return false;
-    }
-    let behind = left as usize;
-    if behind < place {
-        return false;
-    }
-    place < behind - place
+    start < SPARE_ROOM && place < (left as usize).saturating_sub(place)
 }
 
 // The events of a state that is well formed. Between the first and the last of them the state is held in parts: what the stations hold
 // beside their tables; the tables of all of them side by side, so that no event copies one; and the letters in flight anywhere in their
 // room, so that where one leaves, the shorter side closes up. It stops at the first refused event, or goes on.
+// Stays: a closure in place of `stops` is no plainer: it would answer that same flag, once for each refused event.
 fn take_events(s: State, t: Tally, events: &[u32], stops: bool, trace: &mut [u64]) -> Taken
     requires { Good s }
     ensures { Went stops s t events.now trace.old result trace.new }
 {
     let net = s.net;
     let owns = marks::own_words(net); // the same for every event, so they are found once
-    let stations = s.stations;
-    let mut held = run_rooms::held_of(stations);
-    let mut tables = run_rooms::tables_of(stations);
-    let letters = s.letters;
-    let mut room = run_rooms::moving_room(letters);
+    let mut held = run_rooms::held_of(s.stations);
+    let mut tables = run_rooms::tables_of(s.stations);
+    let mut room = run_rooms::moving_room(s.letters);
     let mut start: usize = 0;
     let mut flying = s.flying;
     let mut tally = t;
@@ -148,8 +117,7 @@ fn take_events(s: State, t: Tally, events: &[u32], stops: bool, trace: &mut [u64
         let what = e.what;
         let place = e.place;
         let at = start + place;
-        let y = room[at];
-        let x = in_flight(place < flying as usize, y);
+        let x = in_flight(place < flying as usize, room[at]);
         let names = step_parts::names_of(net, flying, what, e.a, e.b, x);
         let me = names.station;
         // what it comes to at the station that it concerns
@@ -158,19 +126,19 @@ fn take_events(s: State, t: Tally, events: &[u32], stops: bool, trace: &mut [u64
         let on = first + names.link as usize;
         let of = first + names.subject as usize;
         let h = held[who];
-        let condition = h.condition;
-        let marks = h.marks;
         let plan = station_event::events::plan_event(
             names.there,
             what,
-            owns[who],
-            me,
-            names.link,
             x,
-            tables[on],
-            tables[of],
-            condition,
-            marks,
+            Here {
+                own: owns[who],
+                me,
+                link: names.link,
+                counter: tables[on],
+                told: tables[of],
+                condition: h.condition,
+                marks: h.marks,
+            },
         );
         // what is sent; a table is copied only where it is looked through
         let mut send = plan.sends;
@@ -202,7 +170,7 @@ fn take_events(s: State, t: Tally, events: &[u32], stops: bool, trace: &mut [u64
             continue;
         }
         // nothing refuses it: from here on the parts are changed
-        if sets::both(plan.sets, plan.at < MOST_LINKS) {
+        if plan.sets && plan.at < MOST_LINKS {
             let set = first + plan.at as usize;
             tables[set] = plan.counter;
         }
@@ -210,42 +178,30 @@ fn take_events(s: State, t: Tally, events: &[u32], stops: bool, trace: &mut [u64
         if fate.left < flying {
             // a letter leaves, and the shorter side closes up
             if front_closes(place, fate.left, start) {
-                for i in 0..place {
-                    let to = at - i;
-                    let z = room[to - 1];
-                    room[to] = z;
-                }
-                start = start + 1;
+                room.copy_within(start..at, start + 1);
+                start += 1;
             } else {
-                let end = start + left;
-                for i in at..end {
-                    let z = room[i + 1];
-                    room[i] = z;
-                }
+                room.copy_within(at + 1..start + flying as usize, at);
             }
         }
         // new letters go to the end
         let behind = start + left;
         let mut post = post::begun(send);
-        for i in 0..count {
-            let to = behind + i as usize;
+        for z in room[behind..behind + count as usize].iter_mut() {
             let subject = first + post::subject(post) as usize;
-            let z = post::first(post, me, tables[subject]);
-            room[to] = z;
+            *z = post::first(post, me, tables[subject]);
             post = post::rest(post);
         }
         flying = fate.left + count;
         // the table is purged last, since what is told is told as it was before
-        if either(plan.resets, plan.purges) {
+        if plan.resets || plan.purges {
             let table = run_rooms::table_at(&tables, me);
             let kept = station_table::kept_table(net, me, plan.resets, plan.purges, table);
             run_rooms::put_table(&mut tables, me, kept);
         }
-        let turned = plan.condition;
-        let marked = plan.marks;
         held[who] = Held {
-            condition: turned,
-            marks: marked,
+            condition: plan.condition,
+            marks: plan.marks,
         };
         tally = tally::added(tally, plan.counts);
         put_turn(trace, taken, 0, flying, tally.settled);
@@ -279,8 +235,7 @@ pub fn run_backlog(s: State, t: Tally, events: &[u32]) -> Taken
             state: s,
         };
     }
-    let mut none = [0u64; 1];
-    take_events(s, t, events, true, &mut none[..0])
+    take_events(s, t, events, true, &mut [])
 }
 
 // Many events, three numbers each, and a tally by value. A refused event changes nothing, and it goes on. A bad state is 11; a trace that
@@ -306,11 +261,9 @@ pub fn run_with_answers(s: State, t: Tally, events: &[u32], trace: &mut [u64]) -
         };
     }
     let done = take_events(s, t, events, false, trace);
-    let sums = done.tally;
-    let after = done.state;
     Answered {
         answer: 0,
-        tally: sums,
-        state: after,
+        tally: done.tally,
+        state: done.state,
     }
 }

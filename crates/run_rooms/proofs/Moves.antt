@@ -2,10 +2,11 @@
 use Prim.Native.Nat.{ℕ, zero, suc, ◌+◌, ◌-◌, ◌≤◌, ◌<◌}
 use mathlib.Core.Path.{◌≡◌, refl, sym, ap, ap₂, ◌∙◌}
 use mathlib.Core.List.{List, ◌∷◌, ◌++◌, map}
-use native.Mathlib.Decide.{ℕ_discrete, dec_lt}
+use native.Mathlib.Decide.{dec_lt}
 use native.Mathlib.Omega.{arith}
-use lib.ListN.{length, get_or, set, length-set, length-append, get_or-append}
-use lib.Seq.{get_or-set_same, get_or-set_other, get_or-append-add}
+use lib.ListN.{length, get_or, length-append, get_or-append}
+use lib.Seq.{get_or-append-add}
+use Rattle.std.specs.List.{CopiedTo, SameBelow, SameFrom}
 use Rattle.lists.specs.Lists.{from, below}
 use Rattle.lists.specs.Places.{without}
 use Rattle.lists.proofs.Fill.{by_places, map_below_same}
@@ -33,118 +34,27 @@ module _ {A : Type 0} where
       (λ j l. ap g (omega arith) ∙ a (suc j) (omega arith) ∙ ap f (omega arith))
       (λ j k l. ap g (omega arith) ∙ b (suc j) (omega arith) (omega arith) ∙ ap f (omega arith)))
 
--- ---- those behind place `at` close up, as far as place i
-pub record Falling (old : List Letter) (at : ℕ) (l : List Letter) (i : ℕ) : Type 0 where
-  pub begun : at ≤ i
-  pub size : length l ≡ length old
-  pub before : (j : ℕ) → j < at → get_or l j no_letter ≡ get_or old j no_letter
-  pub moved : (j : ℕ) → at ≤ j → j < i → get_or l j no_letter ≡ get_or old (j + 1) no_letter
-  pub behind : (j : ℕ) → i ≤ j → get_or l j no_letter ≡ get_or old j no_letter
+-- ---- those behind place `at` close up, n of them: those in flight are without the one that left
+pub fallen : (old l : List Letter) (at n : ℕ) → CopiedTo old l (at + 1) at n → SameBelow old l at → (start place many : ℕ)
+    → at ≡ start + place → at + n ≡ start + many → place ≤ many → in_flight l start many ≡ without place (in_flight old start (many + 1))
+fallen old l at n moved before start place many p q h =
+    let one : suc many ≡ many + 1 = omega arith in
+    without_from place many 0 (λ j. get_or old (start + j) no_letter) (λ j. get_or l (start + j) no_letter) h
+    (λ j k. before (start + (0 + j)) no_letter (omega (arith, k, p)))
+    (λ j k m. moved (start + (0 + j)) no_letter (omega (arith, k, p)) (omega (arith, m, q))
+    ∙ ap (λ (n : ℕ). get_or old n no_letter) (omega (arith, k, p)))
+    ∙ ap (λ (n : ℕ). without place (in_flight old start n)) one
 
-pub falls_none : (old : List Letter) (at : ℕ) → Falling old at old at
-falls_none old at =
-    record { begun = omega arith; size = refl; before = λ j h. refl; moved = λ j h k. absurd (never j h k); behind = λ j h. refl }
-  where
-    never : (j : ℕ) → at ≤ j → j < at → ⊥
-    never j h k = omega (arith, h, k)
-
-module _ {old : List Letter} {at : ℕ} {l : List Letter} {i : ℕ} (f : Falling old at l i) where
-  pub falls_more : i < length old → Falling old at (set l i (get_or l (i + 1) no_letter)) (i + 1)
-  falls_more h =
-      record {
-        begun = omega (arith, f.begun);
-        size = length-set l i y ∙ f.size;
-        before = λ j k. get_or-set_other l i j y no_letter (apart j (omega (arith, k, f.begun))) ∙ f.before j k;
-        moved = λ j k m. go j k m (ℕ_discrete j i);
-        behind = λ j k. get_or-set_other l i j y no_letter (past j (omega (arith, k))) ∙ f.behind j (omega (arith, k));
-      }
-    where
-      y : Letter
-      y = get_or l (i + 1) no_letter
-
-      apart : (j : ℕ) → j < i → j ≡ i → ⊥
-      apart j k e = omega (arith, k, e)
-
-      past : (j : ℕ) → i < j → j ≡ i → ⊥
-      past j k e = omega (arith, k, e)
-
-      go : (j : ℕ) → at ≤ j → j < i + 1 → Dec (j ≡ i) → get_or (set l i y) j no_letter ≡ get_or old (j + 1) no_letter
-      go j k m (yes e) =
-          ap (λ (n : ℕ). get_or (set l i y) n no_letter) e ∙ get_or-set_same l i y no_letter (omega (arith, h, f.size))
-          ∙ f.behind (i + 1) (omega arith) ∙ ap (λ (n : ℕ). get_or old (n + 1) no_letter) (sym e)
-      go j k m (no n) = get_or-set_other l i j y no_letter n ∙ f.moved j k (less n)
-        where
-          less : (j ≡ i → ⊥) → j < i
-          less d = omega (arith, m, d)
-
-  -- those in flight are without the one that left
-  pub fallen : (start place many : ℕ) → at ≡ start + place → i ≡ start + many → place ≤ many
-      → in_flight l start many ≡ without place (in_flight old start (many + 1))
-  fallen start place many p q h =
-      let one : suc many ≡ many + 1 = omega arith in
-      without_from place many 0 (λ j. get_or old (start + j) no_letter) (λ j. get_or l (start + j) no_letter) h
-      (λ j k. f.before (start + (0 + j)) (omega (arith, k, p)))
-      (λ j k m. f.moved (start + (0 + j)) (omega (arith, k, p)) (omega (arith, m, q))
-      ∙ ap (λ (n : ℕ). get_or old n no_letter) (omega arith))
-      ∙ ap (λ (n : ℕ). without place (in_flight old start n)) one
-
--- ---- those before place `at` close up, i of them
-pub record Rising (old : List Letter) (at : ℕ) (l : List Letter) (i : ℕ) : Type 0 where
-  pub within : i ≤ at
-  pub size : length l ≡ length old
-  pub before : (j : ℕ) → j + i ≤ at → get_or l j no_letter ≡ get_or old j no_letter
-  pub moved : (j : ℕ) → at < j + i → j ≤ at → get_or l j no_letter ≡ get_or old (j - 1) no_letter
-  pub behind : (j : ℕ) → at < j → get_or l j no_letter ≡ get_or old j no_letter
-
-pub rises_none : (old : List Letter) (at : ℕ) → Rising old at old 0
-rises_none old at =
-    record { within = omega arith; size = refl; before = λ j h. refl; moved = λ j h k. absurd (never j h k); behind = λ j h. refl }
-  where
-    never : (j : ℕ) → at < j + 0 → j ≤ at → ⊥
-    never j h k = omega (arith, h, k)
-
-module _ {old : List Letter} {at : ℕ} {l : List Letter} {i : ℕ} (r : Rising old at l i) where
-  pub rises_more : i < at → at < length old → Rising old at (set l (at - i) (get_or l (at - i - 1) no_letter)) (i + 1)
-  rises_more h room =
-      record {
-        within = omega (arith, h);
-        size = length-set l to y ∙ r.size;
-        before = λ j k. get_or-set_other l to j y no_letter (apart j (omega (arith, k, h))) ∙ r.before j (omega (arith, k));
-        moved = λ j k m. go j k m (ℕ_discrete j to);
-        behind = λ j k. get_or-set_other l to j y no_letter (past j (omega (arith, k))) ∙ r.behind j k;
-      }
-    where
-      to : ℕ
-      to = at - i
-
-      y : Letter
-      y = get_or l (at - i - 1) no_letter
-
-      apart : (j : ℕ) → j < at - i → j ≡ to → ⊥
-      apart j k e = omega (arith, k, e)
-
-      past : (j : ℕ) → at - i < j → j ≡ to → ⊥
-      past j k e = omega (arith, k, e)
-
-      go : (j : ℕ) → at < j + (i + 1) → j ≤ at → Dec (j ≡ to) → get_or (set l to y) j no_letter ≡ get_or old (j - 1) no_letter
-      go j k m (yes e) =
-          ap (λ (n : ℕ). get_or (set l to y) n no_letter) e ∙ get_or-set_same l to y no_letter (omega (arith, h, room, r.size))
-          ∙ r.before (at - i - 1) (omega (arith, h)) ∙ ap (λ (n : ℕ). get_or old (n - 1) no_letter) (sym e)
-      go j k m (no n) = get_or-set_other l to j y no_letter n ∙ r.moved j (more n) m
-        where
-          more : (j ≡ to → ⊥) → at < j + i
-          more d = omega (arith, k, m, d, h)
-
-  -- those in flight, whose front is one place further up, are without the one that left
-  pub risen : (start place many : ℕ) → at ≡ start + place → i ≡ place → place ≤ many
-      → in_flight l (start + 1) many ≡ without place (in_flight old start (many + 1))
-  risen start place many p q h =
-      let one : suc many ≡ many + 1 = omega arith in
-      without_from place many 0 (λ j. get_or old (start + j) no_letter) (λ j. get_or l (start + 1 + j) no_letter) h
-      (λ j k. r.moved (start + 1 + (0 + j)) (omega (arith, k, p, q)) (omega (arith, k, p))
-      ∙ ap (λ (n : ℕ). get_or old n no_letter) (omega arith))
-      (λ j k m. r.behind (start + 1 + (0 + j)) (omega (arith, k, p)) ∙ ap (λ (n : ℕ). get_or old n no_letter) (omega arith))
-      ∙ ap (λ (n : ℕ). without place (in_flight old start n)) one
+-- ---- those before it do, all that are in flight: those in flight, whose front is one place further up, are without the one that left
+pub risen : (old l : List Letter) (start n : ℕ) → CopiedTo old l start (start + 1) n → SameFrom old l (start + 1 + n) → (place many : ℕ)
+    → n ≡ place → place ≤ many → in_flight l (start + 1) many ≡ without place (in_flight old start (many + 1))
+risen old l start n moved behind place many q h =
+    let one : suc many ≡ many + 1 = omega arith in
+    without_from place many 0 (λ j. get_or old (start + j) no_letter) (λ j. get_or l (start + 1 + j) no_letter) h
+    (λ j k. moved (start + 1 + (0 + j)) no_letter (omega arith) (omega (arith, k, q))
+    ∙ ap (λ (n : ℕ). get_or old n no_letter) (omega arith))
+    (λ j k m. behind (start + 1 + (0 + j)) no_letter (omega (arith, k, q)) ∙ ap (λ (n : ℕ). get_or old n no_letter) (omega arith))
+    ∙ ap (λ (n : ℕ). without place (in_flight old start n)) one
 
 -- ---- those in flight with new ones behind them
 pub joined : (old l new : List Letter) (start many count : ℕ) → count ≡ length new

@@ -17,7 +17,7 @@ use net::{Body, LETTER_ROOM, LINK_ROOM, Letter, STATION_ROOM};
 use station::{Condition, Station};
 
 // What a station holds beside its table.
-#[derive(Clone, Copy)]
+#[derive(Debug, Clone, Copy, PartialEq, Eq, Default)]
 pub struct Held {
     pub condition: Condition,
     pub marks: Words,
@@ -31,29 +31,13 @@ pub const SPARE_ROOM: usize = 2048;
 
 pub const MOVING_ROOM: usize = LETTER_ROOM + SPARE_ROOM;
 
-fn no_held() -> Held
-    ensures { result ≡ no_held }
-{
-    Held {
-        condition: Condition::Down,
-        marks: Words {
-            token: 0,
-            turn: 0,
-            testing: 0,
-            asked: 0,
-            quiet: 0,
-        },
-    }
-}
-
 // ---- from a state to its parts
 
 // Promise: equals `Rooms.held_in`: at each place of the room of stations what that station holds beside its table.
 pub fn held_of(stations: [Station; STATION_ROOM]) -> [Held; STATION_ROOM]
     ensures { result ≡ held_in stations }
 {
-    let none = no_held();
-    let mut held = [none; STATION_ROOM];
+    let mut held = [Held::default(); STATION_ROOM];
     for (i, st) in stations.iter().enumerate() {
         // its table stands elsewhere
         held[i] = Held {
@@ -76,22 +60,11 @@ pub fn tables_of(stations: [Station; STATION_ROOM]) -> [u16; TABLES_ROOM]
     tables
 }
 
-fn no_letter() -> Letter
-    ensures { result ≡ no_letter }
-{
-    Letter {
-        link: 0,
-        sender: 0,
-        body: Body::Request,
-    }
-}
-
 // Promise: equals `Rooms.moving_in`: the letters as they stand, at the front of a larger room.
 pub fn moving_room(letters: [Letter; LETTER_ROOM]) -> [Letter; MOVING_ROOM]
     ensures { result ≡ moving_in letters }
 {
-    let none = no_letter();
-    let mut room = [none; MOVING_ROOM];
+    let mut room = [Letter::default(); MOVING_ROOM];
     room[..LETTER_ROOM].copy_from_slice(&letters);
     room
 }
@@ -125,13 +98,7 @@ fn no_station() -> Station
     Station {
         condition: Condition::Down,
         counters: [0u16; LINK_ROOM],
-        marks: Words {
-            token: 0,
-            turn: 0,
-            testing: 0,
-            asked: 0,
-            quiet: 0,
-        },
+        marks: Words::default(),
     }
 }
 
@@ -166,8 +133,7 @@ pub fn stations_of(held: [Held; STATION_ROOM], tables: &[u16]) -> [Station; STAT
 pub fn gathered(room: [Letter; MOVING_ROOM], start: usize, many: u16) -> [Letter; LETTER_ROOM]
     ensures { result ≡ letters_in room start (min (min many letter_room) (moving_room - start)) }
 {
-    let none = no_letter();
-    let mut letters = [none; LETTER_ROOM];
+    let mut letters = [Letter::default(); LETTER_ROOM];
     let flying = part(&room, start, state::used_places(many) as usize);
     letters[..flying.len()].copy_from_slice(flying);
     letters

@@ -1,6 +1,6 @@
 -- What `take_events` has seen of an event when it has its answer (`facts`), and what it then makes of the parts in which it holds the
 -- state: they mean the state that the step leaves.
-use Rattle.std.proofs.Common.{◌≡◌, ℕ, ◌+◌, ◌*◌, ◌<◌, ◌≤◌, List, ◌++◌, length, get_or, min, sym, ap, ◌∙◌, refl, arith}
+use Rattle.std.proofs.Common.{rules, ◌≡◌, ℕ, ◌-◌, ◌+◌, ◌*◌, ◌<◌, ◌≤◌, List, ◌++◌, length, get_or, min, sym, ap, ◌∙◌, refl, arith}
 use lib.ListN.{length-set}
 use Rattle.net.specs.Sizes.{link_room, letter_room}
 use Rattle.sets.specs.Sets.{word_by}
@@ -10,27 +10,30 @@ use Rattle.station.specs.Values.{letters_of}
 use Rattle.station_plan.specs.Carrying.{told_by, narrowed, kept_by}
 use Rattle.state.specs.State.{letter_in}
 use Rattle.post.proofs.PostLaws as P
+use Rattle.world.specs.World.{no_letter}
 use Rattle.step_rules.specs.Step.{refusing, stepped_of}
 use Rattle.step_parts.specs.declared.Room.{Room}
 use Rattle.step_parts.specs.Parts.{names_by, room_by}
 use Rattle.step_parts.proofs.Helpers.{place_few, Placed, placed}
 use Rattle.step_parts.proofs.Made.{Facts, refused_event, answer_refusal, left_letters, few_after}
 use Rattle.run_rooms.specs.Rooms.{table_in, in_flight, state_in}
-use Rattle.run_rooms.proofs.Moves.{rises_more, falls_none, falls_more}
+use Rattle.run_rooms.proofs.Loops.{mid_long}
 use Rattle.run_rooms.proofs.Parts.{letter_in_lem, counter_in_lem}
 use Rattle.backlog_run.specs.Events.{event_count}
 use Rattle.backlog_run.proofs.Course.{asked_kind, asked_place, course_taken, course_refused, course_stops, course_ends}
-use Rattle.backlog_run.proofs.Posting.{posts_none, posts_more, posts_end}
-use Rattle.backlog_run.proofs.Running.{running_begins, begun_is, running_on, few_fly, telling, Told, at_few, told_set, told_as_is}
+use Rattle.backlog_run.proofs.Posting.{lent_long, posts_none, posts_more, posts_end}
+use Rattle.backlog_run.proofs.Running.{running_begins, begun_is, running_on, few_fly, telling, Told, told_set, told_none, told_past}
 use Rattle.backlog_run.proofs.Running.{table_kept, table_stays, front_few, Closed, plans_at, tells_at, one_leaves, none_closes}
 use Rattle.backlog_run.proofs.Running.{front_closed, back_closed, kept_long, turned, went_back}
 use Rattle.backlog_run.proofs.Turns.{sent_same, kept_same}
 use Rattle.backlog_run.proofs.take_events.Goals as goal
 use Rattle.backlog_run.proofs.take_events.Goals.{After-event_at-e, After-names_of-names, After-count-count, After-begun-post}
 use Rattle.backlog_run.proofs.take_events.Goals.{After-added-tally}
-use Rattle.backlog_run.proofs.take_events.Goals.{then-plan, else-plan, then-both, else-both, then-either, else-either}
-use Rattle.backlog_run.proofs.take_events.Goals.{then-fate-flying+then-front_closes+else-loop-i-test}
-use Rattle.backlog_run.proofs.take_events.Goals.{then-fate-flying+else-front_closes+else-loop-i-else-front_closes-test, else-fate-flying}
+use Rattle.backlog_run.proofs.take_events.Goals.{then-plan, else-plan}
+use Rattle.backlog_run.proofs.take_events.Goals.{then-plan-2+then-plan-lt-MOST_LINKS, else-plan-2}
+use Rattle.backlog_run.proofs.take_events.Goals.{else-plan-2-via-then-plan-2+else-plan-lt-MOST_LINKS, else-plan-2-via-else-plan-2}
+use Rattle.backlog_run.proofs.take_events.Goals.{then-fate-flying+then-front_closes, then-fate-flying+else-front_closes, else-fate-flying}
+use Rattle.backlog_run.proofs.take_events.Goals.{then-plan-3, else-plan-3+else-plan-4}
 
 -- at first the parts are those of the state that was given
 pub loop-taken-init : goal.loop-taken-init
@@ -192,13 +195,11 @@ loop-taken-preserved-then-fate-ne0 c =
 -- ---- the event is taken: where a counter is set
 pub bounds-tables-set : goal.bounds-tables-set
 bounds-tables-set c =
-    let p = c.plan_event-plan.result in
     let w = names_within (goal.at.bounds-tables-set c).After-names_of-names in
-    let few = at_few p.sets p.at (sym c.both.ensures ∙ c.if-both.true) in
-    omega (arith, w.station, few)
+    omega (arith, w.station)
 
 told_now : (c : After-begun-post)
-    → Told c.loop-taken.tables c.if-both.tables c.names_of-names.result.station
+    → Told c.loop-taken.tables c.if-plan-2.tables c.names_of-names.result.station
     (telling c.loop-taken.tables c.names_of-names.result.station c.plan_event-plan.result)
 told_now c =
     let p = c.plan_event-plan.result in
@@ -206,55 +207,50 @@ told_now c =
     let me = c.names_of-names.result.station in
     let few = (placed _ _ _ _ _ _ _ c.names_of-names.ensures).station in
     let room : link_room * me + link_room ≤ length t = omega (arith, few, c.loop-taken.invariant.running.tables_size) in
-    elim c.if-both.branch [
-      | then-both w ↦ told_set t me p.at p.counter room p.sets (sym c.both.ensures ∙ w.if-both.true) _ w.tables-is
-      | else-both w ↦ told_as_is t me p.at p.counter room p.sets (sym c.both.ensures ∙ w.if-both.false) _ w.tables-is
+    elim c.if-plan-2.branch [
+      | then-plan-2+then-plan-lt-MOST_LINKS w ↦
+          told_set t me p.at p.counter room p.sets w.if-plan-2.true w.if-plan-lt-MOST_LINKS.true _ w.tables-is
+      | else-plan-2 w ↦ elim w.else-plan-2.branch [
+        | else-plan-2-via-then-plan-2+else-plan-lt-MOST_LINKS v ↦
+            told_past t me p.at p.counter room p.sets v.if-plan-lt-MOST_LINKS.false _ w.tables-is
+        | else-plan-2-via-else-plan-2 v ↦ told_none t me p.at p.counter room p.sets v.if-plan-2.false _ w.tables-is
+      ]
     ]
 
 -- ---- where the letters close up
-pub bounds-room-to : goal.bounds-room-to
-bounds-room-to c =
-    omega (arith, place_within (goal.at.bounds-room-to c).After-event_at-e, c.loop-taken.invariant.running.front)
+pub copy_within-requires-clause-in_bounds : goal.copy_within-requires-clause-in_bounds
+copy_within-requires-clause-in_bounds c =
+    omega (arith, place_within (goal.at.copy_within-requires-clause-in_bounds c).After-event_at-e, c.loop-taken.invariant.running.front)
 
-pub bounds-room-to-in-loop-i : goal.bounds-room-to-in-loop-i
-bounds-room-to-in-loop-i c =
-    omega (arith, place_within (goal.at.bounds-room-to-in-loop-i c).After-event_at-e, c.loop-taken.invariant.running.front)
+pub copy_within-requires-clause-dest_in_bounds : goal.copy_within-requires-clause-dest_in_bounds
+copy_within-requires-clause-dest_in_bounds c =
+    omega (
+      arith,
+      place_within (goal.at.copy_within-requires-clause-dest_in_bounds c).After-event_at-e,
+      c.loop-taken.invariant.running.front,
+    )
 
-pub loop-i-preserved : goal.loop-i-preserved
-loop-i-preserved c =
-    let r = c.loop-taken.invariant.running in
-    let few = place_within (goal.at.loop-i-preserved c).After-event_at-e in
-    record {
-      within = omega (arith, c.loop-i-test.true);
-      moved = rises_more c.loop-i.invariant.moved (omega (arith, c.loop-i-test.true)) (omega (arith, few, r.front, r.room_size));
-    }
+pub overflow_add-at-else-front_closes : goal.overflow_add-at-else-front_closes
+overflow_add-at-else-front_closes c =
+    omega (arith, place_within (goal.at.overflow_add-at-else-front_closes c).After-event_at-e, c.loop-taken.invariant.running.front)
 
-pub loop-i-else-front_closes-init : goal.loop-i-else-front_closes-init
-loop-i-else-front_closes-init c =
+pub copy_within-requires-else-front_closes-clause-start_le_end : goal.copy_within-requires-else-front_closes-clause-start_le_end
+copy_within-requires-else-front_closes-clause-start_le_end c =
     let l = c.loop-taken in
-    let f = facts (goal.at.loop-i-else-front_closes-init c).After-count-count c.room_of-fate.result c.room_of-fate.ensures in
+    let f = facts (goal.at.copy_within-requires-else-front_closes-clause-start_le_end c).After-count-count c.room_of-fate.result
+    c.room_of-fate.ensures in
     let less = (one_leaves c.args.s.net l.held l.tables l.room l.start l.flying f c.if-fate-ne0.false c.if-fate-flying.true).0 in
-    record { within = omega (arith, less); moved = falls_none _ _ }
+    omega (arith, less)
 
-pub bounds-room-i : goal.bounds-room-i
-bounds-room-i c =
+pub copy_within-requires-else-front_closes-clause-in_bounds : goal.copy_within-requires-else-front_closes-clause-in_bounds
+copy_within-requires-else-front_closes-clause-in_bounds c =
     let r = c.loop-taken.invariant.running in
-    omega (arith, few_fly r, r.front, c.if-fate-flying.true, c.loop-i-else-front_closes-test.true)
+    omega (arith, few_fly r, r.front)
 
-pub bounds-room-i-in-loop-i-else-front_closes : goal.bounds-room-i-in-loop-i-else-front_closes
-bounds-room-i-in-loop-i-else-front_closes c =
+pub copy_within-requires-else-front_closes-clause-dest_in_bounds : goal.copy_within-requires-else-front_closes-clause-dest_in_bounds
+copy_within-requires-else-front_closes-clause-dest_in_bounds c =
     let r = c.loop-taken.invariant.running in
-    omega (arith, few_fly r, r.front, c.if-fate-flying.true, c.loop-i-else-front_closes-test.true)
-
-pub loop-i-else-front_closes-preserved : goal.loop-i-else-front_closes-preserved
-loop-i-else-front_closes-preserved c =
-    let r = c.loop-taken.invariant.running in
-    let t = c.loop-i-else-front_closes-test.true in
-    record {
-      within = omega (arith, t);
-      moved = falls_more c.loop-i-else-front_closes.invariant.moved
-          (omega (arith, few_fly r, r.front, r.room_size, c.if-fate-flying.true, t));
-    }
+    omega (arith, few_fly r, r.front, place_within (goal.at.copy_within-requires-else-front_closes-clause-dest_in_bounds c).After-event_at-e)
 
 closed : (c : After-begun-post) (own : ℕ)
     (f : Facts (state_in c.args.s.net c.loop-taken.held c.loop-taken.tables c.loop-taken.room c.loop-taken.start c.loop-taken.flying)
@@ -270,66 +266,84 @@ closed c own f q =
     let place = c.event_at-e.result.place in
     let left = c.room_of-fate.result.left in
     elim c.if-fate-flying.branch [
-      | then-fate-flying+then-front_closes+else-loop-i-test w ↦
+      | then-fate-flying+then-front_closes w ↦
           front_closed net l.held l.tables l.room l.start l.flying f q r.room_size r.front w.if-fate-flying.true
-          (front_few l.start place left (sym w.front_closes.ensures ∙ w.if-front_closes.true)) w.loop-i.invariant.moved refl
-          (omega (arith, w.loop-i.invariant.within, w.loop-i-test.false)) _ _ w.room-is w.start-is
-      | then-fate-flying+else-front_closes+else-loop-i-else-front_closes-test w ↦
-          back_closed net l.held l.tables l.room l.start l.flying f q r.room_size r.front w.if-fate-flying.true
-          w.loop-i-else-front_closes.invariant.moved refl
-          (omega (arith, w.loop-i-else-front_closes.invariant.within, w.loop-i-else-front_closes-test.false)) _ _ w.room-is w.start-is
+          (front_few l.start place left (sym w.front_closes.ensures ∙ w.if-front_closes.true)) _ _ w.copy_within.ensures.len
+          w.copy_within.ensures.by_index.0 w.copy_within.ensures.by_index.2 (omega arith) _ _ w.room-is w.start-is
+      | then-fate-flying+else-front_closes w ↦
+          let b = w.copy_within-else-front_closes.ensures in
+          let less = (one_leaves net l.held l.tables l.room l.start l.flying f q w.if-fate-flying.true).0 in
+          back_closed net l.held l.tables l.room l.start l.flying f q r.room_size r.front w.if-fate-flying.true _ _ _ b.len
+          b.by_index.0 b.by_index.1 refl (omega (arith, less, w.if-fate-flying.true)) _ _ w.room-is w.start-is
       | else-fate-flying w ↦
           none_closes net l.held l.tables l.room l.start l.flying f q r.room_size r.front w.if-fate-flying.false _ _ w.room-is w.start-is
     ]
 
 -- ---- where new ones are put
-pub loop-i-2-init : goal.loop-i-2-init
-loop-i-2-init c =
-    let f = facts (goal.at.loop-i-2-init c).After-count-count c.room_of-fate.result c.room_of-fate.ensures in
+pub slice_bounds-room-end : goal.slice_bounds-room-end
+slice_bounds-room-end c =
+    let f = facts (goal.at.slice_bounds-room-end c).After-count-count c.room_of-fate.result c.room_of-fate.ensures in
     let few = few_after f c.if-fate-ne0.false in
-    let k = closed (goal.at.loop-i-2-init c).After-begun-post _ f c.if-fate-ne0.false in
-    let told = table_in c.if-both.tables c.names_of-names.result.station in
-    posts_none _ _ _ told _ c.if-plan.send _ c.begun-post.ensures (c.count-count.ensures c.names_of-names.result.station told)
-    (omega (arith, few, k.front, k.size))
+    let k = closed c _ f c.if-fate-ne0.false in
+    let h : c.if-fate-flying.start + c.room_of-fate.result.left + c.count-count.result ≤ length c.if-fate-flying.room =
+    omega (arith, few, k.front, k.size) in
+    search (rules, h)
+
+pub loop-z-init : goal.loop-z-init
+loop-z-init c =
+    let n = (goal.at.loop-z-init c).After-begun-post in
+    let f = facts (goal.at.loop-z-init c).After-count-count c.room_of-fate.result c.room_of-fate.ensures in
+    let few = few_after f c.if-fate-ne0.false in
+    let k = closed n _ f c.if-fate-ne0.false in
+    let me = c.names_of-names.result.station in
+    let told = table_in c.if-plan-2.tables me in
+    posts_none me told c.count-count.result _ c.if-plan.send _ c.begun-post.ensures
+    (lent_long c.if-fate-flying.room _ _ (omega (arith, few, k.front, k.size))) (c.count-count.ensures me told)
+
+pub overflow_add-flying : goal.overflow_add-flying
+overflow_add-flying c =
+    let f = facts (goal.at.overflow_add-flying c).After-count-count c.room_of-fate.result c.room_of-fate.ensures in
+    omega (arith, few_after f c.if-fate-ne0.false)
 
 pub bounds-tables-subject : goal.bounds-tables-subject
 bounds-tables-subject c =
     let few = (names_within (goal.at.bounds-tables-subject c).After-names_of-names).station in
-    let j = P.subject_few c.loop-i-2.post _ c.subject.ensures in
+    let j = P.subject_few c.loop-z.post _ c.subject.ensures in
     omega (arith, few, j)
 
-pub loop-i-2-preserved : goal.loop-i-2-preserved
-loop-i-2-preserved c =
+pub loop-z-preserved : goal.loop-z-preserved
+loop-z-preserved c =
     let j = c.subject in
-    let few = P.subject_few c.loop-i-2.post _ j.ensures in
-    posts_more c.loop-i-2.invariant c.loop-i-2-test.true j.result _ _ _ j.ensures
-    (sym (counter_in_lem c.if-both.tables c.names_of-names.result.station j.result few)) c.first-z.ensures c.rest-post.ensures
+    let few = P.subject_few c.loop-z.post _ j.ensures in
+    posts_more c.loop-z.invariant
+    (omega (arith, c.loop-z.invariant.size, c.loop-z-test.true)) j.result _ _ _ j.ensures
+    (sym (counter_in_lem c.if-plan-2.tables c.names_of-names.result.station j.result few)) c.first.ensures c.rest-post.ensures
 
 -- ---- the table that is kept
 pub bounds-held-who-in-loop-taken : goal.bounds-held-who-in-loop-taken
 bounds-held-who-in-loop-taken c = (names_within (goal.at.bounds-held-who-in-loop-taken c).After-names_of-names).station
 
 kept_now : (c : After-added-tally) (told kept : List ℕ) → length kept ≡ link_room
-    → Told c.loop-taken.tables c.if-both.tables c.names_of-names.result.station told
+    → Told c.loop-taken.tables c.if-plan-2.tables c.names_of-names.result.station told
     → kept ≡ kept_by c.args.s.net c.names_of-names.result.station c.plan_event-plan.result.resets c.plan_event-plan.result.purges told
-    → Told c.if-both.tables c.if-either.tables c.names_of-names.result.station kept
+    → Told c.if-plan-2.tables c.if-plan-3.tables c.names_of-names.result.station kept
 kept_now c told kept long t is =
     let net = c.args.s.net in
     let p = c.plan_event-plan.result in
     let me = c.names_of-names.result.station in
     let few = (placed _ _ _ _ _ _ _ c.names_of-names.ensures).station in
-    let tables = c.if-both.tables in
+    let tables = c.if-plan-2.tables in
     let room : link_room * me + link_room ≤ length tables =
     omega (arith, few, t.others.size, c.loop-taken.invariant.running.tables_size) in
     let same = ap (kept_by net me p.resets p.purges) t.mine ∙ sym is in
-    elim c.if-either.branch [
-      | then-either w ↦
+    elim c.if-plan-3.branch [
+      | then-plan-3 w ↦
           table_kept tables me told kept _ _ room long
-          (w.kept_table-kept.ensures ∙ ap (kept_by net me p.resets p.purges) w.table_at-table-then-either.ensures ∙ same)
+          (w.kept_table-kept.ensures ∙ ap (kept_by net me p.resets p.purges) w.table_at-table-then-plan-3.ensures ∙ same)
           (w.tables-is ∙ w.put_table.ensures)
-      | else-either w ↦
+      | else-plan-3+else-plan-4 w ↦
           table_stays tables me kept _
-          (kept_same net me p.resets p.purges (table_in tables me) (sym c.either.ensures ∙ w.if-either.false) ∙ same) w.tables-is
+          (kept_same net me p.resets p.purges (table_in tables me) w.if-plan-3.false w.if-plan-4.false ∙ same) w.tables-is
     ]
 
 -- ---- the turn: the parts mean the state that the step leaves
@@ -355,10 +369,14 @@ loop-taken-preserved c =
     let u = kept_now at.After-added-tally told kept long t refl in
     let start = c.if-fate-flying.start in
     let room = c.if-fate-flying.room in
-    let posted = posts_end c.loop-i-2.invariant (omega (arith, c.loop-i-2.invariant.ahead, c.loop-i-2-test.false)) start fate.left refl
+    let from = start + fate.left in
+    let count = c.count-count.result in
+    let b : from + (from + count - from) ≤ length room = omega (arith, few_after f q, k.front, k.size) in
+    let z = c.loop-z.invariant in
+    let posted = posts_end z (omega (arith, c.loop-z-test.false, z.size)) room start fate.left from (from + count - from) refl (omega arith) b
     c.if-plan.send c.begun-post.ensures
     ∙ ap (λ (t : List ℕ). in_flight room start fate.left ++ letters_of me t c.if-plan.send) t.mine in
-    let did = turned net l.held l.tables l.room l.start l.flying f q room c.loop-i-2.room start c.if-both.tables c.if-either.tables k
+    let did = turned net l.held l.tables l.room l.start l.flying f q room _ start c.if-plan-2.tables c.if-plan-3.tables k
     posted few r.held_size t u in
     record {
       within = omega (arith, c.loop-taken-test.true);
@@ -368,7 +386,7 @@ loop-taken-preserved c =
             c.added-tally.result c.added-tally.ensures _ c.put_turn-in-loop-taken.ensures;
         held_size = length-set l.held me _ ∙ r.held_size;
         tables_size = u.others.size ∙ t.others.size ∙ r.tables_size;
-        room_size = c.loop-i-2.invariant.size ∙ k.size;
+        room_size = mid_long from (from + count - from) room c.loop-z.z-items no_letter (omega (arith, z.size)) b ∙ k.size;
         front = k.front;
       };
     }
