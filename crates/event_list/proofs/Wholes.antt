@@ -1,16 +1,16 @@
 -- Lines read at once: the digits of a number one by one, three such numbers as a line, and the turn of `list_lines` that takes it.
 use Prim.Native.Nat.{ℕ, suc, ◌+◌, ◌-◌, ◌*◌, ◌^◌, ◌≤◌, ◌<◌}
-use mathlib.Core.Bool.{Bool, true, false}
-use mathlib.Core.Path.{◌≡◌, refl, sym, ap, subst, ◌∙◌}
+use mathlib.Core.Bool.{Bool, true}
+use mathlib.Core.Path.{◌≡◌, sym, ap, subst, ◌∙◌}
 use mathlib.Core.List.{List, [], ◌∷◌}
-use native.Mathlib.Nat.{pow-suc, pow-le-pow_right, zero-add}
+use native.Mathlib.Nat.{pow-suc, pow-le-pow_right}
 use native.Mathlib.Numerals.{add-one}
 use native.Mathlib.Omega.{arith}
 use lib.ListN.{length, get_or, take, drop}
 use lib.Seq.{drop-cons}
 use borrow.Author.Tests.{ne_eqb}
+use Rattle.std.proofs.lemmas.Grind.{common_steps}
 use Rattle.event_lines.specs.declared.Reading.{Reading}
-use Rattle.event_lines.specs.declared.End.{End}
 use Rattle.event_lines.specs.Ends.{end_from}
 use Rattle.event_lines.specs.Steps.{start, read_on, fed, line_end}
 use Rattle.event_lines.proofs.Events.{on_digit, on_space, next_some}
@@ -19,9 +19,6 @@ use Rattle.console.specs.Outputs.{Put}
 use Rattle.event_list.specs.Lines.{three_of}
 use Rattle.event_list.proofs.Lines.{Going, turn_room, turn_more}
 use Rattle.event_list.specs.Wholes.{under, Digits, Numbered, WholeLine}
-
-pub not_good : {A : Type 0} (b : Bool) → b ≡ false → b ≡ true → A
-not_good b e t = let z : ◌≡◌ {A = ℕ} 0 1 = cc in absurd (omega arith)
 
 -- ---- one byte of the line
 module _ (bytes : List ℕ) (i : ℕ) (within : i < length bytes) where
@@ -52,19 +49,6 @@ unfolding line_end
 line_says d v f s h = simp (ne_eqb d 0 (λ z. omega arith))
 
 -- ---- the loop over the digits
-pub digits_none : (bytes : List ℕ) (from : ℕ) → from ≤ length bytes → Digits bytes from 0 from
-digits_none bytes from h =
-    let none : from - from ≡ 0 = omega arith in
-    let one : 10 ^ (from - from) ≡ 1 = ap (λ (n : ℕ). 10 ^ n) none in
-    record {
-      after = omega arith;
-      within = h;
-      few = omega arith;
-      small = omega arith;
-      ends = refl;
-      feeds = λ p f s more. rw (none, zero-add);
-    }
-
 -- fewer than nine digits: one more fits a 32-bit number
 pub digits_small : (bytes : List ℕ) (from value i : ℕ) → Digits bytes from value i → i < from + 9 → value < 100000000
 digits_small bytes from value i d few =
@@ -93,11 +77,28 @@ digits_more bytes from value i d h few low high =
           ∙ ap (λ (n : ℕ). under p n (value * 10 + (get_or bytes i 0 - 48)) f s) next);
     }
 
--- where they end, the byte behind them
-pub numbered : (bytes : List ℕ) (from close value i : ℕ) → Digits bytes from value i → from < i → i < length bytes
-    → get_or bytes i 0 ≡ close → Numbered bytes from close value (i + 1)
-numbered bytes from close value i d some inside byte =
-    record { stop = i; behind = refl; digits = d; some = some; inside = inside; byte = byte }
+-- a digit more as the code reads it: in a part of the bytes, of nine at most
+module _ (bytes : List ℕ) (from value i most : ℕ) (few : most ≤ 9) (d : Digits bytes from value (from + i))
+    (h : i < length (take most (take (length bytes - from) (drop from bytes)))) where
+  abbrev front : List ℕ
+  front = take most (take (length bytes - from) (drop from bytes))
+
+  here : get_or front i 0 ≡ get_or bytes (from + i) 0
+  here = grind (arith, common_steps)
+
+  within : (i < most) × (from + i < length bytes)
+  within = (grind (arith, common_steps), grind (arith, common_steps))
+
+  pub next_small : value < 100000000
+  next_small = digits_small bytes from value (from + i) d (omega (arith, within.0))
+
+  pub next_digit : 48 ≤ get_or front i 0 → get_or front i 0 ≤ 57
+      → Digits bytes from (value * 10 + (get_or front i 0 - 48)) (from + (i + 1))
+  next_digit low high =
+      let more : Digits bytes from (value * 10 + (get_or bytes (from + i) 0 - 48)) (from + i + 1) =
+      digits_more bytes from value (from + i) d within.1 (omega (arith, within.0)) (omega (arith, here)) (omega (arith, here)) in
+      let place : from + i + 1 ≡ from + (i + 1) = omega arith in
+      rw (here, ← place) more
 
 -- ---- three numbers as a line
 module _ (bytes : List ℕ) (from v₁ m₁ v₂ m₂ v₃ m₃ : ℕ)
@@ -151,9 +152,6 @@ module _ (bytes : List ℕ) (from v₁ m₁ v₂ m₂ v₃ m₃ : ℕ)
 -- ---- the turn that takes it
 module _ (bytes old : List ℕ) (r₀ : Reading) (out : List ℕ) (r : Reading) (at from : ℕ) (g : Going bytes old r₀ out r at from)
     (fresh : Bool) (begun : fresh ≡ true → r ≡ start) (kind a b next : ℕ) (w : WholeLine fresh bytes from kind a b next) where
-  abbrev end : End
-  end = record { stop = w.stop; ended = true }
-
   abbrev line : Reading
   line = fed start (take (w.stop - from) (drop from bytes))
 
@@ -161,14 +159,13 @@ module _ (bytes old : List ℕ) (r₀ : Reading) (out : List ℕ) (r : Reading) 
   read = ap (λ (x : Reading). fed x (take (w.stop - from) (drop from bytes))) (sym (begun w.begins))
 
   pub whole_room : at + 3 ≤ length out
-  whole_room = turn_room bytes old r₀ out r at from g end w.ended line read refl
+  whole_room = turn_room bytes old r₀ out r at from g w.stop w.ended line read
 
   pub whole_more : (n : ℕ) (new : List ℕ) → Put (kind ∷ a ∷ b ∷ []) 3 at out n new → Going bytes old r₀ new r n next
   whole_more n new put =
       subst (λ (k : ℕ). Going bytes old r₀ new r n k) (sym w.behind)
-      (turn_more bytes old r₀ out r at from g end w.ended line read refl n new
+      (turn_more bytes old r₀ out r at from g w.stop w.ended line read n new
       (subst (λ (said : List ℕ). Put (three_of said) 3 at out n new) (sym w.says) put) r (begun w.begins))
 
   pub whole_less : length bytes - next < length bytes - from
-  whole_less =
-      omega (arith, w.behind, end_after bytes from g.within end w.ended, end_inside bytes from g.within end w.ended refl)
+  whole_less = omega (arith, w.behind, end_after bytes from w.stop w.ended, end_inside bytes from w.stop w.ended)

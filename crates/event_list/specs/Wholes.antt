@@ -1,5 +1,5 @@
 -- A line that is whole and good in some bytes, read at once: what the code has of it, in the words of the reading byte by byte.
-use Rattle.std.specs.Prelude.{ℕ, ◌+◌, ◌-◌, ◌^◌, ◌≤◌, ◌<◌, Bool, true, ◌≡◌, List, [], ◌∷◌, length, get_or, take, drop}
+use Rattle.std.specs.Prelude.{ℕ, ◌+◌, ◌-◌, ◌^◌, ◌≤◌, ◌<◌, Bool, true, ◌≡◌, List, [], ◌∷◌, length, get_or, take, drop, Some}
 use Rattle.event_lines.specs.declared.Reading.{Reading}
 use Rattle.event_lines.specs.Ends.{end_from}
 use Rattle.event_lines.specs.Steps.{start, fed, line_end}
@@ -32,5 +32,5 @@ pub record WholeLine (fresh : Bool) (bytes : List ℕ) (from kind a b next : ℕ
   pub begins : fresh ≡ true
   pub stop : ℕ
   pub behind : next ≡ stop + 1
-  pub ended : record { stop = stop; ended = true } ≡ end_from bytes from
+  pub ended : Some stop ≡ end_from bytes from
   pub says : line_end (fed start (take (stop - from) (drop from bytes))) ≡ 0 ∷ kind ∷ a ∷ b ∷ []

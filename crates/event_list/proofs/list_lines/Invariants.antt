@@ -6,9 +6,11 @@ use mathlib.Core.Path.{◌≡◌}
 use Prim.Native.Nat.{◌-◌}
 use Rattle.event_list.proofs.list_lines.Given as goal
 
-abbrev pub invariant-loop-from : goal.invariant-loop-from
-invariant-loop-from l =
-    Going l.bytes l.initial.list l.initial.reading l.list l.reading l.at l.from × (l.fresh ≡ true → l.reading ≡ start)
+abbrev pub invariant-loop-whole : goal.invariant-loop-whole
+invariant-loop-whole l = record {
+  going : Going l.bytes l.initial.list l.initial.reading l.list l.reading l.at l.from;
+  begins : l.fresh ≡ true → l.reading ≡ start;
+}
 
-abbrev pub decreases-loop-from : goal.decreases-loop-from
-decreases-loop-from l = length l.bytes - l.from
+abbrev pub decreases-loop-whole : goal.decreases-loop-whole
+decreases-loop-whole l = length l.bytes - l.from

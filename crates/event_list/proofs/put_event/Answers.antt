@@ -2,4 +2,4 @@ use Rattle.event_list.proofs.Lines.{event_put}
 use Rattle.event_list.proofs.put_event.Goals as goal
 
 pub returns : goal.returns
-returns c = let a = c.args in event_put a.at a.list.now _ _ _ c.requires
+returns c = event_put c.args.event c.args.at c.args.list.now _ c.requires c.copy_from_slice.ensures.after
