@@ -2,8 +2,6 @@
 // tests/byte_cases.py makes the cases, and what is wanted for them, by a reading of document 01 of its own.
 #![tactic(auto)]
 
-ghost use Rattle.std.specs.Prelude.{◌≤◌, ◌≡◌, length};
-
 use net::{Body, LINK_ROOM, Letter, Net};
 use std::io;
 use std::io::{Input, Read};
@@ -17,291 +15,167 @@ use std::io::{Input, Read};
 // notice, subject, counter (in two).
 const ROOM: usize = 1024;
 
-fn case_room() -> [u8; 70000]
-    ensures { 70000 ≡ length result }
-{
-    [0u8; 70000]
-}
-
-fn output_room() -> [u8; 1024]
-    ensures { 1024 ≡ length result }
-{
-    [238u8; 1024]
-}
-
-fn wide(high: u8, low: u8) -> usize
-    ensures { result ≤ 65535 }
-{
-    (high as usize) * 256 + (low as usize)
-}
-
-fn long(top: u8, high: u8, low: u8) -> usize
-    ensures { result ≤ 16777215 }
-{
-    (top as usize) * 65536 + wide(high, low)
-}
+const CASE_ROOM: usize = 70000;
 
 // ---- what is printed
 
-fn print(rt: &impl Print, n: u64) -> io::Result<()> {
-    print!(rt; " {n}")
-}
-
-fn print_byte(rt: &impl Print, n: u8) -> io::Result<()> {
-    print(rt, n as u64)
-}
-
-fn print_hex(rt: &impl Print, n: u8) -> io::Result<()> {
-    print!(rt; "{n:02x}")
-}
-
 fn print_bytes(rt: &impl Print, bytes: &[u8]) -> io::Result<()> {
     print!(rt; " ")?;
-    for i in 0..bytes.len() {
-        print_hex(rt, bytes[i])?;
+    for b in bytes {
+        print!(rt; "{b:02x}")?;
     }
     Ok(())
 }
 
-// Whether a place is shown: it is used, or not zero though it should be.
-fn is_shown(i: usize, links: u8, low: u8, high: u8) -> bool {
-    if i < links as usize {
-        return true;
-    }
-    if low != 0 {
-        return true;
-    }
-    high != 0
-}
-
-fn print_net(rt: &impl Print, net: Net) -> io::Result<()> {
-    print_byte(rt, net.stations)?;
-    print_byte(rt, net.links)?;
-    for i in 0..LINK_ROOM {
-        let low = net.low[i];
+// A place is shown where it is used, or not zero though it should be.
+fn print_net(rt: &impl Print, net: &Net) -> io::Result<()> {
+    print!(rt; " {} {}", net.stations, net.links)?;
+    for (i, low) in net.low.iter().enumerate() {
         let high = net.high[i];
-        if is_shown(i, net.links, low, high) {
-            print_byte(rt, low)?;
-            print_byte(rt, high)?;
+        if i < net.links as usize || *low != 0 || high != 0 {
+            print!(rt; " {low} {high}")?;
         }
     }
     Ok(())
 }
 
 fn print_letter(rt: &impl Print, letter: Letter) -> io::Result<()> {
-    print(rt, letter.link as u64)?;
-    print(rt, letter.sender as u64)?;
+    print!(rt; " {} {}", letter.link, letter.sender)?;
     match letter.body {
         Body::Request => print!(rt; " request"),
-        Body::Reply(c) => {
-            print!(rt; " reply")?;
-            print(rt, c as u64)
-        }
-        Body::Notice(subject, c) => {
-            print!(rt; " notice")?;
-            print_byte(rt, subject)?;
-            print(rt, c as u64)
-        }
+        Body::Reply(c) => print!(rt; " reply {c}"),
+        Body::Notice(subject, c) => print!(rt; " notice {subject} {c}"),
     }
 }
 
-// ---- sheets
-
-fn number_of(answer: sheet::Answer) -> u64 {
-    match answer {
-        sheet::Answer::Good => 0,
-        sheet::Answer::Short => 1,
-        sheet::Answer::Malformed => 2,
-        sheet::Answer::OutOfRange => 3,
-        sheet::Answer::OutOfOrder => 4,
-        sheet::Answer::TooManyLinks => 5,
-    }
-}
-
-fn print_sheet_wrote(rt: &impl Print, wrote: sheet::Wrote) -> io::Result<()> {
+// What a call of writing answered, by the paper's number, and the output after it.
+fn print_write(rt: &impl Print, wrote: Result<usize, u8>, out: &[u8]) -> io::Result<()> {
     match wrote {
-        sheet::Wrote::Bytes(n) => {
-            print(rt, 0)?;
-            print(rt, n as u64)
-        }
-        sheet::Wrote::OutputShort => print(rt, 10),
-        sheet::Wrote::BadNetwork => print(rt, 11),
+        Ok(n) => print!(rt; "write 0 {n}")?,
+        Err(number) => print!(rt; "write {number}")?,
     }
-}
-
-fn write_sheet(rt: &impl Print, net: Net, out: &mut [u8]) -> io::Result<()> {
-    print!(rt; "write")?;
-    print_sheet_wrote(rt, sheet::write(net, out))?;
     print_bytes(rt, out)?;
     println!(rt;)
 }
 
+// ---- sheets
+
 fn show_sheet_write(rt: &impl Print, net: Net, room: usize) -> io::Result<()> {
-    let mut out = output_room();
-    if room <= ROOM {
-        write_sheet(rt, net, &mut out[..room])?;
+    if ROOM < room {
+        return Ok(());
     }
-    Ok(())
+    let mut out = [238u8; ROOM];
+    let wrote = sheet::write(net, &mut out[..room]).map_err(|e| e.number());
+    print_write(rt, wrote, &out[..room])
 }
 
+// A refused sheet gives no network: one of no station and no link stands for it.
 fn show_sheet_read(rt: &impl Print, bytes: &[u8], room: usize) -> io::Result<()> {
-    let reading = sheet::read(bytes);
-    let answer = reading.answer;
-    let net = reading.net;
-    print!(rt; "read")?;
-    print(rt, number_of(answer))?;
-    print_net(rt, net)?;
+    let none = Net {
+        stations: 0,
+        links: 0,
+        low: [0; LINK_ROOM],
+        high: [0; LINK_ROOM],
+    };
+    let (number, net) = match sheet::read(bytes) {
+        Ok(net) => (0, net),
+        Err(e) => (e.number(), none),
+    };
+    print!(rt; "read {number}")?;
+    print_net(rt, &net)?;
     println!(rt;)?;
     show_sheet_write(rt, net, room)
 }
 
 // ---- letters
 
-fn print_letter_wrote(rt: &impl Print, wrote: letters::Wrote) -> io::Result<()> {
-    match wrote {
-        letters::Wrote::Bytes(n) => {
-            print(rt, 0)?;
-            print(rt, n as u64)
-        }
-        letters::Wrote::OutOfRange => print(rt, 3),
-        letters::Wrote::OutputShort => print(rt, 10),
-        letters::Wrote::BadNetwork => print(rt, 11),
-    }
-}
-
-fn write_letter(rt: &impl Print, net: Net, letter: Letter, out: &mut [u8]) -> io::Result<()> {
-    print!(rt; "write")?;
-    print_letter_wrote(rt, letters::write(net, letter, out))?;
-    print_bytes(rt, out)?;
-    println!(rt;)
-}
-
 fn show_letter_write(rt: &impl Print, net: Net, letter: Letter, room: usize) -> io::Result<()> {
-    let mut out = output_room();
-    if room <= ROOM {
-        write_letter(rt, net, letter, &mut out[..room])?;
+    if ROOM < room {
+        return Ok(());
     }
-    Ok(())
-}
-
-fn print_refusal(rt: &impl Print, n: u64) -> io::Result<()> {
-    print!(rt; "read")?;
-    print(rt, n)?;
-    println!(rt;)
+    let mut out = [238u8; ROOM];
+    let wrote = letters::write(net, letter, &mut out[..room]).map_err(|e| e.number());
+    print_write(rt, wrote, &out[..room])
 }
 
 fn show_letter_read(rt: &impl Print, net: Net, bytes: &[u8], room: usize) -> io::Result<()> {
     match letters::read(net, bytes) {
-        letters::Answer::Good(letter) => {
-            print!(rt; "read")?;
-            print(rt, 0)?;
+        Ok(letter) => {
+            print!(rt; "read 0")?;
             print_letter(rt, letter)?;
             println!(rt;)?;
             show_letter_write(rt, net, letter, room)
         }
-        letters::Answer::Short => print_refusal(rt, 1),
-        letters::Answer::Malformed => print_refusal(rt, 2),
-        letters::Answer::OutOfRange => print_refusal(rt, 3),
-        letters::Answer::BadNetwork => print_refusal(rt, 11),
+        Err(e) => println!(rt; "read {}", e.number()),
     }
 }
 
-fn narrow(high: u8, low: u8) -> u16 {
-    (high as u16) * 256 + (low as u16)
-}
-
-fn body_of(kind: u8, subject: u8, c: u16) -> Body {
-    if kind == 0 {
-        return Body::Request;
-    }
-    if kind == 1 {
-        return Body::Reply(c);
-    }
-    Body::Notice(subject, c)
-}
-
-fn letter_of(case: &[u8]) -> Letter
-    requires { length case.now ≡ 8 }
-{
-    Letter {
-        link: narrow(case[0], case[1]),
-        sender: narrow(case[2], case[3]),
-        body: body_of(case[4], case[5], narrow(case[6], case[7])),
-    }
+fn letter_of(case: &[u8]) -> Option<Letter> {
+    let [
+        link_high,
+        link_low,
+        sender_high,
+        sender_low,
+        kind,
+        subject,
+        high,
+        low,
+    ] = case
+    else {
+        return None;
+    };
+    let counter = u16::from_be_bytes([*high, *low]);
+    Some(Letter {
+        link: u16::from_be_bytes([*link_high, *link_low]),
+        sender: u16::from_be_bytes([*sender_high, *sender_low]),
+        body: match *kind {
+            0 => Body::Request,
+            1 => Body::Reply(counter),
+            _ => Body::Notice(*subject, counter),
+        },
+    })
 }
 
 // ---- the cases
-
-fn net_of(case: &[u8]) -> Net
-    requires { 130 ≤ length case.now }
-{
-    let mut low = [0u8; LINK_ROOM];
-    let mut high = [0u8; LINK_ROOM];
-    for i in 0..LINK_ROOM {
-        low[i] = case[2 + i];
-        high[i] = case[66 + i];
-    }
-    Net {
-        stations: case[0],
-        links: case[1],
-        low,
-        high,
-    }
-}
-
-// A case of the kinds that begin with a network.
-fn run_with(rt: &impl Print, net: Net, kind: u8, room: usize, rest: &[u8]) -> io::Result<()> {
-    if kind == 1 {
-        return show_sheet_write(rt, net, room);
-    }
-    if kind == 2 {
-        return show_letter_read(rt, net, rest, room);
-    }
-    if rest.len() == 8 {
-        show_letter_write(rt, net, letter_of(rest), room)?;
-    }
-    Ok(())
-}
 
 fn run(rt: &impl Print, kind: u8, room: usize, case: &[u8]) -> io::Result<()> {
     if kind == 0 {
         return show_sheet_read(rt, case, room);
     }
-    if 130 <= case.len() {
-        run_with(rt, net_of(case), kind, room, &case[130..])?;
+    let Some((net, rest)) = cases::split_net(case) else {
+        return Ok(());
+    };
+    match kind {
+        1 => show_sheet_write(rt, net, room),
+        2 => show_letter_read(rt, net, rest, room),
+        _ => match letter_of(rest) {
+            Some(letter) => show_letter_write(rt, net, letter, room),
+            None => Ok(()),
+        },
     }
-    Ok(())
-}
-
-// Reads what follows the six bytes, and runs the case.
-fn run_in(
-    rt: &impl Print,
-    input: &mut impl Read,
-    kind: u8,
-    room: usize,
-    case: &mut [u8],
-) -> io::Result<()> {
-    let got = inputs::read_full(input, case);
-    run(rt, kind, room, &case[..got])
 }
 
 // Reads a case into the buffer and runs it; false where there is none, or none that fits.
 fn run_next(rt: &impl Print, input: &mut impl Read, buf: &mut [u8]) -> io::Result<bool> {
     let mut head = [0u8; 6];
-    if inputs::read_full(input, &mut head) < 6 {
+    if inputs::read_full(input, &mut head) < head.len() {
         return Ok(false);
     }
-    let size = long(head[1], head[2], head[3]);
+    let [kind, top, high, low, room_high, room_low] = head;
+    let size = u32::from_be_bytes([0, top, high, low]) as usize;
     if buf.len() < size {
         return Ok(false);
     }
-    run_in(rt, input, head[0], wide(head[4], head[5]), &mut buf[..size])?;
+    let got = inputs::read_full(input, &mut buf[..size]);
+    let room = u16::from_be_bytes([room_high, room_low]) as usize;
+    run(rt, kind, room, &buf[..got])?;
     Ok(true)
 }
 
 fn main(rt: HostRuntime) -> io::Result<()> {
-    let mut buf = case_room();
+    let mut buf = [0u8; CASE_ROOM];
     let mut input = rt.reader();
+    // so many cases at most: a loop that runs as long as there is input has no measure
     for _ in 0..1000000 {
         if !run_next(&rt, &mut input, &mut buf)? {
             break;
