@@ -55,6 +55,7 @@ pub fn at_most_64(x: u8) -> u8
 // ---- Small steps that several crates share: the bits of a word of stations, a number held below a bound, and two tests at once.
 
 // Bit t of the word; a place beyond the word has none.
+// Stays: beside `has`, since its promise (`Words.bit_at`) is the bit as a number of a word of 32 bits, not whether it is set in one of 64.
 // Promise: equals `Words.bit_at`: bit t of the word, 0 beyond it.
 pub fn bit_of(w: u32, t: u8) -> u32
     ensures { result ≡ bit_at w t }
@@ -89,6 +90,7 @@ pub fn both(a: bool, b: bool) -> bool
 }
 
 // The place of a station's number in a room of 32, where it has one.
+// Stays: 0 where it has none, since the definition `Rooms.in_room`, which it equals, says so.
 // Promise: equals `Rooms.in_room`: the number, or 0 for one that is no place of the 32.
 pub fn in_room(a: u32) -> u8
     ensures { result ≡ in_room a }
