@@ -12,8 +12,7 @@ use Rattle.state.specs.declared.State.{State}
 use Rattle.state.specs.State.{station_in}
 use Rattle.sets.specs.Rooms.{in_room}
 use Rattle.report.proofs.Refusals.{Why, none, eleven, six, seven, number_why, stations_are}
-use Rattle.report.specs.declared.Asked.{Asked}
-use Rattle.report.specs.Answers.{asked_of}
+use Rattle.report.specs.Answers.{Asked, asked_of}
 use Rattle.report.proofs.WordShown.{answer_number}
 use Rattle.report.specs.ReportsAnswers.{output_of}
 use Rattle.page_part.specs.Parts.{is_there, part_text, part_writing}

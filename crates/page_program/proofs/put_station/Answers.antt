@@ -8,8 +8,8 @@ pub returns : goal.returns
 returns c =
     let a = c.args in
     let p = c.put_part.ensures in
-    let same = station_given a.s a.i a.out.now _ _ _ _ c.reach-asked.ensures c.report.ensures.output c.place_of-here.ensures
-    c.is_waiting.ensures in
+    let same = station_given a.s a.i a.out.now _ _ _ _ (c.by_number-number.ensures ∙ c.reach.ensures) c.report.ensures.output
+    c.in_room-here.ensures c.is_waiting.ensures in
     record {
       answer = p.answer ∙ ap wrote_by same;
       output = p.output ∙ ap (λ (w : Writing). writing_output w a.out.now) same;
