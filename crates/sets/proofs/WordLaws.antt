@@ -158,7 +158,8 @@ module _ (w k : ℕ) (on : Bool) (h : w < 2 ^ 64) (l : k < 64) where
   joined_is p =
       join_is w ((1 * 2 ^ k) % 2 ^ 64) h bit_lt
       ∙ by_same (λ t. in_word w t || in_word ((1 * 2 ^ k) % 2 ^ 64) t) (put_at w k h on)
-      (λ t m. ap (λ (b : Bool). in_word w t || b) (one_bit k l t) ∙ table (in_word w t) (eqb t k) ∙ ap (λ (b : Bool). put_at w k h b t) (sym p))
+      (λ t m. ap (λ (b : Bool). in_word w t || b) (one_bit k l t) ∙ table (in_word w t) (eqb t k)
+      ∙ ap (λ (b : Bool). put_at w k h b t) (sym p))
     where
       table : (a b : Bool) → (a || b) ≡ (if b then true else a)
       table true true = refl
@@ -170,7 +171,8 @@ module _ (w k : ℕ) (on : Bool) (h : w < 2 ^ 64) (l : k < 64) where
   taken_off_is p =
       without_is w ((1 * 2 ^ k) % 2 ^ 64) h bit_lt
       ∙ by_same (λ t. in_word w t && not (in_word ((1 * 2 ^ k) % 2 ^ 64) t)) (put_at w k h on)
-      (λ t m. ap (λ (b : Bool). in_word w t && not b) (one_bit k l t) ∙ table (in_word w t) (eqb t k) ∙ ap (λ (b : Bool). put_at w k h b t) (sym p))
+      (λ t m. ap (λ (b : Bool). in_word w t && not b) (one_bit k l t) ∙ table (in_word w t) (eqb t k)
+      ∙ ap (λ (b : Bool). put_at w k h b t) (sym p))
     where
       table : (a b : Bool) → (a && not b) ≡ (if b then false else a)
       table true true = refl
