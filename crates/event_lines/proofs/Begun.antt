@@ -5,6 +5,7 @@ use mathlib.Core.Path.{◌≡◌, refl, ap, ◌∙◌}
 use native.Mathlib.Omega.{arith}
 use lib.Dec.{eqb, ltb}
 use borrow.Author.Tests.{ne_eqb}
+use Rattle.std.proofs.Math.Bool.{or-true}
 use Rattle.lists.proofs.Tests.{if_elim}
 use Rattle.event_lines.specs.declared.Reading.{Reading}
 use Rattle.event_lines.specs.Events.{is_digit}
@@ -17,17 +18,13 @@ not_first = refl
 abbrev Begun : Reading → Type 0
 Begun r = is_begun r ≡ true
 
-or_yes : (a : Bool) → (a || true) ≡ true
-or_yes true = refl
-or_yes false = refl
-
 digit_begins : (r : Reading) (d : ℕ) → Begun (with_digit r d)
 unfolding with_digit
 digit_begins r d =
     if_elim Begun (ltb r.digits 9)
     (λ t. if_elim Begun (ltb r.value 100000000)
     (λ u. ap (λ (b : Bool). not (eqb r.place 0) || not b) (ne_eqb (r.digits + 1) 0 (λ e. omega arith))
-    ∙ or_yes (not (eqb r.place 0))) (λ u. refl))
+    ∙ or-true (not (eqb r.place 0))) (λ u. refl))
     (λ t. refl)
 
 space_begins : (r : Reading) → Begun (next_number r)

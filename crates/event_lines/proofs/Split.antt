@@ -9,6 +9,7 @@ use native.Mathlib.Numerals.{add-one}
 use lib.ListN.{length, get_or, drop}
 use lib.Seq.{drop-cons, drop-length}
 use borrow.Author.Tests.{eq-eqb, ne_eqb}
+use Rattle.std.proofs.lemmas.List.Sums.{fold-append}
 use Rattle.event_lines.specs.Events.{event_line}
 use Rattle.event_lines.specs.Steps.{start, read_on, line_end}
 use Rattle.event_lines.specs.Split.{on_line, lines_of, fed_by, answers}
@@ -42,11 +43,6 @@ some_byte : (xs : List ℕ) (b : ℕ) → some (xs ++ (b ∷ [])) ≡ true
 some_byte [] b = refl
 some_byte (x ∷ xs) b = refl
 
--- bytes that come in two parts
-fed_append : {R : Type 0} (on : R → ℕ → R) (xs ys : List ℕ) (r : R) → fed_by on r (xs ++ ys) ≡ fed_by on (fed_by on r xs) ys
-fed_append on [] ys r = refl
-fed_append on (x ∷ xs) ys r = fed_append on xs ys (on r x)
-
 -- a reader whose answer for the bytes of one line is `whole`
 module _ {R A : Type 0} (fresh : R) (on : R → ℕ → R) (ends : R → A) (whole : List ℕ → A)
     (law : (xs : List ℕ) → ends (fed_by on fresh xs) ≡ whole xs) where
@@ -69,7 +65,7 @@ module _ {R A : Type 0} (fresh : R) (on : R → ℕ → R) (ends : R → A) (who
           ∙ ap (map whole) (sym (after_end xs (lines_of bytes))))
       go (no e) p q =
           simp (ne_eqb b 10 e)
-          (ap₂ (λ (r : R) (t : Bool). answers fresh on ends r t bytes) (sym (fed_append on xs (b ∷ []) fresh)) (sym (some_byte xs b))
+          (ap₂ (λ (r : R) (t : Bool). answers fresh on ends r t bytes) (sym (fold-append on fresh xs (b ∷ []))) (sym (some_byte xs b))
           ∙ q ∙ ap (map whole) (after_byte xs b (lines_of bytes)))
 
   pub each_line : (bytes : List ℕ) → answers fresh on ends fresh false bytes ≡ map whole (lines_of bytes)

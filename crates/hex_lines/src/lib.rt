@@ -16,6 +16,7 @@ pub struct HexReading {
     // Stays: a malformed line is a count, as `HexSteps.not_hex` and `hex_end` have it, which answer for readings not made here too
     pub count: usize,
     // the digit that waits for the second of its pair
+    // Stays: whether one waits is the count's parity, as `HexSteps.with_hex` has it
     pub high: u8,
     // a byte for each pair
     pub bytes: [u8; 32],
