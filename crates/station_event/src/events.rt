@@ -219,11 +219,16 @@ fn plan_quiet_end(here: Here) -> Plan
 
 // ---- any event
 
-// What an event of this kind comes to where what it names is there.
-#[tactic(auto, using(crate::proofs::ByKind::no_such, crate::proofs::ByKind::is_start, crate::proofs::ByKind::is_stop, crate::proofs::ByKind::is_recovery, crate::proofs::ByKind::is_interval, crate::proofs::ByKind::is_timeout, crate::proofs::ByKind::is_quiet_end, crate::proofs::ByKind::lost))]
-fn plan_kind(kind: Kind, letter: Letter, here: Here) -> Plan
-    ensures { result ≡ event_plan true kind here.own here.me here.link letter here.counter here.told here.condition here.marks }
+// What the event comes to at the station that is here. there: whether what it names is there.
+// Promise: equals `Comes.event_plan` of the words given: 6 where what the event names is not there, 7, 8, or what is done; and at every
+// station that has these words this is what the event comes to there, by document 01 (`Comes.EventPlans`: `due_of` of `rule_at`).
+pub fn plan_event(there: bool, kind: Kind, letter: Letter, here: Here) -> Plan
+    ensures { (result ≡ event_plan there kind here.own here.me here.link letter here.counter here.told here.condition here.marks)
+        × EventPlans there kind here.own here.me here.link letter here.counter here.told here.condition here.marks result }
 {
+    if !there {
+        return crate::staying(6, 0, 0, here.condition, here.marks);
+    }
     match kind {
         Kind::NoSuch => crate::turning(here.condition, here.marks, 0, false),
         Kind::Start => plan_start(here),
@@ -234,20 +239,5 @@ fn plan_kind(kind: Kind, letter: Letter, here: Here) -> Plan
         Kind::QuietEnd => plan_quiet_end(here),
         Kind::Delivery => crate::plan_letter(letter, here),
         Kind::Loss => crate::staying(0, crate::settled_by(letter), 1, here.condition, here.marks),
-    }
-}
-
-// What the event comes to at the station that is here. there: whether what it names is there.
-// Promise: equals `Comes.event_plan` of the words given: 6 where what the event names is not there, 7, 8, or what is done; and at every
-// station that has these words this is what the event comes to there, by document 01 (`Comes.EventPlans`: `due_of` of `rule_at`).
-#[tactic(auto, using(crate::proofs::ByKind::is_there))]
-pub fn plan_event(there: bool, kind: Kind, letter: Letter, here: Here) -> Plan
-    ensures { (result ≡ event_plan there kind here.own here.me here.link letter here.counter here.told here.condition here.marks)
-        × EventPlans there kind here.own here.me here.link letter here.counter here.told here.condition here.marks result }
-{
-    if there {
-        plan_kind(kind, letter, here)
-    } else {
-        crate::staying(6, 0, 0, here.condition, here.marks)
     }
 }
