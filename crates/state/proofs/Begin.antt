@@ -1,12 +1,12 @@
 -- The state right after reading a sheet, as the code makes it.
 use Rattle.std.specs.Prelude.{if◌then◌else◌}
-use Prim.Native.Nat.{ℕ, ◌-◌, ◌≤◌}
+use Prim.Native.Nat.{ℕ, zero, suc, ◌-◌, ◌≤◌}
 use mathlib.Core.Bool.{Bool, true, false}
 use mathlib.Core.Path.{◌≡◌, refl, sym, ap, ap₂, ◌∙◌}
 use mathlib.Core.List.{List, [], ◌∷◌, ◌++◌, map}
 use native.Mathlib.Omega.{arith}
-use lib.ListN.{length, replicate, length-map}
-use Rattle.lists.specs.Lists.{below, filled}
+use lib.ListN.{length, replicate, take, drop, length-map, length-take}
+use Rattle.lists.specs.Lists.{from, below, filled}
 use Rattle.lists.specs.Places.{roomed}
 use Rattle.lists.proofs.Rooms.{drop_replicate}
 use Rattle.lists.proofs.Tests.{is_T}
@@ -27,6 +27,16 @@ use Rattle.world.specs.World.{no_letter, fresh}
 use Rattle.state.specs.declared.Begun.{Begun}
 use Rattle.state.specs.State.{state_of}
 use Rattle.state.specs.Beginning.{unread, begun_of}
+
+-- a list filled with one value
+one_value : {A : Type 0} (d : A) (i n : ℕ) → map (λ (t : ℕ). d) (from i n) ≡ replicate n d
+one_value d i zero = refl
+one_value d i (suc n) = ap (λ l. d ∷ l) (one_value d (suc i) n)
+
+pub filled_with : {A : Type 0} (d : A) (old new : List A) (n : ℕ) → n ≤ length old → new ≡ replicate (length (take n old)) d
+    → new ++ drop n old ≡ filled (λ (t : ℕ). d) old n
+filled_with d old new n h e =
+    ap (λ l. l ++ drop n old) (e ∙ ap (λ k. replicate k d) (omega (arith, length-take n old)) ∙ sym (one_value d 0 n))
 
 module _ (net : Net) (r : Bool) (e : r ≡ net_holds net) where
   pub good_stations : r ≡ true → net.stations ≤ station_room

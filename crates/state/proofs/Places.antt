@@ -67,6 +67,12 @@ module _ (st : Station) (own : ℕ) (f : Fits st) where
   blank_is = blank_by st.condition
 
 -- ---- a place of the stations
+-- as the code asks
+pub place_tested : (links : ℕ) (used : Bool) (own : ℕ) (st : Station) {stands formed : Bool} {there : ℕ}
+    → stands ≡ (used || is_down st.condition) → there ≡ (if used then links else 0) → formed ≡ station_test there own st
+    → (stands && formed) ≡ place_test links used own st
+place_tested links used own st e d p = ap₂ (λ (x y : Bool). x && y) e (p ∙ ap (λ (n : ℕ). station_test n own st) d)
+
 pub place_is : (net : Net) (i : ℕ) (st : Station) (own : ℕ) → Fits st → own ≡ word_by (own_at net i)
     → place_test net.links (ltb i net.stations) own st ≡ station_place net i st
 place_is net i st own f e = go (ltb i net.stations) refl

@@ -9,12 +9,15 @@ use native.Mathlib.Decide.{dec_lt, ℕ_discrete}
 use native.Mathlib.Omega.{arith}
 use lib.Bits.{bit_or}
 use lib.Dec.{T, eqb, ltb, leb, leb→le}
-use lib.ListN.{length, get_or}
+use lib.ListN.{length, get_or, take, length-take}
+use lib.Seq.{get_or-take}
 use borrow.Author.Tests.{eq-eqb, ne_eqb, lt-ltb, le-ltb, le-leb}
 use Rattle.lists.specs.Lists.{every, below}
 use Rattle.lists.specs.Words.{in_word}
 use Rattle.lists.proofs.Tests.{and_l, and_r, and_i, and_assoc, is_T, same_test, or_left}
 use Rattle.lists.proofs.Numbers.{below_at, at_below}
+use Rattle.lists.proofs.Fill.{get_d_any}
+use Rattle.net.specs.declared.Letter.{Letter}
 use Rattle.net.specs.Letters.{letter_holds}
 use Rattle.net.specs.Values.{network_of}
 use Rattle.net.specs.Sizes.{station_room, link_room, letter_room}
@@ -23,6 +26,7 @@ use Rattle.marks.specs.Marks.{own_words}
 use Rattle.marks.proofs.OwnLinks.{own_word}
 use Rattle.state_rules.specs.Carried.{past_subject, counter_holds, way_test, letter_test, in_rooms, gathered_hold}
 use Rattle.state_rules.proofs.Gathered.{gather_more, gather_both, or_zero, most_more, least_more}
+use Rattle.world.specs.World.{no_letter}
 use Rattle.state.specs.declared.State.{State}
 use Rattle.state.specs.State.{station_in, letter_in, station_place, place_test, letter_place, is_no_letter, stations_hold}
 use Rattle.state.specs.State.{letters_hold, state_holds, Fits, Ends64, Sized}
@@ -190,6 +194,23 @@ module _ (s : State) (owns : List ℕ) where
         counts = gather_more counted_at j _ _ g.counts (ap (leb 1) el ∙ least_more least c 1
             ∙ ap (λ (b : Bool). leb 1 least && b) ec);
       }
+
+  -- the same by the letter that the loop sees
+  pub gathering_turn : {used ways ended most least j : ℕ} → Gathering used ways ended most least j → (d : Letter)
+      → j < length (take used s.letters) → (w e m l p c : ℕ)
+      → in_rooms w ≡ (in_rooms ways && way_test (get_or (take used s.letters) j d))
+      → in_word e 0 ≡ (in_word ended 0 && in_word (get_or owns ((get_or (take used s.letters) j d).sender % station_room) 0)
+      ((get_or (take used s.letters) j d).link % link_room))
+      → p ≡ past_subject (get_or (take used s.letters) j d).body → m ≡ max most p
+      → leb 1 c ≡ counter_holds (get_or (take used s.letters) j d).body → l ≡ min least c
+      → Gathering used w e m l (j + 1)
+  gathering_turn {used} {ways} {ended} {most} {least} {j} g d h w e m l p c ew ee ep em ec el =
+      let x : get_or (take used s.letters) j d ≡ letter_in s j =
+      get_d_any (take used s.letters) j d no_letter h ∙ get_or-take used s.letters j no_letter (omega (arith, length-take used s.letters)) in
+      gathering_more g (omega (arith, length-take used s.letters)) w e m l p c
+      (ew ∙ ap (λ (y : Letter). in_rooms ways && way_test y) x)
+      (ee ∙ ap (λ (y : Letter). in_word ended 0 && in_word (get_or owns (y.sender % station_room) 0) (y.link % link_room)) x)
+      (ep ∙ ap (λ (y : Letter). past_subject y.body) x) em (ec ∙ ap (λ (y : Letter). counter_holds y.body) x) el
 
   -- ---- all is seen
   abbrev frame : Bool

@@ -29,19 +29,6 @@ pub struct State {
 
 // ---- the test
 
-// As many links as concern a place of the stations: an unused one has none.
-fn either(a: bool, b: bool) -> bool
-    ensures { result ≡ (a || b) }
-{
-    if a { true } else { b }
-}
-
-fn links_there(used: bool, links: u8) -> u8
-    ensures { result ≡ (if used then links else 0) }
-{
-    if used { links } else { 0 }
-}
-
 // Whether a place of the stations is right: an unused one is down, with no mark and no counter, as a station without links.
 // What the type says of the station is told along: the network's step needs it of every station of a state.
 // Promise: equals `State.place_test`: a station that is there, well formed by these links and own links; else an unused place, zero; with
@@ -49,10 +36,11 @@ fn links_there(used: bool, links: u8) -> u8
 pub fn station_place(links: u8, used: bool, own: u64, st: Station) -> bool
     ensures { (result ≡ place_test links used own st) × Fits st }
 {
-    let condition = st.condition;
-    let stands = either(used, station_kinds::is_down(condition));
-    let there = links_there(used, links);
-    sets::both(stands, state_rules::station_formed(there, own, st))
+    let stands = used || station_kinds::is_down(st.condition);
+    // an unused place has no links
+    let there = if used { links } else { 0 };
+    let formed = state_rules::station_formed(there, own, st);
+    stands && formed
 }
 
 // 0 of a request, which an unused place holds, and of nothing else.
@@ -61,8 +49,8 @@ fn tag_of(b: Body) -> u64
 {
     match b {
         Body::Request => 0,
-        Body::Reply(c) => 1,
-        Body::Notice(j, c) => 2,
+        Body::Reply(_) => 1,
+        Body::Notice(_, _) => 2,
     }
 }
 
@@ -72,8 +60,7 @@ fn tag_of(b: Body) -> u64
 pub fn word_of(x: Letter) -> u64
     ensures { eqb result 0 ≡ is_no_letter x }
 {
-    let body = x.body;
-    x.link as u64 + x.sender as u64 * 65536 + tag_of(body) * 4294967296
+    x.link as u64 + x.sender as u64 * 65536 + tag_of(x.body) * 4294967296
 }
 
 // Whether the network is good and no more letters are in flight than there is room for.
@@ -81,7 +68,7 @@ pub fn word_of(x: Letter) -> u64
 pub fn frame_holds(net: Net, flying: u16) -> bool
     ensures { result ≡ (net_holds net && leb flying letter_room) }
 {
-    sets::both(sheet_rules::keeps_sheet_rules(net), flying <= MOST_LETTERS)
+    sheet_rules::keeps_sheet_rules(net) && flying <= MOST_LETTERS
 }
 
 // As many places of the letters as are used, whatever the number: no more than there are.
@@ -89,11 +76,7 @@ pub fn frame_holds(net: Net, flying: u16) -> bool
 pub fn used_places(flying: u16) -> u16
     ensures { result ≡ min flying letter_room }
 {
-    if flying < MOST_LETTERS {
-        flying
-    } else {
-        MOST_LETTERS
-    }
+    flying.min(MOST_LETTERS)
 }
 
 // Whether all that was seen of a state is right: its frame, its stations, its letters in flight and the places beyond them.
@@ -101,16 +84,7 @@ pub fn used_places(flying: u16) -> u16
 pub fn all_hold(framed: bool, placed: bool, carried: bool, rest: u64) -> bool
     ensures { result ≡ ((framed && placed) && (carried && eqb rest 0)) }
 {
-    if !framed {
-        return false;
-    }
-    if !placed {
-        return false;
-    }
-    if !carried {
-        return false;
-    }
-    rest == 0
+    framed && placed && carried && rest == 0
 }
 
 // Whether the state is well formed. Where not, a call that is given it refuses with 11.
@@ -124,26 +98,21 @@ pub fn well_formed(s: State) -> bool
     let framed = frame_holds(net, flying);
     let owns = marks::own_words(net);
     let mut placed = true;
-    for i in 0..MOST_STATIONS {
-        let at = i as usize;
-        let st = s.stations[at];
-        let right = station_place(net.links, i < net.stations, owns[at], st);
-        placed = sets::both(placed, right);
+    let n = net.stations as usize;
+    for (i, st) in s.stations.iter().enumerate() {
+        placed &= station_place(net.links, i < n, owns[i], *st);
     }
     let used = used_places(flying);
     let mut ways: u64 = 0;
     let mut ended: u64 = 1;
     let mut most: u16 = 0;
     let mut least: u16 = 1;
-    for j in 0..used {
-        let at = j as usize;
-        let x = s.letters[at];
-        let body = x.body;
+    for x in s.letters[..used as usize].iter() {
         let k = x.sender as usize % STATION_ROOM;
         ways = state_rules::joined_ways(ways, x.link, x.sender);
         ended = state_rules::still_ended(ended, owns[k], x.link);
-        most = state_rules::larger(most, state_rules::past_subject(body));
-        least = state_rules::smaller(least, state_rules::counter_said(body));
+        most = state_rules::larger(most, state_rules::past_subject(x.body));
+        least = state_rules::smaller(least, state_rules::counter_said(x.body));
     }
     // the places beyond them, from two starts at once: each joining waits for the one before it
     let half = (MOST_LETTERS - used + 1) / 2;
@@ -155,7 +124,7 @@ pub fn well_formed(s: State) -> bool
         let to = second + j as usize;
         let x = s.letters[at];
         let y = s.letters[to];
-        rest = rest | (word_of(x) | word_of(y));
+        rest |= word_of(x) | word_of(y);
     }
     let carried = state_rules::letters_formed(net.links, ways, ended, most, least);
     all_hold(framed, placed, carried, rest)
@@ -164,6 +133,7 @@ pub fn well_formed(s: State) -> bool
 // ---- The state right after a sheet is read: every station down, no letter in flight.
 
 // A state just made, or the number that says no.
+// Stays: a refusal has a state beside its number, by `Beginning.begun_of` (11, with a state that no call accepts).
 #[derive(Clone, Copy)]
 pub struct Begun {
     pub answer: u8,
@@ -176,13 +146,7 @@ fn no_station() -> Station
     Station {
         condition: Condition::Down,
         counters: [0u16; LINK_ROOM],
-        marks: Words {
-            token: 0,
-            turn: 0,
-            testing: 0,
-            asked: 0,
-            quiet: 0,
-        },
+        marks: Words::default(),
     }
 }
 
@@ -191,25 +155,8 @@ fn down_station(net: Net) -> Station
     ensures { result ≡ laid net blank (done_by (network_of net) 0 nobody stop_act).holding }
 {
     Station {
-        condition: Condition::Down,
         counters: station_table::fresh_counters(net.links),
-        marks: Words {
-            token: 0,
-            turn: 0,
-            testing: 0,
-            asked: 0,
-            quiet: 0,
-        },
-    }
-}
-
-fn no_letter() -> Letter
-    ensures { result ≡ no_letter }
-{
-    Letter {
-        link: 0,
-        sender: 0,
-        body: Body::Request,
+        ..no_station()
     }
 }
 
@@ -221,7 +168,7 @@ pub fn fresh(net: Net) -> Begun
 {
     let nobody = no_station();
     let mut stations = [nobody; STATION_ROOM];
-    let unused = no_letter();
+    let unused = Letter::default();
     let letters = [unused; LETTER_ROOM];
     if !sheet_rules::keeps_sheet_rules(net) {
         return Begun {
@@ -235,11 +182,8 @@ pub fn fresh(net: Net) -> Begun
         };
     }
     let down = down_station(net);
-    let n = net.stations;
-    for i in 0..n {
-        let at = i as usize;
-        stations[at] = down;
-    }
+    let n = net.stations as usize;
+    stations[..n].fill(down);
     Begun {
         answer: 0,
         state: State {

@@ -1,13 +1,12 @@
-use Rattle.std.proofs.Common.{ℕ, List, ap, ◌∙◌}
-use Rattle.station.specs.declared.Condition.TheVariants.{Down}
+use Rattle.std.proofs.Common.{ℕ, List, ap₂, ◌∙◌}
 use Rattle.station.specs.declared.Station.{Station}
-use Rattle.station.specs.Values.{no_words}
+use Rattle.station.specs.Values.{blank}
 use Rattle.station.proofs.Fresh.{stop_is}
 use Rattle.state.proofs.down_station.Goals as goal
 
-down : List ℕ → Station
-down xs = record { condition = Down; counters = xs; marks = no_words }
+with_counters : List ℕ → Station → Station
+with_counters xs st = record { condition = st.condition; counters = xs; marks = st.marks }
 
 pub returns : goal.returns
-unfolding down
-returns c = ap down c.fresh_counters.ensures ∙ stop_is c.args.net 0
+unfolding with_counters blank
+returns c = ap₂ with_counters c.fresh_counters.ensures c.no_station.ensures ∙ stop_is c.args.net 0
