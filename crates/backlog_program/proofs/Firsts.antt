@@ -11,7 +11,7 @@ use Rattle.event_program.specs.Events.{answer_text}
 use Rattle.backlog_program.specs.Backlog.{first_text, first_most}
 
 pub first_whole : (taken answer flying settled : ℕ)
-    → ((((([] ++ digits taken) ++ (32 ∷ [])) ++ field_text answer) ++ field_text flying) ++ digits settled) ++ (10 ∷ [])
+    → ((((digits taken ++ (32 ∷ [])) ++ field_text answer) ++ field_text flying) ++ digits settled) ++ (10 ∷ [])
     ≡ first_text taken answer flying settled
 unfolding first_text answer_text field_text
 first_whole taken answer flying settled = simp append_assoc

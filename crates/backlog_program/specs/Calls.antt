@@ -4,8 +4,7 @@
 use Rattle.std.specs.Prelude.{ℕ, List, [], ◌∷◌, ◌++◌, eqb, if◌then◌else◌}
 use Rattle.event_lines.specs.Begun.{is_begun}
 use Rattle.backlog_rules.specs.Backlog.{backlog_of}
-use Rattle.console.specs.declared.Opened.{Opened}
-use Rattle.console.specs.Sheets.{file_sheet, opened_by, refusal_text}
+use Rattle.console.specs.Sheets.{Opened, file_sheet, opened_by, refusal_text}
 use Rattle.console.specs.Feeding.{closing_by}
 use Rattle.event_list.specs.Lines.{numbers_in, line_after}
 use Rattle.event_program.specs.Stations.{stations_text}

@@ -3,23 +3,25 @@
 // Inner doors: the calls are in docs/CALLS.md.
 #![tactic(auto)]
 
-ghost use Rattle.std.specs.Prelude.{◌≡◌};
-ghost use Rattle.tally.specs.Sums.{added};
+ghost use Rattle.std.specs.Prelude.{◌≡◌, IfOk};
 ghost use Rattle.console.specs.Outputs.{Counts, wrote_by};
 ghost use Rattle.fields.specs.Output.{with_room, writing_output};
 ghost use Rattle.backlog_program.specs.Runs.{listing_of, ran_by, first_ran};
 ghost use Rattle.backlog_program.specs.Backlog.{first_text, first_most};
 
-use console::Wrote;
+use console::Refusal;
 use event_lines::Reading;
 use net::Net;
 use state::State;
 use tally::Tally;
+use text::Line;
 
 // ---- the call
 
 // After a piece of the input: 0 or the number that says no, how many events were taken in all, and what goes on from there. The count has
 // 64 bits and stays at its largest value once there.
+// Stays: a number beside the rest, since a refusal too hands back the state, the tally and the reading: the definition `Runs.ran_by`.
+// Stays: no one type with `event_program::Ran`: a parameter for the count, of events taken or of the trace's numbers, is no plainer.
 #[derive(Clone, Copy)]
 pub struct Ran {
     pub answer: u8,
@@ -34,31 +36,13 @@ pub struct Ran {
 pub fn begin(net: Net) -> Ran
     ensures { result ≡ first_ran net }
 {
-    let begun = state::fresh(net);
-    let state = begun.state;
-    let reading = event_lines::begin();
-    let tally = Tally {
-        settled: 0,
-        raised: 0,
-        dropped: 0,
-    };
+    let first = event_program::begin(net);
     Ran {
-        answer: begun.answer,
+        answer: first.answer,
         taken: 0,
-        reading,
-        tally,
-        state,
-    }
-}
-
-// The test comes first, so that no sum wraps.
-fn count_on(count: u64, n: u64) -> u64
-    ensures { result ≡ added count n }
-{
-    if 18446744073709551615 - count < n {
-        18446744073709551615
-    } else {
-        count + n
+        reading: first.reading,
+        tally: first.tally,
+        state: first.state,
     }
 }
 
@@ -74,30 +58,22 @@ pub fn take_lines(ran: Ran, bytes: &[u8], list: &mut [u32]) -> Ran
     if ran.answer != 0 {
         return ran;
     }
-    let reading = ran.reading;
-    let tally = ran.tally;
-    let state = ran.state;
-    let listed = event_list::list_lines(reading, bytes, list);
-    if listed.answer != 0 {
-        return Ran {
-            answer: listed.answer,
-            taken: ran.taken,
-            reading,
-            tally,
-            state,
-        };
-    }
-    let size = listed.size;
-    let behind = listed.reading;
-    let done = backlog_run::run_backlog(state, tally, &list[..size]);
-    let sums = done.tally;
-    let after = done.state;
+    let listed = match event_list::list_lines(ran.reading, bytes, list) {
+        Ok(listed) => listed,
+        Err(short) => {
+            return Ran {
+                answer: short.number(),
+                ..ran
+            };
+        }
+    };
+    let done = backlog_run::run_backlog(ran.state, ran.tally, &list[..listed.size]);
     Ran {
         answer: done.answer,
-        taken: count_on(ran.taken, done.taken as u64),
-        reading: behind,
-        tally: sums,
-        state: after,
+        taken: ran.taken.saturating_add(done.taken as u64),
+        reading: listed.reading,
+        tally: done.tally,
+        state: done.state,
     }
 }
 
@@ -106,27 +82,28 @@ pub fn take_lines(ran: Ran, bytes: &[u8], list: &mut [u32]) -> Ran
 // The first line; the stations' lines behind it are those of the event program.
 // Promise: `TAKEN ANSWER FLYING SETTLED`: how many events were taken, 0 or the number that said no, the letters in flight, the notices
 // settled.
-pub fn put_backlog(taken: u64, answer: u8, flying: u16, settled: u64, out: &mut [u8]) -> Wrote
+pub fn put_backlog(
+    taken: u64,
+    answer: u8,
+    flying: u16,
+    settled: u64,
+    out: &mut [u8],
+) -> Result<usize, Refusal>
     ensures answer { result ≡ wrote_by (with_room first_most (first_text taken answer flying settled) out.old) }
     ensures output { out.new ≡ writing_output (with_room first_most (first_text taken answer flying settled) out.old)
         out.old }
-    ensures room { Counts result.written out.new }
+    ensures room { IfOk result (λ n. Counts n out.new) }
 {
     // two numbers of at most 20 digits, one of 3, one of 5, three spaces and the newline
     if out.len() < 52 {
-        return Wrote {
-            answer: 10,
-            written: 0,
-        };
+        return Err(Refusal(10));
     }
-    let a = text::put_number(out, 0, taken);
-    let b = text::put_word(out, a, b" ");
-    let c = text::put_field(out, b, answer as u16);
-    let d = text::put_field(out, c, flying);
-    let e = text::put_number(out, d, settled);
-    let end = text::put_word(out, e, b"\n");
-    Wrote {
-        answer: 0,
-        written: end,
-    }
+    let mut line = Line { out, at: 0 };
+    line.number(taken);
+    line.word(b" ");
+    line.field(answer as u16);
+    line.field(flying);
+    line.number(settled);
+    line.word(b"\n");
+    Ok(line.at)
 }

@@ -1,5 +1,5 @@
 -- What each way out of `run_lines` gives; and the loop of `put_answers`.
-use Rattle.std.specs.Prelude.{if◌then◌else◌}
+use Rattle.std.specs.Prelude.{if◌then◌else◌, Result, Ok, Err}
 use Prim.Native.Nat.{ℕ, zero, suc, ◌+◌, ◌*◌, ◌/◌, ◌≤◌, ◌<◌}
 use mathlib.Core.Bool.{Bool, true, false}
 use mathlib.Core.Path.{◌≡◌, refl, sym, ap, ap₂, ◌∙◌, subst, subst⁻¹}
@@ -16,7 +16,8 @@ use Rattle.fields.specs.Output.{Writing, denied, writes, with_room, fitting, wri
 use Rattle.text.proofs.Puts.{put_fits, length_put}
 use Rattle.event_lines.specs.declared.Reading.{Reading}
 use Rattle.event_list.specs.declared.Listed.{Listed}
-use Rattle.event_list.specs.Lines.{numbers_in, listing, listed_by}
+use Rattle.event_list.specs.declared.ListShort.{ListShort}
+use Rattle.event_list.specs.Lines.{numbers_in, line_after, listing, listed_by}
 use Rattle.event_list.proofs.Whole.{whole_events}
 use Rattle.state.specs.declared.State.{State}
 use Rattle.state.specs.State.{state_holds}
@@ -63,21 +64,24 @@ module _ (s : State) (t : Tally) (r : Reading) (bytes list trace : List ℕ) whe
       × ((list' ≡ writing_output (listing r bytes list) list)
       × ((trace' ≡ writing_output (running s t r bytes list trace) trace) × Counts n.size trace'))
 
-  module _ (l : Listed) (list' : List ℕ) (said : l ≡ listed_by (listing r bytes list) r bytes)
-      (filled : list' ≡ writing_output (listing r bytes list) list) where
+  module _ (list' : List ℕ) (filled : list' ≡ writing_output (listing r bytes list) list) where
+    abbrev Says : Bool → Result Listed ListShort → Type 0
+    Says short l = l ≡ listed_by (if short then denied 10 else writes (numbers_in r bytes)) r bytes
+
     -- the list is too short
-    pub ran_unlisted : (l.answer ≡ 0 → ⊥) → RanLines (ran_as l.answer 0 r t s) list' trace
+    pub ran_unlisted : (x : ListShort) (k : ℕ) → Err x ≡ listed_by (listing r bytes list) r bytes → k ≡ 10
+        → RanLines (ran_as k 0 r t s) list' trace
     unfolding listing running
-    ran_unlisted z = go (dec_le (3 * length bytes) (length list))
+    ran_unlisted x k said e = go (dec_le (3 * length bytes) (length list))
       where
-        go : Dec (3 * length bytes ≤ length list) → RanLines (ran_as l.answer 0 r t s) list' trace
-        go (yes h) = absurd (z (ap (λ (x : Listed). x.answer) said ∙ simp (le-ltb (length list) (3 * length bytes) h)))
+        go : Dec (3 * length bytes ≤ length list) → RanLines (ran_as k 0 r t s) list' trace
+        go (yes h) =
+            let w : Says false (Err x) = subst (λ (b : Bool). Says b (Err x)) (le-ltb (length list) (3 * length bytes) h) said in cc
         go (no h) =
             let short = lt-ltb (length list) (3 * length bytes) (omega arith) in
-            let ten : l.answer ≡ 10 = ap (λ (x : Listed). x.answer) said ∙ simp short in
-            (ap (λ (k : ℕ). ran_as k 0 r t s) ten ∙ sym (simp short), (filled, (sym (simp short), counts_none trace)))
+            (ap (λ (n : ℕ). ran_as n 0 r t s) e ∙ sym (simp short), (filled, (sym (simp short), counts_none trace)))
 
-    module _ (z : l.answer ≡ 0) where
+    module _ (l : Listed) (said : Ok l ≡ listed_by (listing r bytes list) r bytes) where
       roomy : 3 * length bytes ≤ length list
       unfolding listing
       roomy = go (dec_le (3 * length bytes) (length list))
@@ -85,16 +89,17 @@ module _ (s : State) (t : Tally) (r : Reading) (bytes list trace : List ℕ) whe
           go : Dec (3 * length bytes ≤ length list) → 3 * length bytes ≤ length list
           go (yes h) = h
           go (no h) =
-              let ten : l.answer ≡ 10 =
-              ap (λ (x : Listed). x.answer) said ∙ simp (lt-ltb (length list) (3 * length bytes) (omega arith)) in
-              absurd (omega arith)
+              let w : Says true (Ok l) =
+              subst (λ (b : Bool). Says b (Ok l)) (lt-ltb (length list) (3 * length bytes) (omega arith)) said in cc
 
-      is_listed : (l ≡ listed_by (writes (numbers_in r bytes)) r bytes) × (list' ≡ onto (numbers_in r bytes) list)
+      is_listed : (l ≡ record { size = length (numbers_in r bytes); reading = line_after r bytes })
+          × (list' ≡ onto (numbers_in r bytes) list)
       unfolding listing
       is_listed =
-          let w = le-ltb (length list) (3 * length bytes) roomy in (
-            said ∙ ap (λ (b : Bool). listed_by (if b then denied 10 else writes (numbers_in r bytes)) r bytes) w,
-            filled ∙ ap (λ (b : Bool). writing_output (if b then denied 10 else writes (numbers_in r bytes)) list) w,
+          let e = le-ltb (length list) (3 * length bytes) roomy in
+          let w : Says false (Ok l) = subst (λ (b : Bool). Says b (Ok l)) e said in (
+            cc,
+            filled ∙ ap (λ (b : Bool). writing_output (if b then denied 10 else writes (numbers_in r bytes)) list) e,
           )
 
       is_running : running s t r bytes list trace ≡ tracing s t (numbers_in r bytes) trace
@@ -221,7 +226,7 @@ module _ (trace old : List ℕ) (i at : ℕ) (out : List ℕ) (p : Printing trac
       never h = omega arith
 
   pub printing_done : i ≡ length trace / 3
-      → (record { answer = 0; written = at } ≡ wrote_by (with_room (answers_most trace) (answers_text trace) old))
+      → (Ok at ≡ wrote_by (with_room (answers_most trace) (answers_text trace) old))
       × ((out ≡ writing_output (with_room (answers_most trace) (answers_text trace) old) old) × Counts at out)
   printing_done e =
       let none : answers_text (drop (3 * i) trace) ≡ [] = no_more (drop (3 * i) trace) (omega (arith, length-drop (3 * i) trace)) in
@@ -229,7 +234,7 @@ module _ (trace old : List ℕ) (i at : ℕ) (out : List ℕ) (p : Printing trac
       let within : at ≤ length out = omega (arith, p.few, p.size) in
       let count : at ≡ length (answers_text trace) = sym (ap length all ∙ length-take-le at out within) in
       simp (le-ltb (length old) (21 * length trace) room) (
-        (λ j. record { answer = 0; written = count j }),
+        ap Ok count,
         (
           sym (take-append-drop at out) ∙ ap₂ (λ (x y : List ℕ). x ++ y) (sym all) (p.tail ∙ ap (λ (k : ℕ). drop k old) count),
           (within, sym (length-take-le at out within)),

@@ -1,6 +1,6 @@
 -- The lines at the end: a station's counters one after the other, and the stations.
 use Prim.Native.Nat.{ℕ, suc, ◌+◌, ◌*◌, ◌≤◌, ◌<◌, min}
-use mathlib.Core.Path.{◌≡◌, refl, sym, ap, ap₂, ◌∙◌}
+use mathlib.Core.Path.{◌≡◌, refl, sym, ap, ap₂, ◌∙◌, subst}
 use Rattle.station.specs.declared.Station.{Station}
 use mathlib.Core.List.{List, [], ◌∷◌, ◌++◌, append_assoc, append-nil}
 use native.Mathlib.Numerals.{add-one}
@@ -12,11 +12,12 @@ use Rattle.lists.specs.Places.{collect}
 use Rattle.lists.proofs.Places.{collect_append}
 use Rattle.text.specs.Text.{digits}
 use Rattle.net.proofs.ValueLaws.{stations_of}
-use Rattle.text.proofs.Puts.{place_fits}
-use Rattle.text.proofs.Chains.{Chain, chain_fits}
 use Rattle.state.specs.declared.State.{State}
 use Rattle.state.specs.State.{beyond}
 use Rattle.console.proofs.Puts.{byte_digits, counter_digits, texts_more}
+use Rattle.text.specs.declared.Line.{Line}
+use Rattle.text.specs.Line.{Adds}
+use Rattle.text.proofs.Lines.{adds_none, adds_more, adds_same}
 use Rattle.event_program.specs.Stations.{station_text, station_line, stations_text, station_most}
 
 -- a counter, with the space before it
@@ -56,20 +57,27 @@ unfolding stations_text
 stations_whole s n i e h = ap (λ (k : ℕ). collect (station_line s) (below k)) (h ∙ e ∙ sym (stations_of s.net))
 
 -- the code's table of one station
-pub same_table : (s : State) (i n m : ℕ) → i < n → m ≡ min s.net.links 64
-    → collect (station_line s) (below i) ++ station_text i (take m (get_or (take n s.stations) i beyond).counters)
-    ≡ collect (station_line s) (below (i + 1))
-same_table s i n m h e =
-    ap₂ (λ (k : ℕ) (x : Station). collect (station_line s) (below i) ++ station_text i (take k x.counters)) e
-    (get_or-take n s.stations i beyond h) ∙ texts_more (station_line s) i
+table_of_one : (s : State) (i n m : ℕ) → i < n → m ≡ min s.net.links 64
+    → station_text i (take m (get_or (take n s.stations) i beyond).counters) ≡ station_line s i
+table_of_one s i n m h e =
+    ap₂ (λ (k : ℕ) (x : Station). station_text i (take k x.counters)) e (get_or-take n s.stations i beyond h)
 
--- what fits is no longer than the place behind it
-pub stations_few : (text : List ℕ) (most : ℕ) (old : List ℕ) (r : ℕ) (new : List ℕ) → Chain text 0 old r new → r ≤ most → most ≤ length old
-    → length text ≤ most
-stations_few text most old r new c h l =
-    omega (
-      arith,
-      chain_fits text 0 old r new c (omega arith),
-      c.place
-          ∙ place_fits text 0 old (chain_fits text 0 old r new c (omega arith)),
-    )
+-- the lines of the stations before i, and how long they are
+pub record Lines (s : State) (i : ℕ) (a b : Line) : Type 0 where
+  pub text : Adds (collect (station_line s) (below i)) a b
+  pub few : length (collect (station_line s) (below i)) ≤ station_most * i
+
+pub no_lines : (s : State) (a : Line) → Lines s 0 a a
+no_lines s a = record { text = adds_none a; few = omega arith }
+
+pub one_more : (s : State) (i n m : ℕ) (a b c : Line) → i < n → m ≡ min s.net.links 64 → Lines s i a b
+    → (let text = station_text i (take m (get_or (take n s.stations) i beyond).counters) in Adds text b c × (length text ≤ station_most))
+    → Lines s (i + 1) a c
+one_more s i n m a b c h e l p =
+    let same = table_of_one s i n m h e in
+    let more = texts_more (station_line s) i in
+    let few : length (station_line s i) ≤ station_most = subst (λ (x : List ℕ). length x ≤ station_most) same p.1 in
+    record {
+      text = adds_same more (adds_more l.text (adds_same same p.0));
+      few = omega (arith, l.few, few, sym (ap length more), length-append (collect (station_line s) (below i)) (station_line s i));
+    }

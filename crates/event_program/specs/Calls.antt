@@ -8,8 +8,7 @@ use Rattle.event_lines.specs.Begun.{is_begun}
 use Rattle.event_list.specs.Lines.{numbers_in}
 use Rattle.state.specs.State.{state_holds}
 use Rattle.backlog_rules.specs.Answers.{turns}
-use Rattle.console.specs.declared.Opened.{Opened}
-use Rattle.console.specs.Sheets.{file_sheet, opened_by, refusal_text}
+use Rattle.console.specs.Sheets.{Opened, file_sheet, opened_by, refusal_text}
 use Rattle.console.specs.Feeding.{closing_by}
 use Rattle.event_program.specs.declared.Ran.{Ran}
 use Rattle.event_program.specs.Stations.{stations_text}

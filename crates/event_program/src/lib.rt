@@ -3,23 +3,26 @@
 // Inner doors: the calls are in docs/CALLS.md.
 #![tactic(auto)]
 
-ghost use Rattle.std.specs.Prelude.{◌≡◌, ◌+◌, ◌*◌, ◌<◌, ◌≤◌, length, take};
+ghost use Rattle.std.specs.Prelude.{◌≡◌, ◌+◌, ◌<◌, ◌≤◌, length, IfOk};
 ghost use Rattle.console.specs.Outputs.{Counts, Put, wrote_by};
 ghost use Rattle.fields.specs.Output.{with_room, writing_output};
+ghost use Rattle.text.specs.Line.{Adds};
 ghost use Rattle.event_list.specs.Lines.{listing};
 ghost use Rattle.event_program.specs.Events.{answer_text};
 ghost use Rattle.event_program.specs.Runs.{running, ran_by, first_ran, answers_text, answers_most};
 ghost use Rattle.event_program.specs.Stations.{station_text, station_most, stations_text, stations_most};
 
-use console::Wrote;
+use console::Refusal;
 use event_lines::Reading;
 use net::Net;
 use state::State;
 use tally::Tally;
+use text::Line;
 
 // ---- events
 
 // After a piece of the input: 0 or the number that says no, how many numbers stand at the trace's front, and all that goes on from there.
+// Stays: a number beside the rest, since a refusal too hands back the state, the tally and the reading: the definition `Runs.ran_by`.
 #[derive(Clone, Copy)]
 pub struct Ran {
     pub answer: u8,
@@ -63,16 +66,18 @@ pub fn run_lines(
         (running given t r bytes.now list.old trace.old) trace.old }
     ensures room { Counts result.size trace.new }
 {
-    let listed = event_list::list_lines(r, bytes, list);
-    if listed.answer != 0 {
-        return Ran {
-            answer: listed.answer,
-            size: 0,
-            reading: r,
-            tally: t,
-            state: given,
-        };
-    }
+    let listed = match event_list::list_lines(r, bytes, list) {
+        Ok(listed) => listed,
+        Err(short) => {
+            return Ran {
+                answer: short.number(),
+                size: 0,
+                reading: r,
+                tally: t,
+                state: given,
+            };
+        }
+    };
     let done = backlog_run::run_with_answers(given, t, &list[..listed.size], trace);
     if done.answer != 0 {
         return Ran {
@@ -109,70 +114,59 @@ fn put_answer(out: &mut [u8], at: usize, answer: u64, flying: u64, settled: u64)
 // A line for each event of a trace.
 // Promise: for each three numbers of the trace the line that document 01 has the event program print: answer, letters in flight, notices
 // settled so far; 10 where the output has fewer than 21 bytes for each number.
-pub fn put_answers(trace: &[u64], out: &mut [u8]) -> Wrote
+pub fn put_answers(trace: &[u64], out: &mut [u8]) -> Result<usize, Refusal>
     ensures answer { result ≡ wrote_by (with_room (answers_most trace.now) (answers_text trace.now)
         out.old) }
     ensures output { out.new ≡ writing_output (with_room (answers_most trace.now) (answers_text trace.now)
         out.old) out.old }
-    ensures room { Counts result.written out.new }
+    ensures room { IfOk result (λ n. Counts n out.new) }
 {
     // no number has more than 20 digits, and one byte stands behind each
     if out.len() / 21 < trace.len() {
-        return Wrote {
-            answer: 10,
-            written: 0,
-        };
+        return Err(Refusal(10));
     }
     let mut at = 0;
     let (events, _) = trace.as_chunks::<3>();
     for &[answer, flying, settled] in events {
         at = put_answer(out, at, answer, flying, settled);
     }
-    Wrote {
-        answer: 0,
-        written: at,
-    }
+    Ok(at)
 }
 
 // ---- Where the stations stand at the end of the event program: each station's counters, on bytes and values alone. Nothing here reads
 // or writes.
 
 // A station's number and its counters by link.
-fn put_station(out: &mut [u8], at: usize, i: usize, counters: &[u16]) -> usize
-    requires { (at + station_most ≤ length out.old) × (i < 256) × (length counters.now ≤ 64) }
-    ensures { Put (station_text i counters.now) station_most at out.old result out.new }
+fn put_station(line: &mut Line, i: usize, counters: &[u16])
+    requires { (i < 256) × (length counters.now ≤ 64) }
+    ensures text { Adds (station_text i counters.now) line.old line.new }
+    ensures few { length (station_text i counters.now) ≤ station_most }
 {
-    let mut to = text::put_number(out, at, i as u64);
+    line.number(i as u64);
     for counter in counters {
-        let behind = text::put_word(out, to, b" ");
-        to = text::put_number(out, behind, *counter as u64);
+        line.word(b" ");
+        line.number(*counter as u64);
     }
-    text::put_word(out, to, b"\n")
+    line.word(b"\n");
 }
 
 // One line per station.
 // Promise: one line per station, its number and its counters by link.
-pub fn put_stations(s: State, out: &mut [u8]) -> Wrote
+pub fn put_stations(s: State, out: &mut [u8]) -> Result<usize, Refusal>
     ensures answer { result ≡ wrote_by (with_room stations_most (stations_text s) out.old) }
     ensures output { out.new ≡ writing_output (with_room stations_most (stations_text s) out.old)
         out.old }
-    ensures room { Counts result.written out.new }
+    ensures room { IfOk result (λ n. Counts n out.new) }
 {
     // 32 lines, each of at most 400 bytes
     if out.len() < 12800 {
-        return Wrote {
-            answer: 10,
-            written: 0,
-        };
+        return Err(Refusal(10));
     }
     let stations = s.net.stations.min(32) as usize;
     let links = s.net.links.min(64) as usize;
-    let mut at = 0;
+    let mut line = Line { out, at: 0 };
     for (i, station) in s.stations[..stations].iter().enumerate() {
-        at = put_station(out, at, i, &station.counters[..links]);
+        put_station(&mut line, i, &station.counters[..links]);
     }
-    Wrote {
-        answer: 0,
-        written: at,
-    }
+    Ok(line.at)
 }

@@ -1,5 +1,5 @@
 use Rattle.event_program.proofs.Stations.{counter_text}
-use Rattle.text.proofs.Chains.{Chain}
+use Rattle.text.specs.Line.{Adds}
 use Rattle.lists.specs.Places.{collect}
 use Rattle.text.specs.Text.{digits}
 use lib.ListN.{take}
@@ -7,5 +7,4 @@ use mathlib.Core.List.{[], ◌++◌}
 use Rattle.event_program.proofs.put_station.Given as goal
 
 abbrev pub invariant-loop-counter : goal.invariant-loop-counter
-invariant-loop-counter l =
-    Chain (([] ++ digits l.i) ++ collect counter_text (take l.counter-index l.counters)) l.at l.fn.out l.to l.out
+invariant-loop-counter l = Adds (([] ++ digits l.i) ++ collect counter_text (take l.counter-index l.counters)) l.fn.line l.line
