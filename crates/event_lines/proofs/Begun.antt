@@ -35,4 +35,5 @@ space_begins r =
 
 pub byte_begins : (r : Reading) (b : ℕ) → is_begun (read_on r b) ≡ true
 unfolding read_on
-byte_begins r b = if_elim Begun (eqb b 32) (λ t. space_begins r) (λ t. if_elim Begun (is_digit b) (λ u. digit_begins r (b - 48)) (λ u. refl))
+byte_begins r b =
+    if_elim Begun (eqb b 32) (λ t. space_begins r) (λ t. if_elim Begun (is_digit b) (λ u. digit_begins r (b - 48)) (λ u. refl))

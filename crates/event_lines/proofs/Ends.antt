@@ -104,7 +104,9 @@ abbrev pub newline_place : List ℕ → Option ℕ
 newline_place = position (λ b. b == 10)
 
 size_is : (later : List ℕ) → line_size later ≡ position_or_len (λ b. b == 10) later
-size_is = is_position_or_len line_size (λ b. b == 10) refl (λ b others. ap (λ (n : ℕ). if b == 10 then 0 else n) (one_more (line_size others)))
+size_is =
+    is_position_or_len line_size (λ b. b == 10) refl
+    (λ b others. ap (λ (n : ℕ). if b == 10 then 0 else n) (one_more (line_size others)))
   where
     one_more : (n : ℕ) → suc n ≡ 1 + n
     one_more n = omega arith

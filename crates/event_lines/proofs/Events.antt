@@ -103,7 +103,8 @@ on_first_lem b (p ∷ ps) = record { head = b ∷ p; tail = ps; same = refl }
 some : (bytes : List ℕ) → Some (pieces bytes)
 unfolding pieces
 some [] = record { head = []; tail = []; same = refl }
-some (b ∷ bytes) = if_elim Some (eqb b 32) (λ t. record { head = []; tail = pieces bytes; same = refl }) (λ t. on_first_lem b (pieces bytes))
+some (b ∷ bytes) =
+    if_elim Some (eqb b 32) (λ t. record { head = []; tail = pieces bytes; same = refl }) (λ t. on_first_lem b (pieces bytes))
 
 pieces_space : (b : ℕ) (bytes : List ℕ) → b ≡ 32 → pieces (b ∷ bytes) ≡ [] ∷ pieces bytes
 unfolding pieces

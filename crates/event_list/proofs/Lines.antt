@@ -49,7 +49,8 @@ Going bytes old r₀ out r at from = Feeding.Going start read_on line_end passes
 
 module _ (bytes old : List ℕ) (r₀ : Reading) (out : List ℕ) (r : Reading) (at from : ℕ) (g : Going bytes old r₀ out r at from) where
   -- a turn: a line ends in these bytes, and is listed
-  module _ (stop : ℕ) (is : Some stop ≡ end_from bytes from) (line : Reading) (reads : line ≡ fed r (take (stop - from) (drop from bytes))) where
+  module _ (stop : ℕ) (is : Some stop ≡ end_from bytes from) (line : Reading)
+      (reads : line ≡ fed r (take (stop - from) (drop from bytes))) where
     pub turn_room : at + 3 ≤ length out
     turn_room = Feeding.going_room start read_on line_end passes lists 3 bytes old tt r₀ out tt r at from g stop is line reads
 
@@ -61,7 +62,8 @@ module _ (bytes old : List ℕ) (r₀ : Reading) (out : List ℕ) (r : Reading) 
         tt refl (three_of (line_end line)) refl n new w next begun
 
   -- the line goes on behind these bytes
-  pub listed : None ≡ end_from bytes from → (line : Reading) → line ≡ fed r (take (length bytes - from) (drop from bytes)) → length bytes ≤ length old / 3
+  pub listed : None ≡ end_from bytes from → (line : Reading) → line ≡ fed r (take (length bytes - from) (drop from bytes))
+      → length bytes ≤ length old / 3
       → (Ok (record { size = at; reading = line }) ≡ listed_by (listing r₀ bytes old) r₀ bytes)
       × ((out ≡ writing_output (listing r₀ bytes old) old) × Counts at out)
   unfolding listing

@@ -12,7 +12,6 @@ ghost use Rattle.event_list.specs.Wholes.{Numbered, WholeLine};
 use event_lines::{Event, Reading};
 
 // The event of a line. A malformed one is none: there is no kind 0, so that it is refused as 6 and changes nothing.
-#[tactic(auto, unfolding(crate::specs::Lines::asked_by))]
 fn asked_of(r: Reading) -> Event
     ensures { result ≡ asked_by (line_end r) }
 {
@@ -105,6 +104,7 @@ fn whole_line(fresh: bool, bytes: &[u8], from: usize) -> Option<Line>
 }
 
 // How many numbers stand at the list's front, and how far the line behind them is read.
+// Stays: numbers, three an event, and no list of `Event`: `Lines.listed_by` and the call that takes the list, `backlog_run`'s, count so
 #[derive(Debug, Clone, Copy, PartialEq, Eq)]
 pub struct Listed {
     pub size: usize,
@@ -138,6 +138,7 @@ pub fn list_lines(r: Reading, bytes: &[u8], list: &mut [u32]) -> Result<Listed, 
     }
     let mut reading = r;
     // whether no byte of the line is read yet; the line under way goes byte by byte
+    // Stays: the two as one Option<Reading>, none where no byte is read, takes 52 ns a line in place of 45 where most are malformed
     let mut fresh = false;
     let mut at: usize = 0;
     let mut from: usize = 0;

@@ -67,7 +67,6 @@ fn with_hex(r: HexReading, digit: u8) -> HexReading
 }
 
 // One byte more of a hexadecimal line.
-#[tactic(auto, unfolding(crate::specs::HexSteps::read_hex))]
 fn read_hex(r: HexReading, byte: u8) -> HexReading
     ensures { result ≡ read_hex r byte }
 {

@@ -38,10 +38,12 @@ pub slice_bounds-read_bytes-count-in-loop-whole : goal.slice_bounds-read_bytes-c
 slice_bounds-read_bytes-count-in-loop-whole c = end_after _ _ _ c.in-Some-find_end.ensures
 
 pub slice_bounds-read_bytes-start-in-loop-whole : goal.slice_bounds-read_bytes-start-in-loop-whole
-slice_bounds-read_bytes-start-in-loop-whole c = omega (arith, end_after _ _ _ c.in-Some-find_end.ensures, end_inside _ _ _ c.in-Some-find_end.ensures)
+slice_bounds-read_bytes-start-in-loop-whole c =
+    omega (arith, end_after _ _ _ c.in-Some-find_end.ensures, end_inside _ _ _ c.in-Some-find_end.ensures)
 
 pub slice_bounds-read_bytes-end-in-loop-whole : goal.slice_bounds-read_bytes-end-in-loop-whole
-slice_bounds-read_bytes-end-in-loop-whole c = omega (arith, end_after _ _ _ c.in-Some-find_end.ensures, end_inside _ _ _ c.in-Some-find_end.ensures)
+slice_bounds-read_bytes-end-in-loop-whole c =
+    omega (arith, end_after _ _ _ c.in-Some-find_end.ensures, end_inside _ _ _ c.in-Some-find_end.ensures)
 
 pub put_line-at-requires : goal.put_line-at-requires
 put_line-at-requires c =
