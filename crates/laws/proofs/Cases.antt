@@ -25,7 +25,7 @@ use Rattle.reach.proofs.Cases.{Case}
 use Rattle.station.specs.declared.Condition.TheVariants.{Live}
 use Rattle.station.specs.Holding.{Holding, no_marks, set_token, set_testing, holding_holds}
 use Rattle.station.specs.Done.{letter, known, done_by, own_links}
-use Rattle.station.proofs.Doing.{timeout, answer}
+use Rattle.station.proofs.Doing.{answer}
 use Rattle.station.specs.Events.{due_of}
 use Rattle.station.proofs.Cases.{body_numbers, letter_numbers}
 use Rattle.world.specs.World.{World, Event, holding_at, exists, concerned, rule, comes, done, left, after, fits, refusal, accepted, next}

@@ -2,7 +2,7 @@
 use Rattle.std.specs.Prelude.{if◌then◌else◌}
 use Prim.Native.Nat.{ℕ, ◌+◌, ◌*◌, ◌-◌, ◌≤◌, ◌<◌, max}
 use mathlib.Core.Bool.{Bool, true, false, ◌&&◌}
-use mathlib.Core.Path.{◌≡◌, refl, sym, ap, ap₂, ◌∙◌, subst, subst⁻¹}
+use mathlib.Core.Path.{◌≡◌, refl, ap, ap₂, ◌∙◌, subst, subst⁻¹}
 use mathlib.Core.List.{List, [], ◌∷◌, ◌++◌, append-nil}
 use native.Mathlib.Nat.{le_refl, zero-mul}
 use native.Mathlib.Omega.{arith}
@@ -21,7 +21,7 @@ use Rattle.net.specs.Network.{Network}
 use Rattle.station.specs.Holding.{counter, is_live}
 use Rattle.station.specs.Events.{kind_of, takes_letter, is_notice}
 use Rattle.station.proofs.Tallies.{rule_settles}
-use Rattle.world.specs.World.{World, Event, holding_at, letter_at, concerned, rule, after, refusal, accepted, next}
+use Rattle.world.specs.World.{World, Event, holding_at, letter_at, concerned, rule, refusal, accepted, next}
 use Rattle.world.specs.World.{well_formed, notices_of, settled}
 use Rattle.world.specs.History.{run, total, ever_settled}
 use Rattle.world.proofs.Steps.{is_accepted, step_accepts, taken}

@@ -1,7 +1,7 @@
 -- The demands of the code: a run of calls of the network's step, from a state that is well formed or from a freshly read sheet.
 -- One call is what the step promises and nothing else: its answer is `stepped_of` of what it was given.
 use Prim.Native.Nat.{◌+◌}
-use mathlib.Core.Path.{◌≡◌, sym, ap, ◌∙◌, subst, subst⁻¹}
+use mathlib.Core.Path.{◌≡◌, sym, ap, ◌∙◌, subst⁻¹}
 use mathlib.Core.List.{List}
 use lib.Dec.{T}
 use lib.ListN.{length}
@@ -11,15 +11,14 @@ use Rattle.net.specs.Values.{network_of}
 use Rattle.sheet_rules.specs.Values.{net_holds}
 use Rattle.sheet.specs.Values.{value_of}
 use Rattle.sheet.proofs.ValueLaws.{value_back}
-use Rattle.world.specs.World.{World, Event, well_formed, fresh}
+use Rattle.world.specs.World.{World, Event, fresh}
 use Rattle.world.specs.History.{run, ever_settled, ever_sent, ever_delivered, ever_lost}
 use Rattle.state.specs.declared.State.{State}
-use Rattle.state.specs.State.{world_of, state_of, state_holds, Ends64, Sized}
+use Rattle.state.specs.State.{world_of, state_of, Ends64}
 use Rattle.state.proofs.Meaning.{holds_net, net_is, world_well}
 use Rattle.state.proofs.First.{first_sized, first_holds, first_means}
 use Rattle.step_rules.specs.declared.Stepped.{Stepped}
 use Rattle.step_rules.specs.Step.{stepped_of}
-use Rattle.step_rules.proofs.Bridge as B
 use Rattle.step_rules.proofs.Bridge.{Good, is_step, meaning_determines}
 use Rattle.laws.specs.Flood.{only_notices}
 use Rattle.laws.specs.Tallied.{ever_counted}

@@ -1,4 +1,5 @@
 -- What the returns of `read` say, against a network.
+use Rattle.std.specs.Prelude.{Option, Some, IfSome}
 use Prim.Native.Nat.{ℕ, ◌<◌}
 use mathlib.Core.Bool.{Bool, true, false, ◌&&◌}
 use mathlib.Core.Path.{◌≡◌, refl, sym, ap, ap₂, ◌∙◌}
@@ -8,7 +9,8 @@ use lib.Dec.{eqb, leb, ltb, ltb→lt}
 use lib.ListN.{length, get_or}
 use borrow.Author.Tests.{ne_eqb}
 use Rattle.lists.proofs.Tests.{and_l, is_T}
-use Rattle.fields.specs.Fields.{short, field, first_field, is_empty}
+use Rattle.fields.specs.declared.Cut.{Cut}
+use Rattle.fields.specs.Fields.{short, field, first_field, cut_as, is_empty}
 use Rattle.net.specs.declared.Net.{Net}
 use Rattle.net.specs.declared.Body.{Body}
 use Rattle.net.specs.Network.{Ends, Network}
@@ -19,7 +21,7 @@ use Rattle.letters.specs.declared.Said.{Said}
 use Rattle.letters.specs.Letters.{refused, letter, Form, unknown, says, form_of, sender_of, values_hold, judged, letter_from, read_letter}
 use Rattle.letters.specs.Values.{reading}
 use Rattle.sheet_rules.proofs.Good.{few_places, links_are, ends_are, bodies_are}
-use Rattle.letters.specs.Steps.{values_test, sender_in}
+use Rattle.letters.specs.Steps.{form_in, values_test, sender_in}
 
 -- ---- the values, as the meaning of a good network has them
 values_are : (net : Net) → net_holds net ≡ true → (k side : ℕ) (b : Body)
@@ -61,42 +63,54 @@ module _ {net : Net} {bytes : List ℕ} {t : ℕ} {v rest : List ℕ} (known : F
   unfolding judged
   read_unknown p = judges unknown p
 
-  -- where it has a form
-  module _ (s : Said) (form : says s.body ≡ form_of t v) (ends : (s.link ≡ get_or v 0 0) × (s.side ≡ get_or v 1 0)) where
-    abbrev N : Network
-    N = network_of net
+-- what is known where the field has a form besides
+pub record Formed (net : Net) (bytes : List ℕ) (t : ℕ) (v rest : List ℕ) (s : Said) : Type 0 where
+  pub fielded : Fielded net bytes t v rest
+  pub form : says s.body ≡ form_of t v
+  pub ends : (s.link ≡ get_or v 0 0) × (s.side ≡ get_or v 1 0)
 
-    said : judged N s.link s.side (says s.body) rest ≡ reading net bytes
-    said = ap₂ (λ (x y : ℕ). judged N x y (says s.body) rest) ends.0 ends.1 ∙ judges (says s.body) form
+-- what the calls before the test of the values answered makes it
+pub formed : {net : Net} {bytes : List ℕ} {o : Option Cut} {f : Cut} {q : Option Said} {s : Said} → true ≡ net_holds net
+    → cut_as o ≡ first_field bytes → o ≡ Some f → form_in q ≡ form_of f.tag f.value.now
+    → IfSome q (λ x. (x.link ≡ get_or f.value.now 0 0) × (x.side ≡ get_or f.value.now 1 0)) → q ≡ Some s
+    → Formed net bytes f.tag f.value.now f.rest.now s
+formed g c o f e q = record { fielded = record { good = g; cut = rw o at c }; form = rw q at f; ends = rw q at e }
 
-    holds : (w : Bool) → w ≡ values_test net.links s.link s.side s.body → values_hold N s.link s.side s.body ≡ w
-    holds w g = values_are net (sym known.good) s.link s.side s.body ∙ sym g
+module _ {net : Net} {bytes : List ℕ} {t : ℕ} {v rest : List ℕ} {s : Said} (known : Formed net bytes t v rest s) where
+  abbrev N : Network
+  N = network_of net
 
-    pub read_range : false ≡ values_test net.links s.link s.side s.body → refused 3 ≡ reading net bytes
+  said : judged N s.link s.side (says s.body) rest ≡ reading net bytes
+  said = ap₂ (λ (x y : ℕ). judged N x y (says s.body) rest) known.ends.0 known.ends.1 ∙ judges known.fielded (says s.body) known.form
+
+  holds : (w : Bool) → w ≡ values_test net.links s.link s.side s.body → values_hold N s.link s.side s.body ≡ w
+  holds w g = values_are net (sym known.fielded.good) s.link s.side s.body ∙ sym g
+
+  pub read_range : false ≡ values_test net.links s.link s.side s.body → refused 3 ≡ reading net bytes
+  unfolding judged
+  read_range g = sym (sym said ∙ simp (holds false g))
+
+  -- and its values are good
+  module _ (g : true ≡ values_test net.links s.link s.side s.body) where
+    link_inside : s.link < net.links
+    link_inside =
+        let u = and_l (ltb s.link net.links && leb s.side 1) _ (is_T (values_test net.links s.link s.side s.body) (sym g)) in
+        ltb→lt s.link net.links (and_l (ltb s.link net.links) _ u)
+
+    pub place_inside : s.link < link_room
+    place_inside = omega (arith, link_inside, few_places net (is_T (net_holds net) (sym known.fielded.good)))
+
+    pub read_more : false ≡ eqb (length rest) 0 → refused 2 ≡ reading net bytes
     unfolding judged
-    read_range g = sym (sym said ∙ simp (holds false g))
+    read_more m = sym (sym said ∙ simp (holds true g, empty_test rest, sym m))
 
-    -- and its values are good
-    module _ (g : true ≡ values_test net.links s.link s.side s.body) where
-      link_inside : s.link < net.links
-      link_inside =
-          let u = and_l (ltb s.link net.links && leb s.side 1) _ (is_T (values_test net.links s.link s.side s.body) (sym g)) in
-          ltb→lt s.link net.links (and_l (ltb s.link net.links) _ u)
-
-      pub place_inside : s.link < link_room
-      place_inside = omega (arith, link_inside, few_places net (is_T (net_holds net) (sym known.good)))
-
-      pub read_more : false ≡ eqb (length rest) 0 → refused 2 ≡ reading net bytes
-      unfolding judged
-      read_more m = sym (sym said ∙ simp (holds true g, empty_test rest, sym m))
-
-      pub read_good : (sender : ℕ) → true ≡ eqb (length rest) 0
-          → sender ≡ sender_in (get_or net.low s.link 0) (get_or net.high s.link 0) s.side
-          → letter (record { link = s.link; sender = sender; body = s.body }) ≡ reading net bytes
-      unfolding judged
-      read_good sender m o =
-          let y : sender_of N s.link s.side ≡ sender =
-          ap (λ (z : Ends). sender_in z.low z.high s.side)
-          (ends_are net (is_T (net_holds net) (sym known.good)) s.link link_inside) ∙ sym o in
-          sym (sym said ∙ simp (holds true g, empty_test rest, sym m)
-          (ap (λ (z : ℕ). letter (record { link = s.link; sender = z; body = s.body })) y))
+    pub read_good : (sender : ℕ) → true ≡ eqb (length rest) 0
+        → sender ≡ sender_in (get_or net.low s.link 0) (get_or net.high s.link 0) s.side
+        → letter (record { link = s.link; sender = sender; body = s.body }) ≡ reading net bytes
+    unfolding judged
+    read_good sender m o =
+        let y : sender_of N s.link s.side ≡ sender =
+        ap (λ (z : Ends). sender_in z.low z.high s.side)
+        (ends_are net (is_T (net_holds net) (sym known.fielded.good)) s.link link_inside) ∙ sym o in
+        sym (sym said ∙ simp (holds true g, empty_test rest, sym m)
+        (ap (λ (z : ℕ). letter (record { link = s.link; sender = z; body = s.body })) y))

@@ -3,6 +3,7 @@ use Rattle.std.specs.Prelude.{Option, Result, Err, ok_or}
 use Prim.Native.Nat.{ℕ, ◌+◌, ◌≤◌, ◌<◌}
 use mathlib.Core.Bool.{Bool, true, false}
 use mathlib.Core.Path.{◌≡◌, sym, ap, ◌∙◌}
+use mathlib.Core.Logic.{◌⊎◌, inl, inr}
 use mathlib.Core.List.{List, [], ◌∷◌}
 use native.Mathlib.Decide.{dec_lt}
 use native.Mathlib.Omega.{arith}
@@ -84,14 +85,12 @@ module _ (net : Net) (x : Letter) (old : List ℕ) where
       body_is : (v : Bool) → v ≡ body_test net.links x.body → body_holds (network_of net) x.body ≡ v
       body_is v p = bodies_are net whole x.body ∙ sym p
 
-      pub write_sender : false ≡ end_in (get_or net.low x.link 0) (get_or net.high x.link 0) x.sender
-          → Wants (Err wrote.OutOfRange) old
+      -- a sender that is no end of it, or a body that no letter has there
+      pub write_refused : (false ≡ end_in (get_or net.low x.link 0) (get_or net.high x.link 0) x.sender)
+          ⊎ (false ≡ body_test net.links x.body) → Wants (Err wrote.OutOfRange) old
       unfolding letter_holds
-      write_sender g = denied_3 (simp (end_is false g, and_no))
-
-      pub write_body : false ≡ body_test net.links x.body → Wants (Err wrote.OutOfRange) old
-      unfolding letter_holds
-      write_body p = denied_3 (simp (body_is false p, and_no))
+      write_refused (inl g) = denied_3 (simp (end_is false g, and_no))
+      write_refused (inr p) = denied_3 (simp (body_is false p, and_no))
 
       pub write_good : true ≡ end_in (get_or net.low x.link 0) (get_or net.high x.link 0) x.sender → true ≡ body_test net.links x.body
           → (a : Result ℕ WriteError) (out : List ℕ) (side : ℕ) → side ≡ side_in (get_or net.low x.link 0) x.sender

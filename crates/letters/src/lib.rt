@@ -160,12 +160,8 @@ pub fn read(net: Net, bytes: &[u8]) -> Result<Letter, LetterError>
     if !sheet_rules::keeps_sheet_rules(net) {
         return Err(LetterError::BadNetwork);
     }
-    let Some(field) = fields::cut_first(bytes) else {
-        return Err(LetterError::Short);
-    };
-    let Some(said) = Said::of(field.tag, field.value) else {
-        return Err(LetterError::Malformed);
-    };
+    let field = fields::cut_first(bytes).ok_or(LetterError::Short)?;
+    let said = Said::of(field.tag, field.value).ok_or(LetterError::Malformed)?;
     if !said.holds(net.links) {
         return Err(LetterError::OutOfRange);
     }
@@ -206,15 +202,13 @@ pub fn write(net: Net, letter: Letter, out: &mut [u8]) -> Result<usize, WriteErr
         return Err(WriteError::OutOfRange);
     }
     let i = letter.link as usize;
-    if !net::is_end(net.low[i], net.high[i], letter.sender) {
-        return Err(WriteError::OutOfRange);
-    }
-    if !net::body_holds(net.links, letter.body) {
+    let (low, high) = (net.low[i], net.high[i]);
+    if !net::is_end(low, high, letter.sender) || !net::body_holds(net.links, letter.body) {
         return Err(WriteError::OutOfRange);
     }
     let said = Said {
         link: letter.link as u8,
-        side: u8::from(net.low[i] as u16 != letter.sender),
+        side: u8::from(low as u16 != letter.sender),
         body: letter.body,
     };
     said.put(out)

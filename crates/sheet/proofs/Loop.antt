@@ -53,14 +53,14 @@ module _ {whole : Sheet} {n : ℕ} {low high : List ℕ} {a b k : ℕ} {rest : L
   pub standing_wrong : (e : SheetError) → wrong (error_number e) ≡ judged n (ends_of a b) (first_field rest) → Says (Err e) whole
   standing_wrong e p = said whole e (told (wrong (error_number e)) p ∙ wrong_read (link_room - k) n s.so (error_number e))
 
-  pub standing_last : last ≡ judged n (ends_of a b) (first_field rest)
-      → Says (Ok (record { stations = n; links = k; low = low; high = high })) whole
+  pub standing_last : (m : ℕ) → m ≡ n → last ≡ judged n (ends_of a b) (first_field rest)
+      → Says (Ok (record { stations = m; links = k; low = low; high = high })) whole
   unfolding value_of
-  standing_last p =
+  standing_last m e p =
       let is = told last p ∙ last_read (link_room - k) n s.so in
       record {
         number = ap sheet_number (sym is);
-        net = (λ i. record { stations = n; links = sym s.count i; low = s.lows i; high = s.highs i }) ∙ ap sheet_net (sym is);
+        net = (λ i. record { stations = e i; links = sym s.count i; low = s.lows i; high = s.highs i }) ∙ ap sheet_net (sym is);
       }
 
   module _ (l h : ℕ) (after : List ℕ) (p : link (ends_of l h) after ≡ judged n (ends_of a b) (first_field rest)) where

@@ -98,16 +98,11 @@ impl Error for WriteError {}
 fn first_field(bytes: &[u8]) -> Result<(u8, &[u8]), SheetError>
     ensures { opening_of result ≡ opened (first_field bytes.now) }
 {
-    let Some(field) = fields::cut_first(bytes) else {
-        return Err(SheetError::Short);
-    };
-    let [n] = field.value else {
+    let field = fields::cut_first(bytes).ok_or(SheetError::Short)?;
+    let (STATIONS, [n]) = (field.tag, field.value) else {
         return Err(SheetError::Malformed);
     };
-    if field.tag != STATIONS {
-        return Err(SheetError::Malformed);
-    }
-    if *n < 1 || MOST_STATIONS < *n {
+    if !(1..=MOST_STATIONS).contains(n) {
         return Err(SheetError::OutOfRange);
     }
     Ok((*n, field.rest))
@@ -121,7 +116,7 @@ fn check_link(n: u8, before: (u8, u8), low: u8, high: u8) -> Result<(), SheetErr
     if high <= low || n <= high {
         return Err(SheetError::OutOfRange);
     }
-    if low < before.0 || low == before.0 && high <= before.1 {
+    if (low, high) <= before {
         return Err(SheetError::OutOfOrder);
     }
     Ok(())
@@ -136,9 +131,7 @@ fn next_field(
 ) -> Result<Option<((u8, u8), &[u8])>, SheetError>
     ensures { verdict_of result ≡ judged n (ends_of before.0 before.1) (first_field bytes.now) }
 {
-    let Some(field) = fields::cut_first(bytes) else {
-        return Err(SheetError::Short);
-    };
+    let field = fields::cut_first(bytes).ok_or(SheetError::Short)?;
     match (field.tag, field.value) {
         (LINK, [low, high]) => {
             check_link(n, before, *low, *high)?;
@@ -153,27 +146,25 @@ fn next_field(
 fn read_links(bytes: &[u8], n: u8) -> Result<Net, SheetError>
     ensures { Says result (links_of n bytes.now) }
 {
-    let mut low = [0u8; LINK_ROOM];
-    let mut high = [0u8; LINK_ROOM];
-    let mut links = 0u8;
+    let mut net = Net {
+        stations: n,
+        links: 0,
+        low: [0; LINK_ROOM],
+        high: [0; LINK_ROOM],
+    };
     let mut before = (0, 0);
     let mut rest = bytes;
     while let Some((ends, after)) = next_field(rest, n, before)? {
-        if MOST_LINKS <= links {
+        if MOST_LINKS <= net.links {
             return Err(SheetError::TooManyLinks);
         }
-        low[links as usize] = ends.0;
-        high[links as usize] = ends.1;
-        links += 1;
+        let i = net.links as usize;
+        (net.low[i], net.high[i]) = ends;
+        net.links += 1;
         before = ends;
         rest = after;
     }
-    Ok(Net {
-        stations: n,
-        links,
-        low,
-        high,
-    })
+    Ok(net)
 }
 
 // Bytes to a network.
