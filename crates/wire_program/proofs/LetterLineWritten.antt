@@ -1,12 +1,14 @@
 -- A letter written back into a room that is long enough for every one of them.
-use Rattle.std.specs.Prelude.{if◌then◌else◌}
-use Prim.Native.Nat.{ℕ, ◌≤◌}
+use Rattle.std.specs.Prelude.{if◌then◌else◌, Result, Ok, Err}
+use Rattle.std.specs.Result.{result_unwrap_or}
+use Rattle.letters.specs.declared.WriteError.{WriteError}
+use Prim.Native.Nat.{ℕ, ◌≤◌, ◌<◌}
 use mathlib.Core.Bool.{Bool, true, false, not}
 use mathlib.Core.Path.{◌≡◌, refl, ◌∙◌}
 use mathlib.Core.List.{List}
 use native.Mathlib.Omega.{arith}
 use lib.Dec.{T}
-use lib.ListN.{length, get_or}
+use lib.ListN.{length, get_or, length-append}
 use Rattle.lists.proofs.Tests.{T_is, is_T}
 use Rattle.fields.specs.Output.{writing_numbers, writing_output}
 use Rattle.fields.proofs.Seen.{length_field}
@@ -23,6 +25,8 @@ use Rattle.letters.specs.Letters as L
 use Rattle.letters.proofs.Laws as LetterLaws
 use Rattle.letters.specs.Values.{reading}
 use Rattle.letters.specs.Values as LetterValues
+use Rattle.text.proofs.Parts.{text_length, field_length}
+use Rattle.wire_program.specs.LetterLineLine.{kind_word, body_text, letter_text}
 use Rattle.wire_program.proofs.Rooms.{Back, back}
 
 letter_length : (net : Network) (x : Letter) → length (write_letter net x) ≤ 8
@@ -54,3 +58,26 @@ was_read net bytes x = go (net_holds net) refl
         → T (net_holds net) × T (letter_holds (network_of net) x)
     go false p q = let z : ◌≡◌ {A = ℕ} 0 1 = cc in absurd (omega arith)
     go true p q = (is_T (net_holds net) p, LetterLaws.read_holds (network_of net) bytes x q)
+
+pub wrote_size : (r : Result ℕ WriteError) → result_unwrap_or r 0 ≡ get_or (LetterValues.wrote_numbers r) 1 0
+wrote_size (Ok n) = refl
+wrote_size (Err e) = refl
+
+kind_few : (b : Body) → length (kind_word b) ≤ 10
+kind_few Request = omega arith
+kind_few (Reply c) = omega arith
+kind_few (Notice j c) = omega arith
+
+pub letter_few : (net : Network) (x : Letter) → x.link < 65536 → x.sender < 65536 → length (body_text x.body) ≤ 12
+    → length (letter_text net x) ≤ 64
+unfolding letter_text
+letter_few net x h l few =
+    simp length-append (omega (
+      arith,
+      kind_few x.body,
+      field_length x.link h,
+      field_length x.sender l,
+      few,
+      text_length (write_letter net x),
+      letter_length net x,
+    ))

@@ -3,8 +3,7 @@
 -- and the whole input.
 use Rattle.std.specs.Prelude.{ℕ, List, [], ◌++◌, eqb, if◌then◌else◌}
 use Rattle.hex_lines.specs.HexSteps.{hex_start, read_hex}
-use Rattle.console.specs.declared.Opened.{Opened}
-use Rattle.console.specs.Sheets.{file_sheet, opened_by}
+use Rattle.console.specs.Sheets.{Opened, file_sheet, opened_by}
 use Rattle.hex_lines.specs.HexBegun.{is_hex_begun}
 use Rattle.console.specs.Feeding.{whole_text}
 use Rattle.wire_program.specs.Line.{sheet_text}

@@ -1,6 +1,5 @@
 -- The wire program's line for a letter.
-use Rattle.std.specs.Prelude.{ℕ, ◌+◌, ◌≤◌, Bool, true, ◌≡◌, List, [], ◌∷◌, ◌++◌, leb, length, if◌then◌else◌}
-use Rattle.text.specs.Text.{put_at}
+use Rattle.std.specs.Prelude.{ℕ, List, [], ◌∷◌, ◌++◌}
 use Rattle.net.specs.declared.Body.{Body}
 use Rattle.net.specs.declared.Body.TheVariants.{Request, Reply, Notice}
 use Rattle.net.specs.declared.Letter.{Letter}
@@ -37,19 +36,3 @@ read_text net (letter x) = letter_text net x
 -- bytes against a network value: every letter is refused as 11 where the value is no good network
 abbrev pub read_line : Net → List ℕ → List ℕ
 read_line net bytes = read_text (network_of net) (reading net bytes)
-
--- ---- a line at a place of an output: no line is longer than 64 bytes, and where the output has no room for 64, nothing is touched
-abbrev pub has_room : ℕ → List ℕ → Bool
-has_room at old = leb (at + 64) (length old)
-
--- the output after
-abbrev pub line_at : List ℕ → ℕ → List ℕ → List ℕ
-line_at line at old = if has_room at old then put_at line at old else old
-
--- the place behind the line; where there is no room, one beyond the output's end
-abbrev pub place_behind : List ℕ → ℕ → List ℕ → ℕ
-place_behind line at old = if has_room at old then at + length line else length old + 1
-
--- and where there is room, the line fits in it
-abbrev pub Few : List ℕ → ℕ → List ℕ → Type 0
-Few line at old = has_room at old ≡ true → length line ≤ 64

@@ -2,38 +2,38 @@
 // An inner door: the calls are in docs/CALLS.md.
 #![tactic(auto)]
 
-ghost use Rattle.std.specs.Prelude.{◌≡◌, ◌+◌, ◌≤◌, length, get_or, T};
-ghost use Rattle.console.specs.Outputs.{Counts, Put, wrote_by};
+ghost use Rattle.std.specs.Prelude.{◌≡◌, ◌≤◌, length, T, IfOk};
+ghost use Rattle.console.specs.Outputs.{Counts, wrote_by};
 ghost use Rattle.fields.specs.Output.{with_room, writing_output};
+ghost use Rattle.text.specs.Line.{Adds};
 ghost use Rattle.wire_program.specs.Passing.{said_by, spoken, written, passed_by};
 ghost use Rattle.net.specs.Values.{network_of};
 ghost use Rattle.sheet_rules.specs.Values.{net_holds};
 ghost use Rattle.sheet.specs.Sheet.{sheet};
-ghost use Rattle.sheet.specs.Values as Sheet;
 ghost use Rattle.console.specs.Sheets.{file_sheet, refusal_text};
 ghost use Rattle.wire_program.specs.Line.{sheet_text, sheet_most};
 ghost use Rattle.net.specs.Letters.{letter_holds};
-ghost use Rattle.letters.specs.Values as Letters;
-ghost use Rattle.wire_program.specs.LetterLineLine.{kind_word, body_text, letter_text, read_line, line_at, place_behind, Few};
+ghost use Rattle.wire_program.specs.LetterLineLine.{kind_word, body_text, letter_text, read_line};
 
-use console::Wrote;
-use hex_lines::{HexLine, HexReading};
+use console::Refusal;
+use hex_lines::HexReading;
 use net::{Body, Letter, Net};
+use text::Line;
 
 // What is printed for a line that ends here.
-fn put_line(out: &mut [u8], at: usize, net: Net, r: HexReading) -> usize
-    requires { at + 64 ≤ length out.old }
-    ensures { Put (spoken net (said_by r)) 64 at out.old result out.new }
+fn put_line(line: &mut Line, net: Net, r: HexReading)
+    ensures text { Adds (spoken net (said_by r)) line.old line.new }
+    ensures few { length (spoken net (said_by r)) ≤ 64 }
 {
-    let bytes = r.bytes;
     match hex_lines::hex_end(r) {
-        HexLine::NotHex => text::put_word(out, at, b"malformed\n"),
-        HexLine::Bytes(n) => put_read(out, at, net, &bytes[..n]),
+        None => line.word(b"malformed\n"),
+        Some(n) => put_read(line, net, &r.bytes[..n]),
     }
 }
 
 // After a piece of the input: 0 or the number that says no, how many bytes of output there are, and the reading that goes on from there.
-#[derive(Clone, Copy)]
+// Stays: a record with a number, since a refusal hands back the reading that was given too: `Passing.passed_by`
+#[derive(Debug, Clone, Copy, PartialEq, Eq)]
 pub struct Passed {
     pub answer: u8,
     pub written: usize,
@@ -44,8 +44,7 @@ pub struct Passed {
 // Promise: that line for each letter whose line ends in these bytes.
 pub fn run_letters(net: Net, r: HexReading, bytes: &[u8], out: &mut [u8]) -> Passed
     ensures answer { result ≡ passed_by (written net r bytes.now out.old) net r bytes.now }
-    ensures output { out.new ≡ writing_output (written net r bytes.now out.old)
-        out.old }
+    ensures output { out.new ≡ writing_output (written net r bytes.now out.old) out.old }
     ensures room { Counts result.written out.new }
 {
     // no line is longer than 64 bytes, and none is without a byte of input
@@ -56,177 +55,125 @@ pub fn run_letters(net: Net, r: HexReading, bytes: &[u8], out: &mut [u8]) -> Pas
             reading: r,
         };
     }
+    let mut line = Line { out, at: 0 };
     let mut reading = r;
-    let mut at: usize = 0;
-    let mut from: usize = 0;
-    loop {
-        let end = event_lines::find_end(bytes, from);
-        let stop = end.stop;
-        let line = hex_lines::read_hex_bytes(reading, &bytes[from..stop]);
-        if !end.ended {
-            return Passed {
-                answer: 0,
-                written: at,
-                reading: line,
-            };
-        }
-        at = put_line(out, at, net, line);
+    let mut from = 0;
+    while let Some(stop) = event_lines::find_end(bytes, from) {
+        let read = hex_lines::read_hex_bytes(reading, &bytes[from..stop]);
+        put_line(&mut line, net, read);
         reading = hex_lines::begin_hex();
         from = stop + 1;
+    }
+    Passed {
+        answer: 0,
+        written: line.at,
+        reading: hex_lines::read_hex_bytes(reading, &bytes[from..]),
     }
 }
 
 // ---- The wire program's first line, on bytes and values alone: the sheet written back, or the number of a refused one.
 
-// No sheet is longer: the first field, 64 links, the last field.
-fn sheet_room() -> [u8; 327]
-    ensures { 327 ≡ length result }
+fn put_network(line: &mut Line, net: Net)
+    requires { T (net_holds net) }
+    ensures { Adds (sheet_text (sheet (network_of net))) line.old line.new }
 {
-    [0u8; 327]
-}
-
-fn sheet_size(wrote: sheet::Wrote) -> usize
-    ensures { result ≡ get_or (Sheet.wrote_numbers wrote) 1 0 }
-{
-    match wrote {
-        sheet::Wrote::Bytes(n) => n,
-        sheet::Wrote::OutputShort => 0,
-        sheet::Wrote::BadNetwork => 0,
-    }
-}
-
-fn put_network(out: &mut [u8], net: Net) -> usize
-    requires { (sheet_most ≤ length out.old) × T (net_holds net) }
-    ensures { Put (sheet_text (sheet (network_of net))) sheet_most 0 out.old result out.new }
-{
-    let mut room = sheet_room();
-    let n = sheet_size(sheet::write(net, &mut room));
-    let a = text::put_word(out, 0, b"sheet 0 ");
-    let b = text::put_field(out, a, net.stations as u16);
-    let c = text::put_field(out, b, net.links as u16);
-    let d = text::put_bytes(out, c, &room[..n]);
-    text::put_word(out, d, b"\n")
+    // no sheet is longer: the first field, 64 links, the last field
+    let mut room = [0u8; 327];
+    let n = sheet::write(net, &mut room).unwrap_or(0);
+    line.word(b"sheet 0 ");
+    line.field(net.stations as u16);
+    line.field(net.links as u16);
+    line.bytes(&room[..n]);
+    line.word(b"\n");
 }
 
 // `sheet 0 STATIONS LINKS HEX`, or `sheet N` for a refused one.
-// Promise: the wire program's first line.
-pub fn put_sheet(file: &[u8], out: &mut [u8]) -> Wrote
-    ensures answer { result ≡ wrote_by (with_room sheet_most (sheet_text (file_sheet file.now)) out.old) }
-    ensures output { out.new ≡ writing_output
-        (with_room sheet_most (sheet_text (file_sheet file.now)) out.old) out.old }
-    ensures room { Counts result.written out.new }
+fn put_file(line: &mut Line, file: &[u8])
+    ensures text { Adds (sheet_text (file_sheet file.now)) line.old line.new }
+    ensures few { length (sheet_text (file_sheet file.now)) ≤ sheet_most }
 {
-    if out.len() < 700 {
-        return Wrote {
-            answer: 10,
-            written: 0,
-        };
-    }
-    let opened = console::open_sheet(file);
-    let net = opened.net;
-    // a refused sheet gives no network
-    if !sheet_rules::keeps_sheet_rules(net) {
-        let a = text::put_word(out, 0, b"sheet ");
-        let b = text::put_number(out, a, opened.number as u64);
-        let end = text::put_word(out, b, b"\n");
-        return Wrote {
-            answer: 0,
-            written: end,
-        };
-    }
-    let end = put_network(out, net);
-    Wrote {
-        answer: 0,
-        written: end,
-    }
-}
-
-// ---- The wire program's line for bytes taken as a letter: the letter written back, or the number that says no.
-
-fn put_kind(out: &mut [u8], at: usize, body: Body) -> usize
-    requires { at + 10 ≤ length out.old }
-    ensures { Put (kind_word body) 10 at out.old result out.new }
-{
-    match body {
-        Body::Request => text::put_word(out, at, b"0 request "),
-        Body::Reply(c) => text::put_word(out, at, b"0 reply "),
-        Body::Notice(j, c) => text::put_word(out, at, b"0 notice "),
-    }
-}
-
-fn put_body(out: &mut [u8], at: usize, body: Body) -> usize
-    requires { at + 12 ≤ length out.old }
-    ensures { Put (body_text body) 12 at out.old result out.new }
-{
-    match body {
-        Body::Request => at,
-        Body::Reply(c) => text::put_field(out, at, c),
-        Body::Notice(j, c) => {
-            let to = text::put_field(out, at, j as u16);
-            text::put_field(out, to, c)
+    match console::open_sheet(file) {
+        Ok(net) => put_network(line, net),
+        Err(error) => {
+            line.word(b"sheet ");
+            put_number_line(line, error.number());
         }
     }
 }
 
-// The longest letter's field.
-fn letter_room() -> [u8; 8]
-    ensures { 8 ≡ length result }
+// The line of a sheet's file.
+// Promise: the wire program's first line.
+pub fn put_sheet(file: &[u8], out: &mut [u8]) -> Result<usize, Refusal>
+    ensures answer { result ≡ wrote_by (with_room sheet_most (sheet_text (file_sheet file.now)) out.old) }
+    ensures output { out.new ≡ writing_output
+        (with_room sheet_most (sheet_text (file_sheet file.now)) out.old) out.old }
+    ensures room { IfOk result (λ n. Counts n out.new) }
 {
-    [0u8; 8]
+    if out.len() < 700 {
+        return Err(Refusal(10));
+    }
+    let mut line = Line { out, at: 0 };
+    put_file(&mut line, file);
+    Ok(line.at)
 }
 
-fn letter_size(wrote: letters::Wrote) -> usize
-    ensures { result ≡ get_or (Letters.wrote_numbers wrote) 1 0 }
+// ---- The wire program's line for bytes taken as a letter: the letter written back, or the number that says no.
+
+fn kind_word(body: Body) -> &'static [u8]
+    ensures { result.now ≡ kind_word body }
 {
-    match wrote {
-        letters::Wrote::Bytes(n) => n,
-        letters::Wrote::OutOfRange => 0,
-        letters::Wrote::OutputShort => 0,
-        letters::Wrote::BadNetwork => 0,
+    match body {
+        Body::Request => b"0 request ",
+        Body::Reply(_) => b"0 reply ",
+        Body::Notice(_, _) => b"0 notice ",
     }
 }
 
-fn put_letter(out: &mut [u8], at: usize, net: Net, letter: Letter) -> usize
-    requires { (at + 64 ≤ length out.old) × (T (net_holds net) × T (letter_holds (network_of net) letter)) }
-    ensures { Put (letter_text (network_of net) letter) 64 at out.old result out.new }
+fn put_body(line: &mut Line, body: Body)
+    ensures text { Adds (body_text body) line.old line.new }
+    ensures few { length (body_text body) ≤ 12 }
 {
-    let mut room = letter_room();
-    let n = letter_size(letters::write(net, letter, &mut room));
-    let body = letter.body;
-    let a = put_kind(out, at, body);
-    let b = text::put_field(out, a, letter.link);
-    let c = text::put_field(out, b, letter.sender);
-    let d = put_body(out, c, body);
-    let e = text::put_bytes(out, d, &room[..n]);
-    text::put_word(out, e, b"\n")
+    match body {
+        Body::Request => {}
+        Body::Reply(c) => line.field(c),
+        Body::Notice(j, c) => {
+            line.field(j as u16);
+            line.field(c);
+        }
+    }
 }
 
-fn put_number_line(out: &mut [u8], at: usize, n: u8) -> usize
-    requires { at + 64 ≤ length out.old }
-    ensures { Put (refusal_text n) 64 at out.old result out.new }
+fn put_letter(line: &mut Line, net: Net, letter: Letter)
+    requires { T (net_holds net) × T (letter_holds (network_of net) letter) }
+    ensures text { Adds (letter_text (network_of net) letter) line.old line.new }
+    ensures few { length (letter_text (network_of net) letter) ≤ 64 }
 {
-    let to = text::put_number(out, at, n as u64);
-    text::put_word(out, to, b"\n")
+    // the longest letter's field
+    let mut room = [0u8; 8];
+    let n = letters::write(net, letter, &mut room).unwrap_or(0);
+    line.word(kind_word(letter.body));
+    line.field(letter.link);
+    line.field(letter.sender);
+    put_body(line, letter.body);
+    line.bytes(&room[..n]);
+    line.word(b"\n");
 }
 
-// A line's bytes taken as a letter. No line is longer than 64 bytes: where the output has no room for 64, nothing is touched and the answer
-// is one beyond the output's end.
-fn put_read(out: &mut [u8], at: usize, net: Net, bytes: &[u8]) -> usize
-    ensures place { result ≡ place_behind (read_line net bytes.now) at out.old }
-    ensures output { out.new ≡ line_at (read_line net bytes.now) at out.old }
-    ensures few { Few (read_line net bytes.now) at out.old }
+fn put_number_line(line: &mut Line, n: u8)
+    ensures text { Adds (refusal_text n) line.old line.new }
+    ensures few { length (refusal_text n) ≤ 4 }
 {
-    if out.len() < at {
-        return out.len() + 1;
-    }
-    if out.len() - at < 64 {
-        return out.len() + 1;
-    }
+    line.number(n as u64);
+    line.word(b"\n");
+}
+
+// A line's bytes taken as a letter.
+fn put_read(line: &mut Line, net: Net, bytes: &[u8])
+    ensures text { Adds (read_line net bytes.now) line.old line.new }
+    ensures few { length (read_line net bytes.now) ≤ 64 }
+{
     match letters::read(net, bytes) {
-        letters::Answer::Good(letter) => put_letter(out, at, net, letter),
-        letters::Answer::Short => put_number_line(out, at, 1),
-        letters::Answer::Malformed => put_number_line(out, at, 2),
-        letters::Answer::OutOfRange => put_number_line(out, at, 3),
-        letters::Answer::BadNetwork => put_number_line(out, at, 11),
+        Ok(letter) => put_letter(line, net, letter),
+        Err(error) => put_number_line(line, error.number()),
     }
 }

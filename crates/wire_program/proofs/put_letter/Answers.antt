@@ -1,37 +1,21 @@
-use borrow.Author.Rules.{rules}
-use native.Mathlib.Omega.{arith}
-use Rattle.text.specs.Parts.{newline}
-use Rattle.console.proofs.Puts.{put_then, put_size_lem, put_wider}
+use Rattle.std.proofs.Common.{rules}
+use mathlib.Core.Path.{refl, ap, ◌∙◌}
+use Rattle.net.specs.Values.{network_of}
+use Rattle.text.specs.Parts.{hex_text}
+use Rattle.text.proofs.Lines.{adds_put, adds_then, adds_more, puts_same}
 use Rattle.wire_program.specs.LetterLineLine.{letter_text}
-use Rattle.wire_program.proofs.LetterLineWritten.{letter_back}
-use Rattle.wire_program.proofs.Puts.{text_more, field_more, room_more}
+use Rattle.wire_program.proofs.LetterLineWritten.{letter_back, letter_few, wrote_size}
 use Rattle.wire_program.proofs.put_letter.Goals as goal
 
--- the kind, link and sender were put
-pub put_body-d-requires : goal.put_body-d-requires
-put_body-d-requires c =
-    let x = c.args.letter in
-    let f = c.put_field-b.ensures in
-    let g = c.put_field-c.ensures in
-    let k = field_more c.put_kind-a.ensures x.link (search rules) (omega arith) (f.place, f.output) in
-    let w = field_more k x.sender (search rules) (omega arith) (g.place, g.output) in
-    omega (arith, w.place, w.few, put_size_lem w)
-
--- then what the body has, and the letter's bytes, which stand in the room
 pub returns : goal.returns
 unfolding letter_text
 returns c =
     let a = c.args in
-    let x = a.letter in
-    let r = c.requires.0 in
-    let f = c.put_field-b.ensures in
-    let g = c.put_field-c.ensures in
-    let h = c.put_bytes-e.ensures in
-    let e = c.put_word.ensures in
-    let k = field_more c.put_kind-a.ensures x.link (search rules) (omega arith) (f.place, f.output) in
-    let w = field_more k x.sender (search rules) (omega arith) (g.place, g.output) in
-    let front = put_then (omega arith) w c.put_body-d.ensures in
-    let written = letter_back a.net x _ _ _ _ c.requires.1.0 c.requires.1.1 c.letter_room-room.ensures c.write.ensures.answer
-    c.write.ensures.output c.letter_size-n.ensures in
-    let y = room_more front 8 written c.letter_room-room.ensures (omega (arith, r)) (h.place, h.output) in
-    put_wider 64 (omega arith) (text_more y newline 1 (omega arith) (omega (arith, r)) (e.place, e.output))
+    let written = letter_back a.net a.letter _ _ _ _ c.requires.0 c.requires.1 refl c.write.ensures.answer c.write.ensures.output
+    (c.unwrap_or-n.ensures ∙ wrote_size c.write.result) in
+    let kind = adds_put (puts_same c.kind_word.ensures c.word.ensures) in
+    let front = adds_more (adds_then (adds_then kind c.field.ensures) c.field-2.ensures) c.put_body.ensures.text in
+    record {
+      text = adds_then (adds_then front (puts_same (ap hex_text written.bytes) c.bytes.ensures)) c.word-2.ensures;
+      few = letter_few (network_of a.net) a.letter (search rules) (search rules) c.put_body.ensures.few;
+    }
