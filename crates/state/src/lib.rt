@@ -114,7 +114,8 @@ pub fn well_formed(s: State) -> bool
         most = state_rules::larger(most, state_rules::past_subject(x.body));
         least = state_rules::smaller(least, state_rules::counter_said(x.body));
     }
-    // the places beyond them, from two starts at once: each joining waits for the one before it
+    // the places beyond them, from two starts at once: each joining waits for the one before it.
+    // Stays: an index for both starts; elements of one of them would leave the other an index, which is no plainer
     let half = (MOST_LETTERS - used + 1) / 2;
     let first = used as usize;
     let second = (MOST_LETTERS - half) as usize;

@@ -8,7 +8,7 @@
 ghost use Rattle.std.specs.Prelude.{◌≡◌, if◌then◌else◌};
 ghost use Rattle.step_rules.specs.Step.{stepped_of};
 
-use net::{MOST_LETTERS, MOST_STATIONS, STATION_ROOM};
+use net::{MOST_LETTERS, STATION_ROOM};
 use state::State;
 use station::Station;
 use step_rules::Stepped;
@@ -30,31 +30,26 @@ pub fn step(mut s: State, kind: u32, a: u32, b: u32) -> Stepped
     let net = s.net;
     let flying = s.flying;
     let owns = marks::own_words(net);
-    // the test for 11, as `state::well_formed` has it: as a call it would copy the state once more
+    // Stays: the test for 11 with the loops of `state::well_formed`: a call of it would copy the state once more, and go through the links twice
     let framed = state::frame_holds(net, flying);
     let mut placed = true;
-    for i in 0..MOST_STATIONS {
-        let at = i as usize;
-        let st = s.stations[at];
-        let right = state::station_place(net.links, i < net.stations, owns[at], st);
-        placed = sets::both(placed, right);
+    let n = net.stations as usize;
+    for (t, st) in s.stations.iter().enumerate() {
+        placed &= state::station_place(net.links, t < n, owns[t], *st);
     }
     let used = state::used_places(flying);
     let mut ways: u64 = 0;
     let mut ended: u64 = 1;
     let mut most: u16 = 0;
     let mut least: u16 = 1;
-    for j in 0..used {
-        let at = j as usize;
-        let x = s.letters[at];
-        let body = x.body;
+    for x in s.letters[..used as usize].iter() {
         let k = x.sender as usize % STATION_ROOM;
         ways = state_rules::joined_ways(ways, x.link, x.sender);
         ended = state_rules::still_ended(ended, owns[k], x.link);
-        most = state_rules::larger(most, state_rules::past_subject(body));
-        least = state_rules::smaller(least, state_rules::counter_said(body));
+        most = state_rules::larger(most, state_rules::past_subject(x.body));
+        least = state_rules::smaller(least, state_rules::counter_said(x.body));
     }
-    // the places beyond them, from two starts at once: each joining waits for the one before it
+    // the places beyond them, from two starts at once: each joining waits for the one before it (`state::well_formed` says why by an index)
     let half = (MOST_LETTERS - used + 1) / 2;
     let first = used as usize;
     let second = (MOST_LETTERS - half) as usize;
@@ -64,7 +59,7 @@ pub fn step(mut s: State, kind: u32, a: u32, b: u32) -> Stepped
         let to = second + j as usize;
         let x = s.letters[at];
         let y = s.letters[to];
-        rest = rest | (state::word_of(x) | state::word_of(y));
+        rest |= state::word_of(x) | state::word_of(y);
     }
     let carried = state_rules::letters_formed(net.links, ways, ended, most, least);
     let good = state::all_hold(framed, placed, carried, rest);
@@ -85,32 +80,22 @@ pub fn step(mut s: State, kind: u32, a: u32, b: u32) -> Stepped
     let count = post::count(send);
     let room = step_parts::room_of(what, flying, place, plan.answer, count, x);
     let answer = answer_by(good, room.answer);
-    let mut counts = Tally {
-        settled: 0,
-        raised: 0,
-        dropped: 0,
-    };
+    let mut counts = Tally::default();
     // there is one return: with several the state would be copied once more
     if answer == 0 {
         // from here on the step changes its own copy of the state, in place; what is told is told as it was before the purge
         let kept = station_table::kept_table(net, me, plan.resets, plan.purges, told);
-        let turned = plan.condition;
-        let marked = plan.marks;
         s.stations[who] = Station {
-            condition: turned,
+            condition: plan.condition,
             counters: kept,
-            marks: marked,
+            marks: plan.marks,
         };
         // the later letters close up
         let last = room.left as usize;
         for i in room.from..last {
-            let j = i + 1;
-            let y = s.letters[j];
-            s.letters[i] = y;
+            s.letters[i] = s.letters[i + 1];
         }
-        let free = room.free;
-        let unused = room.unused;
-        s.letters[free] = unused;
+        s.letters[room.free] = room.unused;
         // new letters go to the end
         let mut post = post::begun(send);
         for i in 0..count {
@@ -121,8 +106,7 @@ pub fn step(mut s: State, kind: u32, a: u32, b: u32) -> Stepped
             post = post::rest(post);
         }
         s.flying = room.left + count;
-        let counted = plan.counts;
-        counts = counted;
+        counts = plan.counts;
     }
     Stepped {
         answer,

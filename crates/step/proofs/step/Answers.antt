@@ -1,13 +1,15 @@
-use Rattle.std.proofs.Common.{◌≡◌, ℕ, Bool, true, false, List, get_or, refl, ap, sym, ◌∙◌, rules, arith}
+use Rattle.std.proofs.Common.{◌≡◌, ℕ, Bool, true, false, List, get_or, refl, ap, sym, ◌∙◌, rules, arith, length-take}
 use Rattle.std.specs.Prelude.{if◌then◌else◌}
 use Rattle.lists.proofs.Tests.{is_T}
+use Rattle.net.specs.declared.Letter.{Letter}
 use Rattle.marks.proofs.OwnLinks.{own_word}
+use Rattle.station.specs.Events.{counting}
 use Rattle.tally.specs.declared.Tally.{Tally}
 use Rattle.post.proofs.PostLaws as P
 use Rattle.world.specs.World.{refusal}
 use Rattle.state.specs.declared.State.{State}
 use Rattle.state.specs.State.{world_of, state_holds, Ends64, Sized}
-use Rattle.state.proofs.Tested.{placing_more, gathering_more, resting_more, all_seen, seen_sized}
+use Rattle.state.proofs.Tested.{placing_begins, placing_more, gathering_begins, gathering_turn, resting_more, all_seen, seen_sized}
 use Rattle.step_rules.specs.declared.Stepped.{Stepped}
 use Rattle.step_rules.specs.Step.{event, refusing, stepped_of}
 use Rattle.step_parts.proofs.Helpers.{placed}
@@ -39,9 +41,9 @@ tested : (c : After-answer_by-answer) → (c.all_hold-good.result ≡ state_hold
 tested c =
     let e : Ends64 c.args.s.net = record { low = search rules; high = search rules } in (
       all_seen c.args.s _ c.own_words-owns.ensures _ _ _ c.frame_holds-framed.ensures c.used_places-used.ensures
-          c.loop-i.invariant (omega arith) c.loop-j.invariant (omega arith) c.loop-j-2.invariant (omega arith)
+          c.loop-t.invariant (omega arith) c.loop-x.invariant (omega (arith, length-take {A = Letter})) c.loop-j.invariant (omega arith)
           c.letters_formed-carried.ensures c.all_hold-good.ensures,
-      seen_sized c.args.s _ c.loop-i.invariant (omega arith) e (search rules) (search rules),
+      seen_sized c.args.s _ c.loop-t.invariant (omega arith) e (search rules) (search rules),
     )
 
 -- what the code has seen when it has its answer, of a state that is well formed
@@ -79,18 +81,24 @@ known : (c : After-answer_by-answer) → c.answer_by-answer.result ≡ 0
 known c z = facts c (passed c z).0
 
 -- ---- the test
-pub loop-i-preserved : goal.loop-i-preserved
-loop-i-preserved c = placing_more _ _ c.loop-i.invariant (omega arith) _ _ c.station_place-right.ensures c.both-placed.ensures
+pub loop-t-init : goal.loop-t-init
+loop-t-init c = placing_begins c.args.s c.own_words-owns.result
+
+pub loop-t-preserved : goal.loop-t-preserved
+loop-t-preserved c = placing_more _ _ c.loop-t.invariant (omega arith) _ _ c.station_place-placed.ensures refl
+
+pub loop-x-init : goal.loop-x-init
+loop-x-init c = gathering_begins c.args.s c.own_words-owns.result c.used_places-used.result
+
+pub loop-x-preserved : goal.loop-x-preserved
+loop-x-preserved c =
+    gathering_turn _ _ c.loop-x.invariant _ c.loop-x-test.true _ _ _ _ _ _ c.joined_ways-ways.ensures c.still_ended-ended.ensures
+    c.past_subject.ensures c.larger-most.ensures c.counter_said.ensures c.smaller-least.ensures
 
 pub loop-j-preserved : goal.loop-j-preserved
 loop-j-preserved c =
-    gathering_more _ _ c.loop-j.invariant (omega arith) _ _ _ _ _ _ c.joined_ways-ways.ensures c.still_ended-ended.ensures
-    c.past_subject.ensures c.larger-most.ensures c.counter_said.ensures c.smaller-least.ensures
-
-pub loop-j-2-preserved : goal.loop-j-2-preserved
-loop-j-2-preserved c =
-    resting_more _ c.loop-j-2.invariant (omega arith) c.word_of.result c.word_of-in-loop-j-2.result c.word_of.ensures
-    c.word_of-in-loop-j-2.ensures
+    resting_more _ c.loop-j.invariant (omega arith) c.word_of.result c.word_of-in-loop-j.result c.word_of.ensures
+    c.word_of-in-loop-j.ensures
 
 -- ---- the event
 pub bounds-s-who : goal.bounds-s-who
@@ -100,57 +108,59 @@ pub bounds-owns-who : goal.bounds-owns-who
 bounds-owns-who c = (placed _ _ _ _ _ _ _ c.names_of-names.ensures).station
 
 -- ---- nothing refuses
-pub loop-i-then-answer-eq0-init : goal.loop-i-then-answer-eq0-init
-loop-i-then-answer-eq0-init c =
-    let p = (goal.at.loop-i-then-answer-eq0-init c).After-answer_by-answer in
+pub loop-i-init : goal.loop-i-init
+loop-i-init c =
+    let p = (goal.at.loop-i-init c).After-answer_by-answer in
     let z = c.if-answer-eq0.true in
     closing_begins (known p z) (passed p z).1
     (with_station c.args.s c.names_of-names.result.station (stored c.plan_at-plan.result c.kept_table-kept.result))
     (stored c.plan_at-plan.result c.kept_table-kept.result) refl
 
-pub loop-i-then-answer-eq0-preserved : goal.loop-i-then-answer-eq0-preserved
-loop-i-then-answer-eq0-preserved c = closes_more c.loop-i-then-answer-eq0.invariant (omega arith)
+pub loop-i-preserved : goal.loop-i-preserved
+loop-i-preserved c = closes_more c.loop-i.invariant (omega arith)
 
-pub offset_bounds-s-free : goal.offset_bounds-s-free
-offset_bounds-s-free c =
-    let p = (goal.at.offset_bounds-s-free c).After-answer_by-answer in
+pub offset_bounds-s-room : goal.offset_bounds-s-room
+offset_bounds-s-room c =
+    let p = (goal.at.offset_bounds-s-room c).After-answer_by-answer in
     let z = c.if-answer-eq0.true in
     let h = free_within (known p z) (passed p z).1 in omega (arith, h)
 
-pub bounds-s-free : goal.bounds-s-free
-bounds-s-free c =
-    let p = (goal.at.bounds-s-free c).After-answer_by-answer in
+pub bounds-s-room : goal.bounds-s-room
+bounds-s-room c =
+    let p = (goal.at.bounds-s-room c).After-answer_by-answer in
     let z = c.if-answer-eq0.true in
     free_within (known p z) (passed p z).1
 
-pub loop-i-then-answer-eq0-2-init : goal.loop-i-then-answer-eq0-2-init
-loop-i-then-answer-eq0-2-init c =
-    let p = (goal.at.loop-i-then-answer-eq0-2-init c).After-answer_by-answer in
+pub loop-i-then-answer-eq0-init : goal.loop-i-then-answer-eq0-init
+loop-i-then-answer-eq0-init c =
+    let p = (goal.at.loop-i-then-answer-eq0-init c).After-answer_by-answer in
     let z = c.if-answer-eq0.true in
-    putting_begins (known p z) (passed p z).1 c.loop-i-then-answer-eq0.s c.begun-post.result (search rules) c.begun-post.ensures
+    putting_begins (known p z) (passed p z).1 c.loop-i.s c.begun-post.result (search rules) c.begun-post.ensures
 
 pub bounds-told-subject : goal.bounds-told-subject
-bounds-told-subject c = P.subject_few c.loop-i-then-answer-eq0-2.post _ c.subject-subject.ensures
+bounds-told-subject c = P.subject_few c.loop-i-then-answer-eq0.post _ c.subject-subject.ensures
 
-pub loop-i-then-answer-eq0-2-preserved : goal.loop-i-then-answer-eq0-2-preserved
-loop-i-then-answer-eq0-2-preserved c =
-    puts_more c.loop-i-then-answer-eq0-2.invariant (omega arith) _ _ _ c.subject-subject.ensures c.first-y.ensures c.rest-post.ensures
+pub loop-i-then-answer-eq0-preserved : goal.loop-i-then-answer-eq0-preserved
+loop-i-then-answer-eq0-preserved c =
+    puts_more c.loop-i-then-answer-eq0.invariant (omega arith) _ _ _ c.subject-subject.ensures c.first-y.ensures c.rest-post.ensures
 
 -- ---- the answer
-pub returns-after-loop-i-then-answer-eq0-2 : goal.returns-after-loop-i-then-answer-eq0-2
-returns-after-loop-i-then-answer-eq0-2 c =
-    let p = (goal.at.returns-after-loop-i-then-answer-eq0-2 c).After-answer_by-answer in
+pub returns-after-loop-i-then-answer-eq0 : goal.returns-after-loop-i-then-answer-eq0
+returns-after-loop-i-then-answer-eq0 c =
+    let p = (goal.at.returns-after-loop-i-then-answer-eq0 c).After-answer_by-answer in
     let z = c.if-answer-eq0.true in
     answered c.answer_by-answer.result z
     (stays (known p z) (passed p z).1
     (with_station c.args.s c.names_of-names.result.station (stored c.plan_at-plan.result c.kept_table-kept.result))
-    (stored c.plan_at-plan.result c.kept_table-kept.result) refl c.loop-i-then-answer-eq0.s c.loop-i-then-answer-eq0-2.s
-    c.begun-post.result c.loop-i-then-answer-eq0-2.post c.loop-i-then-answer-eq0.i c.loop-i-then-answer-eq0-2.i
-    c.loop-i-then-answer-eq0.invariant c.begun-post.ensures c.loop-i-then-answer-eq0-2.invariant (omega arith) (omega arith)
+    (stored c.plan_at-plan.result c.kept_table-kept.result) refl c.loop-i.s c.loop-i-then-answer-eq0.s
+    c.begun-post.result c.loop-i-then-answer-eq0.post c.loop-i.i c.loop-i-then-answer-eq0.i
+    c.loop-i.invariant c.begun-post.ensures c.loop-i-then-answer-eq0.invariant (omega arith) (omega arith)
     c.kept_table-kept.result c.kept_table-kept.ensures refl _ refl).1
 
 pub returns-else-answer-eq0 : goal.returns-else-answer-eq0
 returns-else-answer-eq0 c =
     let p = (goal.at.returns-else-answer-eq0 c).After-answer_by-answer in
-    refused c.args.s c.args.kind c.args.a c.args.b _ c.all_hold-good.result c.room_of-room.result.answer
+    let none : c.default-counts.result ≡ counting 0 0 0 = grind arith in
+    ap (λ (t : Tally). record { answer = c.answer_by-answer.result; counts = t; state = c.args.s }) none
+    ∙ refused c.args.s c.args.kind c.args.a c.args.b _ c.all_hold-good.result c.room_of-room.result.answer
     (tested p).0 c.answer_by-answer.ensures (λ g. answer_refusal (facts p g)) c.if-answer-eq0.false
