@@ -6,7 +6,6 @@
 
 ghost use Rattle.std.specs.Prelude.{◌≡◌, ◌-◌, min, length, take, drop};
 ghost use Rattle.net.specs.Sizes.{letter_room};
-ghost use Rattle.station.specs.Values.{blank};
 ghost use Rattle.world.specs.World.{no_letter};
 ghost use Rattle.run_rooms.specs.Rooms.{no_held, held_in, side_by_side, table_in, with_table, stations_in};
 ghost use Rattle.run_rooms.specs.Rooms.{moving_room, moving_in, letters_in};
@@ -91,17 +90,6 @@ pub fn table_at(tables: &[u16], i: u8) -> Counters
     table
 }
 
-#[tactic(auto, unfolding(station::specs::Values::blank))]
-fn no_station() -> Station
-    ensures { result ≡ blank }
-{
-    Station {
-        condition: Condition::Down,
-        counters: [0u16; LINK_ROOM],
-        marks: Words::default(),
-    }
-}
-
 // The table of station i anew.
 // Promise: equals `Rooms.with_table`: at the 64 places from 64 * i on this table, all else as it was.
 pub fn put_table(tables: &mut [u16], i: u8, table: Counters)
@@ -116,8 +104,7 @@ pub fn put_table(tables: &mut [u16], i: u8, table: Counters)
 pub fn stations_of(held: [Held; STATION_ROOM], tables: &[u16]) -> [Station; STATION_ROOM]
     ensures { result ≡ stations_in held tables.now }
 {
-    let none = no_station();
-    let mut stations = [none; STATION_ROOM];
+    let mut stations = [Station::default(); STATION_ROOM];
     for (i, h) in held.iter().enumerate() {
         stations[i] = Station {
             condition: h.condition,
