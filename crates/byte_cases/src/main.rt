@@ -48,25 +48,34 @@ fn print_letter(rt: &impl Print, letter: Letter) -> io::Result<()> {
     }
 }
 
-// What a call of writing answered, by the paper's number, and the output after it.
-fn print_write(rt: &impl Print, wrote: Result<usize, u8>, out: &[u8]) -> io::Result<()> {
-    match wrote {
+// Writes to an output of so many bytes, and prints what the call answered, by the paper's number, and the output after it.
+fn show_write<F: FnOnce(&mut [u8]) -> Result<usize, u8>>(
+    rt: &impl Print,
+    room: usize,
+    write: F,
+) -> io::Result<()>
+    requires { F.IsAlwaysCallable write }
+{
+    if ROOM < room {
+        return Ok(());
+    }
+    let mut out = [238u8; ROOM];
+    match write(&mut out[..room]) {
         Ok(n) => print!(rt; "write 0 {n}")?,
         Err(number) => print!(rt; "write {number}")?,
     }
-    print_bytes(rt, out)?;
+    print_bytes(rt, &out[..room])?;
     println!(rt;)
 }
 
 // ---- sheets
 
 fn show_sheet_write(rt: &impl Print, net: Net, room: usize) -> io::Result<()> {
-    if ROOM < room {
-        return Ok(());
-    }
-    let mut out = [238u8; ROOM];
-    let wrote = sheet::write(net, &mut out[..room]).map_err(|e| e.number());
-    print_write(rt, wrote, &out[..room])
+    show_write(
+        rt,
+        room,
+        |out| sheet::write(net, out).map_err(|e| e.number()),
+    )
 }
 
 // A refused sheet gives no network: one of no station and no link stands for it.
@@ -90,12 +99,11 @@ fn show_sheet_read(rt: &impl Print, bytes: &[u8], room: usize) -> io::Result<()>
 // ---- letters
 
 fn show_letter_write(rt: &impl Print, net: Net, letter: Letter, room: usize) -> io::Result<()> {
-    if ROOM < room {
-        return Ok(());
-    }
-    let mut out = [238u8; ROOM];
-    let wrote = letters::write(net, letter, &mut out[..room]).map_err(|e| e.number());
-    print_write(rt, wrote, &out[..room])
+    show_write(
+        rt,
+        room,
+        |out| letters::write(net, letter, out).map_err(|e| e.number()),
+    )
 }
 
 fn show_letter_read(rt: &impl Print, net: Net, bytes: &[u8], room: usize) -> io::Result<()> {
@@ -175,7 +183,7 @@ fn run_next(rt: &impl Print, input: &mut impl Read, buf: &mut [u8]) -> io::Resul
 fn main(rt: HostRuntime) -> io::Result<()> {
     let mut buf = [0u8; CASE_ROOM];
     let mut input = rt.reader();
-    // so many cases at most: a loop that runs as long as there is input has no measure
+    // Stays: counted to a bound, since a loop that goes on while there is input has no measure, and HANDLES allows no Wait.
     for _ in 0..1000000 {
         if !run_next(&rt, &mut input, &mut buf)? {
             break;
