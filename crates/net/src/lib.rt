@@ -22,8 +22,7 @@ pub const MOST_LETTERS: u16 = LETTER_ROOM as u16;
 pub const LARGEST_COUNTER: u16 = u16::MAX;
 
 // Link k has the ends low[k] and high[k]; unused room is zero.
-// Stays: two arrays side by side, since `Values.network_of`, `place_ends` and the rules of sheets are definitions over these two fields;
-// no Default, since an array of 64 has none.
+// Stays: two arrays side by side, since `Values.network_of`, `place_ends` and the rules of sheets are definitions over these two fields.
 #[derive(Debug, Clone, Copy, PartialEq, Eq)]
 pub struct Net {
     pub stations: u8,

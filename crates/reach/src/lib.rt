@@ -151,8 +151,8 @@ pub fn reach_of(net: Net, working: u64, s: u8) -> Reached
 }
 
 // How the report shows a link with the ends low and high, which works or not, to the station whose reach word this is.
-// Promise: equals `reach.Reach.link_value`: 0 neither end reached, 1 working, 2 not.
 // Stays: a number, since the definition `Reach.link_value` gives it and the report is a list of such numbers.
+// Promise: equals `reach.Reach.link_value`: 0 neither end reached, 1 working, 2 not.
 pub fn link_shown(low: u8, high: u8, works: bool, word: u32) -> u8
     ensures { result ≡ link_value (in_word word low || in_word word high) works }
 {
