@@ -29,32 +29,32 @@ module _ (s c : ℕ) (p : Post) where
   first_replies r z er et = first_by_lem false false (none_seen p.requests z) (sym er ∙ et)
 
 -- ---- what is left after it
-module _ (p q : Post) where
+module _ (p : Post) where
   rest_by_lem : (a t m : Bool) → some_in p.requests ≡ a → tells p ≡ t → some_in (less_lowest p.left) ≡ m → rest_by a t m p ≡ rest_left p
   unfolding rest_left
   rest_by_lem a t m ea et em = λ i. rest_by (sym ea i) (sym et i) (sym em i) p
 
   pub rest_asks : (less : ℕ) → p.requests < 2 ^ 64 → (p.requests ≡ 0 → ⊥) → less ≡ less_lowest p.requests
-      → q ≡ changed_post p less p.subjects p.left p.replies → q ≡ rest_left p
-  rest_asks less h n e f =
-      f ∙ ap (λ (x : ℕ). changed_post p x p.subjects p.left p.replies) e
+      → changed_post p less p.subjects p.left p.replies ≡ rest_left p
+  rest_asks less h n e =
+      ap (λ (x : ℕ). changed_post p x p.subjects p.left p.replies) e
       ∙ rest_by_lem true (tells p) (some_in (less_lowest p.left)) (some_seen p.requests h n) refl refl
 
   pub rest_tells : (r : Bool) (less : ℕ) → p.requests ≡ 0 → r ≡ tells p → r ≡ true
       → less < 2 ^ 64 → less ≡ less_lowest p.left → (less ≡ 0 → ⊥)
-      → q ≡ changed_post p p.requests p.subjects less p.replies → q ≡ rest_left p
-  rest_tells r less z er et h e n f =
-      f ∙ ap (λ (x : ℕ). changed_post p p.requests p.subjects x p.replies) e
+      → changed_post p p.requests p.subjects less p.replies ≡ rest_left p
+  rest_tells r less z er et h e n =
+      ap (λ (x : ℕ). changed_post p p.requests p.subjects x p.replies) e
       ∙ rest_by_lem false true true (none_seen p.requests z) (sym er ∙ et) (ap some_in (sym e) ∙ some_seen less h n)
 
   pub rest_tells_last : (r : Bool) (less later : ℕ) → p.requests ≡ 0 → r ≡ tells p → r ≡ true
       → less ≡ less_lowest p.left → less ≡ 0 → later ≡ less_lowest p.subjects
-      → q ≡ changed_post p p.requests later p.ways p.replies → q ≡ rest_left p
-  rest_tells_last r less later z er et e n l f =
-      f ∙ ap (λ (x : ℕ). changed_post p p.requests x p.ways p.replies) l
+      → changed_post p p.requests later p.ways p.replies ≡ rest_left p
+  rest_tells_last r less later z er et e n l =
+      ap (λ (x : ℕ). changed_post p p.requests x p.ways p.replies) l
       ∙ rest_by_lem false true false (none_seen p.requests z) (sym er ∙ et) (ap some_in (sym e) ∙ none_seen less n)
 
   pub rest_replies : (r : Bool) → p.requests ≡ 0 → r ≡ tells p → r ≡ false
-      → q ≡ changed_post p p.requests p.subjects p.left false → q ≡ rest_left p
-  rest_replies r z er et f =
-      f ∙ rest_by_lem false false (some_in (less_lowest p.left)) (none_seen p.requests z) (sym er ∙ et) refl
+      → changed_post p p.requests p.subjects p.left false ≡ rest_left p
+  rest_replies r z er et =
+      rest_by_lem false false (some_in (less_lowest p.left)) (none_seen p.requests z) (sym er ∙ et) refl

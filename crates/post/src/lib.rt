@@ -71,6 +71,7 @@ fn tells(subjects: u64, left: u64) -> bool
 // ---- posting
 
 // The sending with nothing posted.
+// Stays: a public function that docs/ names; an `impl From<Sending> for Post` would say it twice.
 // Promise: equals `Post.begun_post`: all of the sending is left.
 pub fn begun(send: Sending) -> Post
     ensures { result ≡ begun_post send }

@@ -49,6 +49,7 @@ pub enum Effect {
     Takes(u8, u16),
 }
 
+// Stays: an enum taken apart by let .. else, as document 01 asks of this answer, and no Result: `Events.heard_rule` goes by its four cases.
 // The receiver's answer to a letter: gone unheard, no effect, refused since a counter would be 65,536, or what it does.
 #[derive(Debug, Clone, Copy, PartialEq, Eq)]
 pub enum Heard {

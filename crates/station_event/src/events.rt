@@ -11,7 +11,7 @@ ghost use Rattle.station_plan.specs.Comes.{own_plan, event_plan, EventPlans};
 use crate::Here;
 use marks::{Marks, Words};
 use net::Letter;
-use station::{Condition, Kind};
+use station::{Condition, Kind, Sending};
 use station_plan::Plan;
 
 // ---- the marks after events 3 to 6, in words: what becomes of one link's, and of all links' where one changes
@@ -187,23 +187,22 @@ fn plan_timeout(here: Here) -> Plan
         let after = ended_words(here.marks, here.link);
         return crate::turning(here.condition, after, 0, false);
     }
-    let after = failed_words(here.marks, here.link);
-    let subjects = sets::put(0, here.link, true);
-    let ways = sets::put(sets::without(here.own, here.marks.quiet), here.link, false); // every other own link
-    let raised = crate::counted(0, 1);
-    // a link that failed may have cut others off: purge
-    let up = counters::timed_out(here.counter);
-    crate::telling(
-        here.condition,
-        after,
-        here.link,
-        up,
-        true,
-        false,
-        subjects,
-        ways,
-        raised,
-    )
+    let loud = sets::without(here.own, here.marks.quiet);
+    Plan {
+        condition: here.condition,
+        marks: failed_words(here.marks, here.link),
+        sets: true,
+        at: here.link,
+        counter: counters::timed_out(here.counter),
+        purges: true, // a link that failed may have cut others off
+        sends: Sending {
+            subjects: sets::put(0, here.link, true),
+            ways: sets::put(loud, here.link, false), // every other own link
+            ..Sending::default()
+        },
+        counts: crate::counted(0, 1),
+        ..Plan::default()
+    }
 }
 
 // 6. Quiet ends on the link.

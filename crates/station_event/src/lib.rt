@@ -1,5 +1,5 @@
 // The code that makes the plan of an event at the one station that it concerns. Here is a letter's arrival: the receiver's answer to it,
-// and the plan by that answer; and the three forms that most plans have. The plan of any event, by its kind: events.rt. An inner door:
+// and the plan by that answer; and the two forms that most plans have. The plan of any event, by its kind: events.rt. An inner door:
 // the call is the network's step.
 #![tactic(auto)]
 
@@ -37,7 +37,7 @@ pub struct Here {
     pub marks: Words,
 }
 
-// ---- the three forms that most plans have
+// ---- the two forms that most plans have
 
 // The condition and the marks change, and requests are sent.
 fn turning(condition: Condition, marks: Words, requests: u64, resets: bool) -> Plan
@@ -69,38 +69,6 @@ fn staying(number: u8, settled: u64, dropped: u64, condition: Condition, marks: 
             dropped,
             ..Tally::default()
         },
-        ..Plan::default()
-    }
-}
-
-// One counter is set, and notices of these subjects are sent on these ways.
-fn telling(
-    condition: Condition,
-    marks: Words,
-    at: u8,
-    counter: u16,
-    purges: bool,
-    knows: bool,
-    subjects: u64,
-    ways: u64,
-    counts: Tally,
-) -> Plan
-    ensures { result ≡ tells condition marks at counter purges knows subjects ways counts }
-{
-    Plan {
-        condition,
-        marks,
-        sets: true, // or what is told would not be so here
-        at,
-        counter,
-        purges,
-        knows,
-        sends: Sending {
-            subjects,
-            ways,
-            ..Sending::default() // nobody is asked
-        },
-        counts,
         ..Plan::default()
     }
 }
@@ -244,43 +212,45 @@ fn plan_reply(settled: u64, raised: u64, to: u16, heals: bool, here: Here) -> Pl
     ensures { result ≡ done_plan here.own here.marks (effect_act here.condition here.link 0 (if heals then Heals to else Levels to))
         (counting settled raised 0) }
 {
-    let after = replied_words(here.marks, here.link);
     let alone = sets::put(0, here.link, true);
-    let subjects = if heals { u64::MAX } else { alone };
-    let ways = sets::without(here.own, here.marks.quiet);
-    let counts = counted(settled, raised);
-    telling(
-        here.condition,
-        after,
-        here.link,
-        to,
-        heals,
-        heals,
-        subjects,
-        ways,
-        counts,
-    )
+    Plan {
+        condition: here.condition,
+        marks: replied_words(here.marks, here.link),
+        sets: true,
+        at: here.link,
+        counter: to,
+        purges: heals,
+        knows: heals,
+        sends: Sending {
+            subjects: if heals { u64::MAX } else { alone },
+            ways: sets::without(here.own, here.marks.quiet),
+            ..Sending::default()
+        },
+        counts: counted(settled, raised),
+        ..Plan::default()
+    }
 }
 
 // A newer notice: taken, and sent on wherever it did not come from.
 fn plan_take(settled: u64, j: u8, to: u16, here: Here) -> Plan
     ensures { result ≡ done_plan here.own here.marks (effect_act here.condition here.link 0 (Takes j to)) (counting settled 1 0) }
 {
-    let subjects = sets::put(0, j, true);
-    let ways = sets::put(sets::without(here.own, here.marks.quiet), here.link, false); // not back
-    let counts = counted(settled, 1);
-    // no purge, or one notice could circle a ring for ever
-    telling(
-        here.condition,
-        here.marks,
-        j,
-        to,
-        false,
-        false,
-        subjects,
-        ways,
-        counts,
-    )
+    let loud = sets::without(here.own, here.marks.quiet);
+    Plan {
+        condition: here.condition,
+        marks: here.marks,
+        sets: true,
+        at: j,
+        counter: to,
+        purges: false, // or one notice could circle a ring for ever
+        sends: Sending {
+            subjects: sets::put(0, j, true),
+            ways: sets::put(loud, here.link, false), // not back
+            ..Sending::default()
+        },
+        counts: counted(settled, 1),
+        ..Plan::default()
+    }
 }
 
 // What a letter that is heard comes to, by what it does.

@@ -32,6 +32,7 @@ pub fn is_waiting(c: Condition) -> bool
 }
 
 // The kind of event that a number says: the only place where it is looked at.
+// Stays: a public function that docs/ names; an `impl From<u32> for Kind`, which only the crate `station` could have, would say it twice.
 // Promise: equals `Events.kind_of`: the kind of event that a number says, or none of them.
 pub fn kind_of(n: u32) -> Kind
     ensures { result ≡ kind_of n }

@@ -1,4 +1,4 @@
-use Rattle.std.proofs.Common.{sym, ◌∙◌}
+use Rattle.std.proofs.Common.{rules, sym, ◌∙◌}
 use Rattle.station_event.proofs.Small.{timeout_even}
 use Rattle.station_event.proofs.events.plan_timeout.Goals as goal
 
@@ -7,5 +7,5 @@ returns c =
     let h = c.args.here in
     timeout_even h.condition h.marks h.link h.own h.counter _ (sym c.has.ensures ∙ c.if-not-has.false)
     c.is_even.ensures _ _ _ _ _ _ c.if-not-is_even.false
-    c.failed_words-after.ensures c.put-subjects.ensures c.without.ensures c.put-ways.ensures c.timed_out-up.ensures
-    (cc)
+    c.failed_words.ensures c.put.ensures c.without-loud.ensures c.put-2.ensures c.timed_out.ensures
+    (search rules)
