@@ -183,7 +183,7 @@ fn run_next(rt: &impl Print, input: &mut impl Read, buf: &mut [u8]) -> io::Resul
 fn main(rt: HostRuntime) -> io::Result<()> {
     let mut buf = [0u8; CASE_ROOM];
     let mut input = rt.reader();
-    // Stays: counted to a bound, since a loop that goes on while there is input has no measure, and HANDLES allows no Wait.
+    // Stays: counted to a bound, since a loop that goes on while there is input has no measure, and no function here may wait.
     for _ in 0..1000000 {
         if !run_next(&rt, &mut input, &mut buf)? {
             break;
