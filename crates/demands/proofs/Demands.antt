@@ -7,9 +7,10 @@
 -- value is what its type already says: that bytes are bytes (`are_bytes`), that a network's and a state's arrays have their sizes
 -- (`Ends64`, `Sized`), that a tally's counts have 64 bits (`Fits`). `Good s`: such a state that is well formed. The rules themselves are
 -- world/specs: a world is what a state means.
+use Rattle.std.specs.Prelude.{Result, Ok}
 use Prim.Native.Nat.{ℕ, ◌+◌, ◌*◌, ◌-◌, ◌≤◌, ◌<◌, max}
 use mathlib.Core.Bool.{not}
-use mathlib.Core.Path.{◌≡◌, sym, ap, ◌∙◌}
+use mathlib.Core.Path.{◌≡◌, sym, ap, ◌∙◌, subst}
 use mathlib.Core.Logic.{◌↔◌}
 use mathlib.Core.List.{List, [], ◌++◌}
 use lib.Dec.{T}
@@ -24,12 +25,8 @@ use Rattle.net.specs.declared.Letter.{Letter}
 use Rattle.net.specs.declared.Net.{Net}
 use Rattle.net.specs.Network.{Network, link_numbers}
 use Rattle.net.specs.Values.{network_of}
-use Rattle.sheet.specs.declared.Answer.TheVariants as SheetAnswer
-use Rattle.sheet.specs.declared.Wrote.TheVariants as sheetWrote
 use Rattle.sheet.specs.Sheet.{write_sheet}
 use Rattle.sheet.specs.Values as SheetValues
-use Rattle.letters.specs.declared.Answer.TheVariants as answer
-use Rattle.letters.specs.declared.Wrote.TheVariants as letterWrote
 use Rattle.letters.specs.Letters.{write_letter}
 use Rattle.letters.specs.Values.{letters_of}
 use Rattle.reach.specs.Reach.{works_in, Reaches}
@@ -46,7 +43,10 @@ use Rattle.state.specs.State.{world_of, Ends64, Sized}
 use Rattle.step_rules.specs.Step.{refusing}
 use Rattle.step_rules.proofs.Bridge.{Good}
 use Rattle.step_rules.specs.Counting.{tallied_by}
-use Rattle.report.specs.Answers.{no_reach}
+use Rattle.reach.specs.declared.Reached.{Reached}
+use Rattle.report.specs.declared.Refusal.{Refusal}
+use Rattle.report.specs.Asking.{number_in}
+use Rattle.report.specs.Answers.{asked_in, no_reach}
 use Rattle.report.proofs.WordShown.{PathTo, WordShown}
 use Rattle.report.proofs.Shown.{Shown}
 use Rattle.step_counted.proofs.Runs.{LentCalls, tally_is_history}
@@ -74,7 +74,7 @@ use Rattle.demands.proofs.States as States
 use Rattle.demands.proofs.Exact as Exact
 use Rattle.demands.proofs.Exact.{Ruled, ruled, FreshState, fresh_state, report_after_any}
 use Rattle.demands.proofs.Runs as Runs
-use Rattle.demands.proofs.Runs.{IsRun, Moment, accepted_of}
+use Rattle.demands.proofs.Runs.{IsRun, Moment, accepted_of, said}
 use Rattle.demands.proofs.ManyEvents as Many
 pub use Rattle.demands.proofs.Answers.{OneAnswer, one_answer}
 pub use Rattle.demands.proofs.Examples.{Examples, examples}
@@ -84,10 +84,10 @@ pub use Rattle.demands.proofs.Examples.{Examples, examples}
 pub record Demand1 : Type 0 where
   -- A sheet read has the number n exactly if document 01's list gives n for its bytes: 1, 2, 3, 4, 5 field by field, else 0.
   pub sheet_read : (bytes : List ℕ) → T (are_bytes bytes) → (c : ReadsSheet bytes) (n : ℕ)
-      → (SheetValues.number_of c.answer.answer ≡ n) ↔ SheetRead bytes n
-  -- A sheet refused gives no network: the value beside the number is zero throughout, and every call refuses it with 11.
-  pub sheet_refused : (bytes : List ℕ) → T (are_bytes bytes) → (c : ReadsSheet bytes) → (SheetValues.number_of c.answer.answer ≡ 0 → ⊥)
-      → (c.answer.net ≡ SheetValues.zero_net) × BadNet c.answer.net
+      → (SheetValues.number_of c.answer ≡ n) ↔ SheetRead bytes n
+  -- A sheet refused gives no network: the value that stands for none is zero throughout, and every call refuses it with 11.
+  pub sheet_refused : (bytes : List ℕ) → T (are_bytes bytes) → (c : ReadsSheet bytes) → (SheetValues.number_of c.answer ≡ 0 → ⊥)
+      → (SheetValues.net_in c.answer ≡ SheetValues.zero_net) × BadNet (SheetValues.net_in c.answer)
   -- A sheet written: 11 for a network that breaks the sheet rules or has unused room not zero, 10 for a short output, else 0.
   pub sheet_written : (net : Net) (old : List ℕ) (c : WritesSheet net old) (n : ℕ)
       → (Sheet.wrote_number c.answer ≡ n) ↔ SheetWritten net old n
@@ -116,11 +116,11 @@ pub record Demand1 : Type 0 where
   -- The same of the two calls over many events.
   pub many_events : Many.Demand1
   -- The reach: 11, 6, 7, else 0; beside a refusal there is no reach. It is given a copy of the state and is lent nothing.
-  pub reach_number : (s : State) (a : ℕ) (c : AsksReach s a) (n : ℕ) → (c.answer.answer ≡ n) ↔ Reach s a n
-  pub reach_refused : (s : State) (a : ℕ) (c : AsksReach s a) → (c.answer.answer ≡ 0 → ⊥) → c.answer.reached ≡ no_reach
+  pub reach_number : (s : State) (a : ℕ) (c : AsksReach s a) (n : ℕ) → ((asked_in c.answer).answer ≡ n) ↔ Reach s a n
+  pub reach_refused : (s : State) (a : ℕ) (c : AsksReach s a) → ((asked_in c.answer).answer ≡ 0 → ⊥) → (asked_in c.answer).reached ≡ no_reach
   -- The report, which is given a copy of the state too: 11, 6, 7, 10, else 0; a refusal touches no byte of the lent output.
-  pub report_number : (s : State) (a : ℕ) (old : List ℕ) (c : AsksReport s a old) (n : ℕ) → (c.answer ≡ n) ↔ Report s a old n
-  pub report_refused : (s : State) (a : ℕ) (old : List ℕ) (c : AsksReport s a old) → (c.answer ≡ 0 → ⊥) → c.output ≡ old
+  pub report_number : (s : State) (a : ℕ) (old : List ℕ) (c : AsksReport s a old) (n : ℕ) → (number_in c.answer ≡ n) ↔ Report s a old n
+  pub report_refused : (s : State) (a : ℕ) (old : List ℕ) (c : AsksReport s a old) → (number_in c.answer ≡ 0 → ⊥) → c.output ≡ old
   -- In the rules themselves, for every world, well formed or not: 6, 7, 8, 9 for their reasons, and a refused event changes nothing.
   pub rules_number : (w : World) (e : Event) (n : ℕ) → (refusal w e ≡ n) ↔ Why w e n
   pub rules_refused : (w : World) (e : Event) → (refusal w e ≡ 0 → ⊥) → next w e ≡ w
@@ -145,10 +145,10 @@ demand1 =
         States.tally_keeps s e.kind e.a e.b c.answer c.promise t c.tally c.promise_tally h,
       );
       many_events = Many.demand1;
-      reach_number = λ s a c. States.reach_numbers s a c.answer c.promise;
-      reach_refused = λ s a c. States.reach_none s a c.answer c.promise;
-      report_number = λ s a old c. States.report_numbers s a old c.answer c.promise;
-      report_refused = λ s a old c. States.report_keeps s a old c.answer c.promise c.output c.promise_output;
+      reach_number = λ s a c. States.reach_numbers s a (asked_in c.answer) c.promise;
+      reach_refused = λ s a c. States.reach_none s a (asked_in c.answer) c.promise;
+      report_number = λ s a old c. States.report_numbers s a old (number_in c.answer) c.promise;
+      report_refused = λ s a old c. States.report_keeps s a old (number_in c.answer) c.promise c.output c.promise_output;
       rules_number = λ w e n. States.rules_numbers w e n;
       rules_refused = step_refuses;
     }
@@ -173,56 +173,61 @@ pub record Demand2 : Type 0 where
   pub fresh_exact : (net : Net) → GoodNet net → Ends64 net → (c : Begins net) → FreshState net c.answer.state
   -- A station is shown as working (1) exactly if a path of links with even counters leads to it in the asker's own table: of the bytes
   -- in the lent output,
-  pub shown_working : (s : State) (a : ℕ) (old : List ℕ) (c : AsksReport s a old) → c.answer ≡ 0 → (t : ℕ) → t < s.net.stations
+  pub shown_working : (s : State) (a : ℕ) (old : List ℕ) (c : AsksReport s a old) → number_in c.answer ≡ 0 → (t : ℕ) → t < s.net.stations
       → (get_or c.output t 0 ≡ 1) ↔ PathTo s a t
   -- with 0 for every other station, each link's byte as document 01 says, and the output's old tail;
-  pub shown_all : (s : State) (a : ℕ) (old : List ℕ) (c : AsksReport s a old) → c.answer ≡ 0 → Shown s a old c.output
+  pub shown_all : (s : State) (a : ℕ) (old : List ℕ) (c : AsksReport s a old) → number_in c.answer ≡ 0 → Shown s a old c.output
   -- of the bits of the reach word,
-  pub reach_working : (s : State) (a : ℕ) (c : AsksReach s a) → c.answer.answer ≡ 0 → (t : ℕ)
-      → (bit_at c.answer.reached.word t ≡ 1) ↔ PathTo s a t
+  pub reach_working : (s : State) (a : ℕ) (c : AsksReach s a) (r : Reached) → c.answer ≡ Ok r → (t : ℕ)
+      → (bit_at r.word t ≡ 1) ↔ PathTo s a t
   -- together with how many of them are set and the lowest station not reached, or 255;
-  pub reach_all : (s : State) (a : ℕ) (c : AsksReach s a) → c.answer.answer ≡ 0 → WordShown s a c.answer.reached
+  pub reach_all : (s : State) (a : ℕ) (c : AsksReach s a) (r : Reached) → c.answer ≡ Ok r → WordShown s a r
   -- so that the two calls never differ.
-  pub same_bits : (s : State) (a : ℕ) (old : List ℕ) (c : AsksReport s a old) (d : AsksReach s a) → c.answer ≡ 0 → (t : ℕ)
+  pub same_bits : (s : State) (a : ℕ) (old : List ℕ) (c : AsksReport s a old) (d : AsksReach s a) → number_in c.answer ≡ 0 → (t : ℕ)
       → t < s.net.stations
-      → get_or c.output t 0 ≡ bit_at d.answer.reached.word t
+      → get_or c.output t 0 ≡ bit_at (asked_in d.answer).reached.word t
   -- "Every event is now to be one step, with the report read from the table it leaves": whatever the state, a report made after a step
   -- shows station i what its own table says after that very event.
   pub report_after_step : (s : State) → Sized s
       → (e : Event) (c : Steps s e) (i : ℕ) (old : List ℕ) (d : AsksReport c.answer.state i old)
-      → d.answer ≡ 0 → (t : ℕ) → t < s.net.stations
+      → number_in d.answer ≡ 0 → (t : ℕ) → t < s.net.stations
       → (get_or d.output t 0 ≡ 1) ↔ Reaches (network_of s.net) (works_in (holding_at (next (world_of s) e) i).table) i t
   -- A sheet that is taken gives a good network, and its bytes are that network's sheet.
-  pub sheet_taken : (bytes : List ℕ) → T (are_bytes bytes) → (c : ReadsSheet bytes) → c.answer.answer ≡ SheetAnswer.Good
-      → GoodNet c.answer.net × (bytes ≡ write_sheet (network_of c.answer.net))
+  pub sheet_taken : (bytes : List ℕ) → T (are_bytes bytes) → (c : ReadsSheet bytes) (net : Net) → c.answer ≡ Ok net
+      → GoodNet net × (bytes ≡ write_sheet (network_of net))
   -- A sheet that was written in n bytes: the first n bytes of the output are the network's sheet, they are read back to the very
   -- network, and a longer output keeps its tail.
-  pub sheet_bytes_lem : (net : Net) (old : List ℕ) (c : WritesSheet net old) (n : ℕ) → c.answer ≡ sheetWrote.Bytes n
+  pub sheet_bytes_lem : (net : Net) (old : List ℕ) (c : WritesSheet net old) (n : ℕ) → c.answer ≡ Ok n
       → take n c.output ≡ write_sheet (network_of net)
-  pub sheet_back : (net : Net) → Ends64 net → (old : List ℕ) (c : WritesSheet net old) (n : ℕ) → c.answer ≡ sheetWrote.Bytes n
-      → (d : ReadsSheet (take n c.output)) → (d.answer.answer ≡ SheetAnswer.Good) × (d.answer.net ≡ net)
-  pub sheet_tail : (net : Net) (old : List ℕ) (c : WritesSheet net old) (n : ℕ) → c.answer ≡ sheetWrote.Bytes n
+  pub sheet_back : (net : Net) → Ends64 net → (old : List ℕ) (c : WritesSheet net old) (n : ℕ) → c.answer ≡ Ok n
+      → (d : ReadsSheet (take n c.output)) → d.answer ≡ Ok net
+  pub sheet_tail : (net : Net) (old : List ℕ) (c : WritesSheet net old) (n : ℕ) → c.answer ≡ Ok n
       → drop n c.output ≡ drop n old
   -- Each network has one writing: sheets that are taken and mean the same are the same bytes.
   pub sheet_once : (xs ys : List ℕ) → T (are_bytes xs) → T (are_bytes ys) → (c : ReadsSheet xs) (d : ReadsSheet ys)
-      → c.answer.answer ≡ SheetAnswer.Good
-      → d.answer.answer ≡ SheetAnswer.Good → network_of c.answer.net ≡ network_of d.answer.net → xs ≡ ys
+      → (net other : Net) → c.answer ≡ Ok net → d.answer ≡ Ok other → network_of net ≡ network_of other → xs ≡ ys
   -- The same for a letter, read and written against a network.
   pub letter_taken : (net : Net) (bytes : List ℕ) → T (are_bytes bytes) → (c : ReadsLetter net bytes) (x : Letter)
-      → c.answer ≡ answer.Good x
+      → c.answer ≡ Ok x
       → GoodLetter net x × (bytes ≡ write_letter (network_of net) x)
-  pub letter_bytes_lem : (net : Net) (x : Letter) (old : List ℕ) (c : WritesLetter net x old) (n : ℕ) → c.answer ≡ letterWrote.Bytes n
+  pub letter_bytes_lem : (net : Net) (x : Letter) (old : List ℕ) (c : WritesLetter net x old) (n : ℕ) → c.answer ≡ Ok n
       → take n c.output ≡ write_letter (network_of net) x
-  pub letter_back : (net : Net) (x : Letter) (old : List ℕ) (c : WritesLetter net x old) (n : ℕ) → c.answer ≡ letterWrote.Bytes n
-      → (d : ReadsLetter net (take n c.output)) → d.answer ≡ answer.Good x
-  pub letter_tail : (net : Net) (x : Letter) (old : List ℕ) (c : WritesLetter net x old) (n : ℕ) → c.answer ≡ letterWrote.Bytes n
+  pub letter_back : (net : Net) (x : Letter) (old : List ℕ) (c : WritesLetter net x old) (n : ℕ) → c.answer ≡ Ok n
+      → (d : ReadsLetter net (take n c.output)) → d.answer ≡ Ok x
+  pub letter_tail : (net : Net) (x : Letter) (old : List ℕ) (c : WritesLetter net x old) (n : ℕ) → c.answer ≡ Ok n
       → drop n c.output ≡ drop n old
   pub letter_once : (net : Net) (xs ys : List ℕ) → T (are_bytes xs) → T (are_bytes ys)
       → (c : ReadsLetter net xs) (d : ReadsLetter net ys) (x : Letter)
-      → c.answer ≡ answer.Good x → d.answer ≡ answer.Good x → xs ≡ ys
+      → c.answer ≡ Ok x → d.answer ≡ Ok x → xs ≡ ys
   -- In the rules themselves, for every world: a station's number in the report is 1 exactly if a path leads to it.
   pub rules_shown : (w : World) (s t : ℕ) → t < w.net.stations
       → (get_or (report_at w s) t 0 ≡ 1) ↔ Reaches w.net (works_in (holding_at w s).table) s t
+
+-- a reach that is answered
+reach_shown : (s : State) (a : ℕ) (c : AsksReach s a) (r : Reached) → c.answer ≡ Ok r → WordShown s a r
+reach_shown s a c r p =
+    subst (λ (x : Result Reached Refusal). WordShown s a (asked_in x).reached) p
+    (Exact.reach_shows s a (asked_in c.answer) c.promise (ap (λ (x : Result Reached Refusal). (asked_in x).answer) p))
 
 pub demand2 : Demand2
 demand2 =
@@ -234,22 +239,21 @@ demand2 =
       many_events = Many.demand2;
       state_determined = Joined.determined;
       fresh_exact = λ net g d c. fresh_state net g d c.answer c.promise;
-      shown_working = λ s a old c q. (Exact.report_shows s a old c.answer c.output c.promise c.promise_output q).working;
-      shown_all = λ s a old c. Exact.report_shows s a old c.answer c.output c.promise c.promise_output;
-      reach_working = λ s a c q. (Exact.reach_shows s a c.answer c.promise q).bits;
-      reach_all = λ s a c. Exact.reach_shows s a c.answer c.promise;
-      same_bits = λ s a old c d. Exact.bits_same s a old c.answer c.output c.promise c.promise_output d.answer d.promise;
+      shown_working = λ s a old c q. (Exact.report_shows s a old (number_in c.answer) c.output c.promise c.promise_output q).working;
+      shown_all = λ s a old c. Exact.report_shows s a old (number_in c.answer) c.output c.promise c.promise_output;
+      reach_working = λ s a c r q. (reach_shown s a c r q).bits;
+      reach_all = reach_shown;
+      same_bits = λ s a old c d.
+          Exact.bits_same s a old (number_in c.answer) c.output c.promise c.promise_output (asked_in d.answer) d.promise;
       report_after_step = λ s z e c i old d q.
           report_after_any s e.kind e.a e.b c.answer c.promise z i old d.output (sym d.promise ∙ q)
           d.promise_output;
-      sheet_taken = λ bytes a c p. Written.sheet_taken bytes a c.answer c.promise (ap SheetValues.number_of p);
+      sheet_taken = λ bytes a c net p. Written.sheet_taken bytes a net (said bytes c net p);
       sheet_bytes_lem = λ net old c. Written.sheet_bytes_lem net old c.answer c.promise c.output c.promise_output;
       sheet_back = λ net z old c n b d.
           Written.sheet_back net old c.answer c.promise c.output c.promise_output n b z d.answer d.promise;
       sheet_tail = λ net old c. Written.sheet_tail net old c.answer c.promise c.output c.promise_output;
-      sheet_once = λ xs ys a b c d p q.
-          Written.sheet_once xs ys a b c.answer d.answer c.promise d.promise (ap SheetValues.number_of p)
-          (ap SheetValues.number_of q);
+      sheet_once = λ xs ys a b c d net other p q. Written.sheet_once xs ys a b net other (said xs c net p) (said ys d other q);
       letter_taken = λ net bytes a c x p. Written.letter_taken net bytes a x (sym (ap letters_of p) ∙ c.promise);
       letter_bytes_lem = λ net x old c. Written.letter_bytes_lem net x old c.answer c.promise c.output c.promise_output;
       letter_back = λ net x old c n b d.
@@ -366,13 +370,13 @@ pub record Counts : Type 0 where
   -- read sheet.
   pub well_for_ever : {s u : State} {es : List Event} {n : Tally} → Good s → Calls s es n u → Good u
   pub well_on_the_way : {s u t : State} {es ds : List Event} {n m : Tally} {r : Calls s es n u} → Good s → Comes r ds m t → Good t
-  pub well_from_sheet : (bytes : List ℕ) → T (are_bytes bytes) → (c : ReadsSheet bytes) → c.answer.answer ≡ SheetAnswer.Good
-      → (b : Begins c.answer.net) {u : State} {es : List Event} {n : Tally} → Calls b.answer.state es n u → Good u
+  pub well_from_sheet : (bytes : List ℕ) → T (are_bytes bytes) → (c : ReadsSheet bytes) (net : Net) → c.answer ≡ Ok net
+      → (b : Begins net) {u : State} {es : List Event} {n : Tally} → Calls b.answer.state es n u → Good u
   -- From a freshly read sheet, letters ever sent, counted from the events, equal those delivered, lost and in flight in the state that
   -- the run hands back.
-  pub letters_conserved : (bytes : List ℕ) → T (are_bytes bytes) → (c : ReadsSheet bytes) → c.answer.answer ≡ SheetAnswer.Good
-      → (b : Begins c.answer.net) {u : State} {es : List Event} {n : Tally} → Calls b.answer.state es n u
-      → let w = fresh (network_of c.answer.net) in ever_sent w es ≡ ever_delivered w es + ever_lost w es + length (world_of u).letters
+  pub letters_conserved : (bytes : List ℕ) → T (are_bytes bytes) → (c : ReadsSheet bytes) (net : Net) → c.answer ≡ Ok net
+      → (b : Begins net) {u : State} {es : List Event} {n : Tally} → Calls b.answer.state es n u
+      → let w = fresh (network_of net) in ever_sent w es ≡ ever_delivered w es + ever_lost w es + length (world_of u).letters
   -- In the rules themselves: an accepted step keeps well-formedness, every history from a lawful network's fresh world does, and in it
   -- letters are conserved.
   pub rules_keep : (w : World) (e : Event) → T (well_formed w) → refusal w e ≡ 0 → T (well_formed (after w e))
@@ -391,8 +395,8 @@ counts =
       runs_mean = Joined.calls_mean;
       well_for_ever = Joined.well_for_ever;
       well_on_the_way = Joined.well_on_the_way;
-      well_from_sheet = λ bytes a c p b r. Runs.well_from_sheet bytes a c p b r;
-      letters_conserved = λ bytes a c p b r. Runs.letters_conserved bytes a c p b r;
+      well_from_sheet = λ bytes a c net p b r. Runs.well_from_sheet bytes a c net p b r;
+      letters_conserved = λ bytes a c net p b r. Runs.letters_conserved bytes a c net p b r;
       rules_keep = step_keeps;
       rules_for_ever = run_well;
       rules_conserve = Ledger.letters_conserved;

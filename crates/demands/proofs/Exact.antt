@@ -25,8 +25,7 @@ use Rattle.step_rules.specs.declared.Stepped.{Stepped}
 use Rattle.step_rules.specs.Step.{event, refusing, accepting, number_of, stepped_of}
 use Rattle.step_rules.proofs.Bridge.{Good, IsStep, bad_refused, is_step}
 use Rattle.report.proofs.Refusals.{Asks, stations_are, table_is}
-use Rattle.report.specs.declared.Asked.{Asked}
-use Rattle.report.specs.Answers.{asked_of}
+use Rattle.report.specs.Answers.{Asked, asked_of}
 use Rattle.report.proofs.WordShown.{own_table, PathTo, WordShown, word_shown}
 use Rattle.report.specs.ReportsAnswers.{answer_of, output_of}
 use Rattle.report.proofs.ReportsRefusals.{accepted_when}

@@ -1,5 +1,6 @@
 -- A letter's numbers: each when, and only when, its reason of specs/LetterReasons.antt stands; for every answer that the promise of the
 -- reading allows.
+use Rattle.std.specs.Prelude.{Result}
 use Prim.Native.Nat.{ℕ, ◌/◌, ◌%◌, ◌≤◌, ◌<◌}
 use mathlib.Core.Bool.{Bool, true, false, not, ◌&&◌}
 use mathlib.Core.Path.{◌≡◌, refl, sym, ap, ◌∙◌, subst, subst⁻¹}
@@ -21,7 +22,7 @@ use Rattle.net.specs.declared.Net.{Net}
 use Rattle.net.specs.Network.{Network}
 use Rattle.net.specs.Letters.{body_holds}
 use Rattle.net.specs.Values.{network_of}
-use Rattle.letters.specs.declared.Answer.{Answer}
+use Rattle.letters.specs.declared.LetterError.{LetterError}
 use Rattle.letters.specs.Letters as L
 use Rattle.letters.specs.Letters.{Letters, form_of, says, values_hold}
 use Rattle.letters.specs.Values.{reading, letters_of}
@@ -205,7 +206,7 @@ module _ (net : Net) (bytes : List ℕ) (w : T (are_bytes bytes)) where
   why_read (W.taken g x h e) = ap (λ (l : List ℕ). letters_number (reading net l)) e ∙ ap letters_number (written_read net x g h)
 
   -- EACH NUMBER WHEN, AND ONLY WHEN, ITS REASON STANDS: for every answer that the reading's promise allows
-  pub letter_numbers_lem : (r : Answer) → letters_of r ≡ reading net bytes → (n : ℕ) → (letters_number (letters_of r) ≡ n) ↔ LetterRead net bytes n
+  pub letter_numbers_lem : (r : Result Letter LetterError) → letters_of r ≡ reading net bytes → (n : ℕ) → (letters_number (letters_of r) ≡ n) ↔ LetterRead net bytes n
   letter_numbers_lem r p n = (
     (λ e. subst (LetterRead net bytes) (sym (ap letters_number p) ∙ e) (read_why (reading net bytes) refl)),
     (λ q. ap letters_number p ∙ why_read q),

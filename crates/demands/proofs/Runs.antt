@@ -1,6 +1,6 @@
 -- What one call counts (specs/Counted.antt); and runs of calls: a run of the step that is lent a tally is a run of the step, after any
 -- first events of a run there is the state that it comes to, and runs from a freshly read sheet.
-use Rattle.std.specs.Prelude.{if◌then◌else◌}
+use Rattle.std.specs.Prelude.{if◌then◌else◌, Result, Ok}
 use Prim.Native.Nat.{ℕ, ◌+◌, ◌*◌, ◌-◌, ◌≤◌, ◌<◌, max}
 use mathlib.Core.Bool.{Bool, true, false, not, ◌&&◌, ◌||◌}
 use mathlib.Core.Path.{◌≡◌, refl, sym, ap, ◌∙◌, subst, subst⁻¹, transport}
@@ -18,7 +18,8 @@ use Rattle.net.specs.declared.Letter.{Letter}
 use Rattle.net.specs.declared.Net.{Net}
 use Rattle.net.specs.Network.{Network, link_numbers}
 use Rattle.net.specs.Values.{network_of}
-use Rattle.sheet.specs.declared.Answer.TheVariants as SheetAnswer
+use Rattle.sheet.specs.declared.SheetError.{SheetError}
+use Rattle.sheet.specs.Sheet.{read_sheet}
 use Rattle.sheet.specs.Values as SheetValues
 use Rattle.sheet.proofs.Laws.{read_holds}
 use Rattle.sheet.proofs.ValueLaws.{low_long, high_long}
@@ -135,19 +136,21 @@ every_moment (e ∷ ds) fs (C.more {t = t} c r) =
     record { state = m.state; counts = _; comes = C.on m.comes }
 
 -- ---- from a freshly read sheet: bytes are read, the fresh state of the network is made, and a run begins there
-module _ (bytes : List ℕ) (a : T (are_bytes bytes)) (c : ReadsSheet bytes) (p : c.answer.answer ≡ SheetAnswer.Good)
-    (b : Begins c.answer.net) where
-  abbrev net : Net
-  net = c.answer.net
+pub said : (bytes : List ℕ) (c : ReadsSheet bytes) (net : Net) → c.answer ≡ Ok net → SheetValues.Says (Ok net) (read_sheet bytes)
+said bytes c net p = subst (λ (r : Result Net SheetError). SheetValues.Says r (read_sheet bytes)) p c.promise
+
+module _ (bytes : List ℕ) (a : T (are_bytes bytes)) (c : ReadsSheet bytes) (net : Net) (p : c.answer ≡ Ok net) (b : Begins net) where
+  says : SheetValues.Says (Ok net) (read_sheet bytes)
+  says = said bytes c net p
 
   good : GoodNet net
-  good = (sheet_taken bytes a c.answer c.promise (ap SheetValues.number_of p)).0
+  good = (sheet_taken bytes a net says).0
 
   sized : Ends64 net
   sized =
-      let m = good_sheet bytes a c.answer c.promise (ap SheetValues.number_of p) in
+      let m = good_sheet bytes a (Ok net) says refl in
       let t = read_holds bytes m.0 m.1 in
-      subst⁻¹ Ends64 (c.promise.net ∙ ap SheetValues.sheet_net m.1) (record { low = low_long m.0 t; high = high_long m.0 t })
+      subst⁻¹ Ends64 (says.net ∙ ap SheetValues.sheet_net m.1) (record { low = low_long m.0 t; high = high_long m.0 t })
 
   begun : b.answer.state ≡ Joined.first net good sized
   begun = ap (λ (x : Begun). x.state) (b.promise ∙ begun_good net good)

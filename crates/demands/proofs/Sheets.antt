@@ -1,5 +1,6 @@
 -- A sheet's numbers: each when, and only when, its reason of specs/SheetReasons.antt stands; for every answer that meets the promise of
 -- the two calls.
+use Rattle.std.specs.Prelude.{Result}
 use Prim.Native.Nat.{ℕ, zero, suc, ◌≤◌, ◌<◌}
 use mathlib.Core.Bool.{Bool, true, false, not, ◌&&◌}
 use mathlib.Core.Path.{◌≡◌, refl, sym, ap, ◌∙◌, subst, subst⁻¹}
@@ -13,11 +14,12 @@ use Rattle.lists.proofs.Tests.{T_is, T_not_is, is_T, and_l, and_r, and_i, or_lef
 use Rattle.lists.proofs.Fill.{by_places}
 use Rattle.fields.proofs.Seen.{tag_is, size_is, empty_is}
 use Rattle.fields.specs.Fields.{Field, field, first_field, write_field, is_field, is_empty, are_bytes}
+use Rattle.net.specs.declared.Net.{Net}
 use Rattle.net.specs.Network.{Ends, Network}
 use Rattle.sheet_rules.specs.Rules.{precedes, ends_hold}
 use Rattle.sheet.specs.Sheet.{Sheet, refused, sheet, stations_hold, link, link_of, no_link, judged, read_sheet, write_links}
-use Rattle.sheet.specs.declared.Reading.{Reading}
-use Rattle.sheet.specs.Values.{number_of, sheet_number, zero_net, sheet_net, Says}
+use Rattle.sheet.specs.declared.SheetError.{SheetError}
+use Rattle.sheet.specs.Values.{number_of, net_in, sheet_number, zero_net, sheet_net, Says}
 use Rattle.sheet.proofs.Judged.{is_link}
 use Rattle.sheet.proofs.Laws.{last_of, reads_back, one_writing, read_holds, rest_bytes}
 use Rattle.sheet.proofs.ValueLaws.{zero_bad}
@@ -201,8 +203,8 @@ module _ (bytes : List ℕ) where
       ap sheet_number (R.refused_when bytes k (later_when net bytes rest (record { holds = g; front = e }) f))
 
   -- EACH NUMBER WHEN, AND ONLY WHEN, ITS REASON STANDS: for every answer that the reading's promise allows
-  pub sheet_numbers : T (are_bytes bytes) → (r : Reading) → Says r (read_sheet bytes) → (n : ℕ)
-      → (number_of r.answer ≡ n) ↔ SheetRead bytes n
+  pub sheet_numbers : T (are_bytes bytes) → (r : Result Net SheetError) → Says r (read_sheet bytes) → (n : ℕ)
+      → (number_of r ≡ n) ↔ SheetRead bytes n
   sheet_numbers b r p n =
       ((λ e. subst (SheetRead bytes) (sym p.number ∙ e) (read_why b (read_sheet bytes) refl)), (λ w. p.number ∙ why_read w))
 
@@ -218,16 +220,16 @@ module _ (bytes : List ℕ) where
   taken_net b (W.later net rest g e (W.four y r x m k)) z = absurd (omega arith)
   taken_net b (W.later net rest g e (W.five y r x m k l)) z = absurd (omega arith)
 
-  pub good_sheet : T (are_bytes bytes) → (r : Reading) → Says r (read_sheet bytes) → number_of r.answer ≡ 0
+  pub good_sheet : T (are_bytes bytes) → (r : Result Net SheetError) → Says r (read_sheet bytes) → number_of r ≡ 0
       → (net : Network) × (read_sheet bytes ≡ sheet net)
   good_sheet b r p e = taken_net b ((sheet_numbers b r p 0).0 e) refl
 
   -- a sheet refused gives no network: what stands beside the number is one that every call refuses with 11
-  pub refused_none : T (are_bytes bytes) → (r : Reading) → Says r (read_sheet bytes) → (number_of r.answer ≡ 0 → ⊥)
-      → (r.net ≡ zero_net) × BadNet r.net
+  pub refused_none : T (are_bytes bytes) → (r : Result Net SheetError) → Says r (read_sheet bytes) → (number_of r ≡ 0 → ⊥)
+      → (net_in r ≡ zero_net) × BadNet (net_in r)
   refused_none b r p h = go (read_sheet bytes) refl
     where
-      go : (s : Sheet) → read_sheet bytes ≡ s → (r.net ≡ zero_net) × BadNet r.net
+      go : (s : Sheet) → read_sheet bytes ≡ s → (net_in r ≡ zero_net) × BadNet (net_in r)
       go (refused k) e =
-          let z : r.net ≡ zero_net = p.net ∙ ap sheet_net e in (z, subst⁻¹ BadNet z (subst (λ (b : Bool). T (not b)) zero_bad tt))
+          let z : net_in r ≡ zero_net = p.net ∙ ap sheet_net e in (z, subst⁻¹ BadNet z (subst (λ (b : Bool). T (not b)) zero_bad tt))
       go (sheet net) e = absurd (h (p.number ∙ ap sheet_number e))

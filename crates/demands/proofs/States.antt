@@ -25,8 +25,7 @@ use Rattle.step_rules.specs.Step.{event, refusing, accepting, number_of, stepped
 use Rattle.step_rules.specs.Counting.{tallied_by}
 use Rattle.report.specs.Asking.{number_of as numberAsked}
 use Rattle.report.proofs.Refusals as Ask
-use Rattle.report.specs.declared.Asked.{Asked}
-use Rattle.report.specs.Answers.{no_reach, asked_of}
+use Rattle.report.specs.Answers.{Asked, no_reach, asked_of}
 use Rattle.report.proofs.WordShown.{answer_number}
 use Rattle.report.specs.ReportsAnswers.{answer_of, output_of}
 use Rattle.report.proofs.ReportsRefusals as Told

@@ -1,5 +1,6 @@
 -- Sheets and letters written to lent output: each number when, and only when, its reason stands, a refusal touches no byte, what was
 -- written reads back from the output's first bytes, and each meaning has one writing. For every answer that the promises allow.
+use Rattle.std.specs.Prelude.{Result, Ok}
 use Prim.Native.Nat.{ℕ, ◌≤◌, ◌<◌}
 use mathlib.Core.Bool.{Bool, true, false, not}
 use mathlib.Core.Path.{◌≡◌, refl, sym, ap, ◌∙◌, subst, subst⁻¹}
@@ -19,20 +20,16 @@ use Rattle.net.specs.declared.Net.{Net}
 use Rattle.net.specs.Letters.{letter_holds}
 use Rattle.net.specs.Values.{network_of}
 use Rattle.state.specs.State.{Ends64}
-use Rattle.sheet.specs.declared.Answer.TheVariants as SheetAnswer
-use Rattle.sheet.specs.declared.Reading.{Reading}
-use Rattle.sheet.specs.declared.Wrote as SheetWrote
-use Rattle.sheet.specs.declared.Wrote.TheVariants as sheetWrote
+use Rattle.sheet.specs.declared.SheetError.{SheetError}
+use Rattle.sheet.specs.declared.WriteError as SheetWrite
 use Rattle.sheet.specs.Sheet.{sheet, read_sheet, write_sheet}
 use Rattle.sheet.specs.Values as SheetValues
 use Rattle.sheet.specs.Values.{Says}
 use Rattle.sheet.proofs.Laws as SheetLaws
 use Rattle.sheet.proofs.ValueLaws.{value_read, read_value}
 use Rattle.sheet.proofs.Refusals as SheetRefusals
-use Rattle.letters.specs.declared.Answer.{Answer}
-use Rattle.letters.specs.declared.Answer.TheVariants as answer
-use Rattle.letters.specs.declared.Wrote as LetterWrote
-use Rattle.letters.specs.declared.Wrote.TheVariants as letterWrote
+use Rattle.letters.specs.declared.LetterError.{LetterError}
+use Rattle.letters.specs.declared.WriteError as LetterWrite
 use Rattle.letters.specs.Letters.{write_letter}
 use Rattle.letters.specs.Values as LetterValues
 use Rattle.letters.specs.Values.{reading, letters_of}
@@ -95,7 +92,7 @@ module _ (net : Net) (old : List ℕ) where
       go true p (yes h) = is (S.ten (is_T _ p) h)
       go true p (no h) = is (S.taken (is_T _ p) (omega arith))
 
-  module _ (r : SheetWrote.Wrote) (p : SheetValues.wrote_numbers r ≡ writing_numbers (SheetValues.writing net old)) where
+  module _ (r : Result ℕ SheetWrite.WriteError) (p : SheetValues.wrote_numbers r ≡ writing_numbers (SheetValues.writing net old)) where
     -- EACH NUMBER WHEN, AND ONLY WHEN, ITS REASON STANDS
     pub sheet_write_numbers : (n : ℕ) → (S.wrote_number r ≡ n) ↔ SheetWritten net old n
     sheet_write_numbers n =
@@ -112,7 +109,7 @@ module _ (net : Net) (old : List ℕ) where
       pub sheet_write_keeps : (S.wrote_number r ≡ 0 → ⊥) → out ≡ old
       sheet_write_keeps h = refused_stays old out (SheetValues.writing net old) o (λ z. h (ap (λ (l : List ℕ). get_or l 0 0) p ∙ z))
 
-      module _ (n : ℕ) (b : r ≡ sheetWrote.Bytes n) where
+      module _ (n : ℕ) (b : r ≡ Ok n) where
         accepted : GoodNet net × (SheetValues.writing net old ≡ writes sheet_bytes)
         accepted = taken_as ((sheet_write_numbers 0).0 (ap S.wrote_number b)) refl
 
@@ -128,25 +125,25 @@ module _ (net : Net) (old : List ℕ) where
         sheet_tail = sheet_parts.1
 
         -- READ BACK: the first n bytes of the output read to the network that was given
-        pub sheet_back : Ends64 net → (q : Reading) → Says q (read_sheet (take n out)) → (q.answer ≡ SheetAnswer.Good) × (q.net ≡ net)
+        pub sheet_back : Ends64 net → (q : Result Net SheetError) → Says q (read_sheet (take n out)) → q ≡ Ok net
         sheet_back d q w =
             value_read q net accepted.0 d.low d.high (subst (λ (l : List ℕ). Says q (read_sheet l)) sheet_parts.0 w)
 
--- TAKEN: the network beside the answer is a good one, and the bytes are its sheet
-pub sheet_taken : (bytes : List ℕ) → T (are_bytes bytes) → (r : Reading) → Says r (read_sheet bytes) → SheetValues.number_of r.answer ≡ 0
-    → GoodNet r.net × (bytes ≡ write_sheet (network_of r.net))
-sheet_taken bytes b r p z =
-    let m = good_sheet bytes b r p z in
-    let k = read_value r bytes m.0 p m.1 in
+-- TAKEN: the network of the answer is a good one, and the bytes are its sheet
+pub sheet_taken : (bytes : List ℕ) → T (are_bytes bytes) → (net : Net) → Says (Ok net) (read_sheet bytes)
+    → GoodNet net × (bytes ≡ write_sheet (network_of net))
+sheet_taken bytes b net p =
+    let m = good_sheet bytes b (Ok net) p refl in
+    let k = read_value (Ok net) bytes m.0 p m.1 in
     (k.1, SheetLaws.one_writing bytes m.0 b m.1 ∙ ap write_sheet (sym k.0))
 
 -- ONE WRITING: sheets that are taken and mean the same network are the same bytes
-pub sheet_once : (xs ys : List ℕ) → T (are_bytes xs) → T (are_bytes ys) → (r q : Reading) → Says r (read_sheet xs) → Says q (read_sheet ys)
-    → SheetValues.number_of r.answer ≡ 0 → SheetValues.number_of q.answer ≡ 0 → network_of r.net ≡ network_of q.net → xs ≡ ys
-sheet_once xs ys a b r q v w x y e =
-    let m = good_sheet xs a r v x in
-    let k = good_sheet ys b q w y in
-    let same : m.0 ≡ k.0 = sym (read_value r xs m.0 v m.1).0 ∙ e ∙ (read_value q ys k.0 w k.1).0 in
+pub sheet_once : (xs ys : List ℕ) → T (are_bytes xs) → T (are_bytes ys) → (net other : Net) → Says (Ok net) (read_sheet xs)
+    → Says (Ok other) (read_sheet ys) → network_of net ≡ network_of other → xs ≡ ys
+sheet_once xs ys a b net other v w e =
+    let m = good_sheet xs a (Ok net) v refl in
+    let k = good_sheet ys b (Ok other) w refl in
+    let same : m.0 ≡ k.0 = sym (read_value (Ok net) xs m.0 v m.1).0 ∙ e ∙ (read_value (Ok other) ys k.0 w k.1).0 in
     SheetLaws.same_bytes xs ys k.0 a b (m.1 ∙ ap sheet same) k.1
 
 -- ---- a letter
@@ -190,7 +187,7 @@ module _ (net : Net) (x : Letter) (old : List ℕ) where
       go true true p q (yes h) = is (L.ten (is_T _ p) (is_T _ q) h)
       go true true p q (no h) = is (L.taken (is_T _ p) (is_T _ q) (omega arith))
 
-  module _ (r : LetterWrote.Wrote) (p : LetterValues.wrote_numbers r ≡ writing_numbers (LetterValues.writing net x old)) where
+  module _ (r : Result ℕ LetterWrite.WriteError) (p : LetterValues.wrote_numbers r ≡ writing_numbers (LetterValues.writing net x old)) where
     -- EACH NUMBER WHEN, AND ONLY WHEN, ITS REASON STANDS
     pub letter_write_numbers : (n : ℕ) → (L.wrote_number r ≡ n) ↔ LetterWritten net x old n
     letter_write_numbers n =
@@ -209,7 +206,7 @@ module _ (net : Net) (x : Letter) (old : List ℕ) where
       pub letter_write_keeps : (L.wrote_number r ≡ 0 → ⊥) → out ≡ old
       letter_write_keeps h = refused_stays old out (LetterValues.writing net x old) o (λ z. h (ap (λ (l : List ℕ). get_or l 0 0) p ∙ z))
 
-      module _ (n : ℕ) (b : r ≡ letterWrote.Bytes n) where
+      module _ (n : ℕ) (b : r ≡ Ok n) where
         letter_accepted : GoodNet net × (GoodLetter net x × (LetterValues.writing net x old ≡ writes letter_bytes))
         letter_accepted = letter_as ((letter_write_numbers 0).0 (ap L.wrote_number b)) refl
 
@@ -226,17 +223,17 @@ module _ (net : Net) (x : Letter) (old : List ℕ) where
         letter_tail = letter_parts.1
 
         -- READ BACK: the first n bytes of the output read to the letter that was given
-        pub letter_back : (q : Answer) → letters_of q ≡ reading net (take n out) → q ≡ answer.Good x
+        pub letter_back : (q : Result Letter LetterError) → letters_of q ≡ reading net (take n out) → q ≡ Ok x
         letter_back q w =
-            LetterRefusals.one_answer q (answer.Good x)
+            LetterRefusals.one_answer q (Ok x)
             (w ∙ ap (reading net) letter_parts.0 ∙ written_read net x letter_accepted.0 letter_accepted.1.0)
 
 -- TAKEN: it is a letter of that network, and the bytes are its writing
-pub letter_taken : (net : Net) (bytes : List ℕ) → T (are_bytes bytes) → (x : Letter) → letters_of (answer.Good x) ≡ reading net bytes
+pub letter_taken : (net : Net) (bytes : List ℕ) → T (are_bytes bytes) → (x : Letter) → letters_of (Ok x) ≡ reading net bytes
     → GoodLetter net x × (bytes ≡ write_letter (network_of net) x)
 letter_taken net bytes b x p = (read_travels net x bytes (sym p), read_written net x bytes b (sym p))
 
 -- ONE WRITING: against one network, bytes that read to the same letter are the same bytes
 pub letter_once : (net : Net) (xs ys : List ℕ) → T (are_bytes xs) → T (are_bytes ys) → (x : Letter)
-    → letters_of (answer.Good x) ≡ reading net xs → letters_of (answer.Good x) ≡ reading net ys → xs ≡ ys
+    → letters_of (Ok x) ≡ reading net xs → letters_of (Ok x) ≡ reading net ys → xs ≡ ys
 letter_once net xs ys a b x p q = read_written net x xs a (sym p) ∙ sym (read_written net x ys b (sym q))

@@ -1,5 +1,5 @@
 -- The numbers of a letter's bytes, each with its reason. Nothing here speaks of how a letter is read.
-use Rattle.std.specs.Prelude.{ℕ, ◌≤◌, ◌<◌, not, ◌≡◌, List, [], ◌∷◌, T, length, get_or}
+use Rattle.std.specs.Prelude.{ℕ, ◌≤◌, ◌<◌, not, ◌≡◌, List, [], ◌∷◌, T, length, get_or, Result}
 use Rattle.fields.specs.Fields.{wide}
 use Rattle.net.specs.declared.Body.{Body}
 use Rattle.net.specs.declared.Body.TheVariants.{Request, Reply, Notice}
@@ -8,7 +8,7 @@ use Rattle.net.specs.declared.Net.{Net}
 use Rattle.net.specs.Network.{Network}
 use Rattle.net.specs.Letters.{letter_holds}
 use Rattle.net.specs.Values.{network_of}
-use Rattle.letters.specs.declared.Wrote.{Wrote}
+use Rattle.letters.specs.declared.WriteError.{WriteError}
 use Rattle.letters.specs.Letters.{Letters, refused, letter, write_letter}
 use Rattle.letters.specs.Values.{wrote_numbers}
 use Rattle.demands.specs.Given.{GoodNet, BadNet, Front, EndsInside}
@@ -26,7 +26,7 @@ letters_number (refused n) = n
 letters_number (letter x) = 0
 
 -- the number of the writing's answer; 0 for one that says how many bytes were written
-abbrev pub wrote_number : Wrote → ℕ
+abbrev pub wrote_number : Result ℕ WriteError → ℕ
 wrote_number r = get_or (wrote_numbers r) 0 0
 
 -- ---- the three forms: a tag and a value that say a link, a side and what the letter is

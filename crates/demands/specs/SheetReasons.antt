@@ -1,13 +1,13 @@
 -- The numbers of a sheet's bytes, each with its reason: "Bytes go field by field: 1, 2, 3, 4, 5 in each". Nothing here speaks of how a
 -- sheet is read.
-use Rattle.std.specs.Prelude.{ℕ, ◌≤◌, ◌<◌, not, ◌≡◌, List, [], ◌∷◌, ◌++◌, T, length, get_or}
+use Rattle.std.specs.Prelude.{ℕ, ◌≤◌, ◌<◌, not, ◌≡◌, List, [], ◌∷◌, ◌++◌, T, length, get_or, Result}
 use Rattle.net.specs.Sizes.{station_room, link_room}
 use Rattle.fields.specs.Fields.{write_field}
 use Rattle.net.specs.declared.Net.{Net}
 use Rattle.net.specs.Network.{Ends, Network}
 use Rattle.sheet_rules.specs.Rules.{precedes}
 use Rattle.net.specs.Values.{network_of}
-use Rattle.sheet.specs.declared.Wrote.{Wrote}
+use Rattle.sheet.specs.declared.WriteError.{WriteError}
 use Rattle.sheet.specs.Sheet.{write_links, write_sheet}
 use Rattle.sheet.specs.Values.{wrote_numbers}
 use Rattle.demands.specs.Given.{Lawful, GoodNet, BadNet, Front, EndsInside}
@@ -65,7 +65,7 @@ pub data SheetRead (bytes : List ℕ) : ℕ → Type 0 where
       → bytes ≡ write_field 1 (net.stations ∷ []) ++ write_links net.links ++ rest → LaterFault net rest n → SheetRead bytes n
 
 -- the number of the writing's answer; 0 for one that says how many bytes were written
-abbrev pub wrote_number : Wrote → ℕ
+abbrev pub wrote_number : Result ℕ WriteError → ℕ
 wrote_number r = get_or (wrote_numbers r) 0 0
 
 -- ---- A SHEET WRITTEN: 11, then 10
