@@ -2,10 +2,13 @@
 // all; the stations' lines follow, as `events` prints them.
 #![tactic(auto)]
 
-use backlog_program::Ran;
+ghost use Rattle.std.specs.Prelude.{◌≡◌, ◌==◌, IfOk, if◌then◌else◌};
+ghost use Rattle.std.specs.declared.ops.ControlFlow.TheVariants.{Break, Continue};
+
 use state::State;
 use std::io;
-use std::io::{Input, Read};
+use std::io::Input;
+use std::ops::ControlFlow;
 
 // A file that can't be opened or read counts as empty, as in `events`.
 fn main(rt: HostRuntime) -> io::Result<()> {
@@ -14,50 +17,40 @@ fn main(rt: HostRuntime) -> io::Result<()> {
     answer_backlog(&rt, &file[..n])
 }
 
-// A proved loop has to end, and nothing says that an input does: its turns are counted, as in `events`.
 fn answer_backlog(rt: &(impl Input + Print), file: &[u8]) -> io::Result<()> {
-    let opened = console::open_sheet(file);
-    if opened.number != 0 {
-        return refuse(rt, opened.number);
-    }
+    let net = match console::open_sheet(file) {
+        Ok(net) => net,
+        Err(error) => return refuse(rt, error.number()),
+    };
     // three numbers for each byte of a piece
     let mut list = [0u32; 196608];
-    let mut input = rt.reader();
-    let mut ran = backlog_program::begin(opened.net);
-    for _ in 0..u64::MAX {
-        let done = take_turn(&mut input, ran, &mut list)?;
-        ran = done.ran;
-        if !done.more {
-            break;
-        }
-    }
+    let mut ran = backlog_program::begin(net);
+    // nothing is read behind an answer that is not 0
+    inputs::each_piece(
+        &mut rt.reader(),
+        &mut [0; 65536],
+        |n, room|
+            ensures { IfOk result (λ told. told ≡ (if ran.exit.answer == 0 then Continue tt else Break tt)) }
+        {
+            let size = console::put_piece(n, event_lines::is_begun(ran.reading), room);
+            ran = backlog_program::take_lines(ran, &room[..size], &mut list);
+            Ok(if ran.answer == 0 {
+                ControlFlow::Continue(())
+            } else {
+                ControlFlow::Break(())
+            })
+        },
+    )?;
     let last = ran.state;
     print_backlog(rt, ran.taken, ran.answer, last.flying, ran.tally.settled)?;
     print_stations(rt, last)
 }
 
+// Stays: here and in `events` and `page`, since in a library it would be public with no promise: no clause can say what is printed.
 fn refuse(rt: &impl Print, number: u8) -> io::Result<()> {
     let mut out = [0u8; 4096];
-    let wrote = console::put_refusal(number, &mut out);
-    rt.write_all(&out[..wrote.written])
-}
-
-#[derive(Clone, Copy)]
-struct Turn {
-    more: bool,
-    ran: Ran,
-}
-
-// One read and its events. Nothing is read behind an answer that is not 0.
-fn take_turn(input: &mut impl Read, before: Ran, list: &mut [u32]) -> io::Result<Turn> {
-    let mut room = [0u8; 65536];
-    let n = input.read(&mut room)?;
-    let size = console::put_piece(n, event_lines::is_begun(before.reading), &mut room);
-    let ran = backlog_program::take_lines(before, &room[..size], list);
-    Ok(Turn {
-        more: sets::both(0 < n, ran.answer == 0),
-        ran,
-    })
+    let n = console::put_refusal(number, &mut out).unwrap_or(0);
+    rt.write_all(&out[..n])
 }
 
 fn print_backlog(
@@ -68,12 +61,13 @@ fn print_backlog(
     settled: u64,
 ) -> io::Result<()> {
     let mut out = [0u8; 4096];
-    let wrote = backlog_program::put_backlog(taken, answer, flying, settled, &mut out);
-    rt.write_all(&out[..wrote.written])
+    let n = backlog_program::put_backlog(taken, answer, flying, settled, &mut out).unwrap_or(0);
+    rt.write_all(&out[..n])
 }
 
+// Stays: here and in `events`, as `refuse`.
 fn print_stations(rt: &impl Print, state: State) -> io::Result<()> {
     let mut out = [0u8; 65536];
-    let wrote = event_program::put_stations(state, &mut out);
-    rt.write_all(&out[..wrote.written])
+    let n = event_program::put_stations(state, &mut out).unwrap_or(0);
+    rt.write_all(&out[..n])
 }

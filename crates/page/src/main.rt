@@ -1,11 +1,14 @@
 // The page program: the events of standard input are run in the same way as by `events`, and the page is printed at the end.
 #![tactic(auto)]
 
-use event_program::Ran;
+ghost use Rattle.std.specs.Prelude.{◌≡◌, IfOk};
+ghost use Rattle.std.specs.declared.ops.ControlFlow.TheVariants.{Continue};
+
 use page_program::Answers;
 use state::State;
 use std::io;
-use std::io::{Input, Read};
+use std::io::Input;
+use std::ops::ControlFlow;
 
 // A file that can't be opened or read counts as empty, as in `events`.
 fn main(rt: HostRuntime) -> io::Result<()> {
@@ -14,42 +17,50 @@ fn main(rt: HostRuntime) -> io::Result<()> {
     make_page(&rt, &file[..n])
 }
 
-// A proved loop has to end, and nothing says that an input does: its turns are counted, as in `events`.
 fn make_page(rt: &(impl Input + Print), file: &[u8]) -> io::Result<()> {
-    let opened = console::open_sheet(file);
-    if opened.number != 0 {
-        return refuse(rt, opened.number);
-    }
-    let mut answers = Answers {
-        taken: 0,
-        refused: 0,
+    let net = match console::open_sheet(file) {
+        Ok(net) => net,
+        Err(error) => return refuse(rt, error.number()),
     };
+    let mut answers = Answers::default();
     let mut list = [0u32; 24576];
     let mut trace = [0u64; 24576];
-    let mut input = rt.reader();
-    let mut ran = event_program::begin(opened.net);
-    for _ in 0..u64::MAX {
-        let done = take_turn(&mut input, ran, answers, &mut list, &mut trace)?;
-        ran = done.ran;
-        answers = done.answers;
-        if !done.more {
-            break;
-        }
-    }
+    let mut ran = event_program::begin(net);
+    inputs::each_piece(
+        &mut rt.reader(),
+        &mut [0; 8192],
+        |n, room|
+            ensures { IfOk result (λ told. told ≡ Continue tt) }
+        {
+            let size = console::put_piece(n, event_lines::is_begun(ran.reading), room);
+            ran = event_program::run_lines(
+                ran.state,
+                ran.tally,
+                ran.reading,
+                &room[..size],
+                &mut list,
+                &mut trace,
+            );
+            // what `events` would print for them is counted and not written
+            answers = page_program::count_answers(&trace[..ran.size], answers);
+            Ok(ControlFlow::Continue(()))
+        },
+    )?;
     print_counts(rt, answers)?;
-    print_stations(rt, ran.state, opened.net.stations)
+    print_stations(rt, ran.state, net.stations)
 }
 
+// Stays: here and in `events` and `backlog`, since in a library it would be public with no promise: no clause can say what is printed.
 fn refuse(rt: &impl Print, number: u8) -> io::Result<()> {
     let mut out = [0u8; 4096];
-    let wrote = console::put_refusal(number, &mut out);
-    rt.write_all(&out[..wrote.written])
+    let n = console::put_refusal(number, &mut out).unwrap_or(0);
+    rt.write_all(&out[..n])
 }
 
 fn print_counts(rt: &impl Print, answers: Answers) -> io::Result<()> {
     let mut out = [0u8; 4096];
-    let wrote = page_program::put_counts(answers, &mut out);
-    rt.write_all(&out[..wrote.written])
+    let n = page_program::put_counts(answers, &mut out).unwrap_or(0);
+    rt.write_all(&out[..n])
 }
 
 // One buffer for each station.
@@ -62,40 +73,6 @@ fn print_stations(rt: &impl Print, state: State, stations: u8) -> io::Result<()>
 
 fn print_station(rt: &impl Print, state: State, i: u8) -> io::Result<()> {
     let mut out = [0u8; 4096];
-    let wrote = page_program::put_station(state, i, &mut out);
-    rt.write_all(&out[..wrote.written])
-}
-
-#[derive(Clone, Copy)]
-struct Turn {
-    more: bool,
-    answers: Answers,
-    ran: Ran,
-}
-
-// One read and its events. What `events` would print for them is counted and not written.
-fn take_turn(
-    input: &mut impl Read,
-    before: Ran,
-    counted: Answers,
-    list: &mut [u32],
-    trace: &mut [u64],
-) -> io::Result<Turn> {
-    let mut room = [0u8; 8192];
-    let n = input.read(&mut room)?;
-    let size = console::put_piece(n, event_lines::is_begun(before.reading), &mut room);
-    let ran = event_program::run_lines(
-        before.state,
-        before.tally,
-        before.reading,
-        &room[..size],
-        list,
-        trace,
-    );
-    let numbers = ran.size;
-    Ok(Turn {
-        more: 0 < n,
-        answers: page_program::count_answers(&trace[..numbers], counted),
-        ran,
-    })
+    let n = page_program::put_station(state, i, &mut out).unwrap_or(0);
+    rt.write_all(&out[..n])
 }
