@@ -68,7 +68,8 @@ collect_few : (f : ℕ → List ℕ) (most n : ℕ) → ((k : ℕ) → k < n →
 collect_few f most n h = few_from f most n 0 (λ k l. h k (omega arith))
 
 -- ---- a live station's part: the report's first bytes are the stations', the next ones the links'
-module _ (net : Net) (report : List ℕ) (n m : ℕ) (en : n ≡ min net.stations 32) (em : m ≡ min net.links 64) (long : 96 ≤ length report) where
+module _ (net : Net) (report : List ℕ) (n m : ℕ) (en : n ≡ min net.stations 32) (em : m ≡ min net.links 64)
+    (long : 96 ≤ length report) where
   abbrev first : List ℕ
   first = take n report
 

@@ -5,10 +5,17 @@ use mathlib.Core.List.{List, [], ◌∷◌}
 use native.Mathlib.Omega.{arith}
 use lib.ListN.{length, get_or, take, drop, length-drop}
 use lib.Seq.{drop-drop}
+use borrow.Author.Tests.{ne_eqb}
+use Rattle.tally.specs.Sums.{added}
 use Rattle.std.specs.Simd.{first_chunks}
 use Rattle.backlog_rules.proofs.Threes.{three}
 use Rattle.page_program.specs.declared.Answers.{Answers}
 use Rattle.page_program.specs.Counting.{counted, counting}
+
+-- ---- one event
+pub event_refused : (answer : ℕ) (a : Answers) (n : ℕ) → (answer ≡ 0 → ⊥) → n ≡ added a.refused 1
+    → record { taken = a.taken; refused = n } ≡ counted answer a
+event_refused answer a n h p = simp (ne_eqb answer 0 h) (λ i. record { taken = a.taken; refused = p i })
 
 -- ---- the trace, taken three numbers at a time: the first number of event i
 event_at : (n i : ℕ) (trace : List ℕ) → i < n → get_or (first_chunks 3 n trace) i [] ≡ take 3 (drop (3 * i) trace)

@@ -46,9 +46,13 @@ module _ (text : List ℕ) (at : ℕ) (old : List ℕ) where
   pub put_whole : (k : ℕ) → at + length text ≤ length old → k ≡ length text → put_mid at k old text ≡ put_at text at old
   put_whole k h e = put_mid-paste at k old text text (length text) refl (sym e) refl ∙ sym (put_paste h)
 
-  -- ---- where a put leaves all as it was
-  pub left_over : length old < at + length text → (length old + 1 ≡ place_after text at old) × (old ≡ put_at text at old)
-  left_over h = (sym (place_over h), sym (put_over h))
+  -- a copy under way keeps the length
+  pub copied_length : (i : ℕ) (out : List ℕ) → at + length text ≤ length old → out ≡ paste old at text i → i ≤ length text
+      → length out ≡ length old
+  copied_length i out fits e h = ap length e ∙ length-paste old at text i (omega arith) h
+
+-- for code that tests the room and then puts
+pub ruleset puts = (place_over, put_over, place_fits, put_whole)
 
 -- the same text, written otherwise
 pub same_text : (xs ys : List ℕ) (at : ℕ) (old : List ℕ) (r : ℕ) (out : List ℕ) → xs ≡ ys

@@ -19,7 +19,7 @@ pub struct Line<'a> {
 impl Line<'_> {
     // A word as it stands.
     // Promise: the word at that place, all else as it was, and the place behind it; a place past the end where it does not fit.
-    #[tactic(auto, using(crate::proofs::Puts::place_over, crate::proofs::Puts::put_over, crate::proofs::Puts::place_fits, crate::proofs::Puts::put_whole,))]
+    #[tactic(auto, using(crate::proofs::Puts::puts))]
     pub fn word(&mut self, word: &[u8])
         ensures { Puts word.now self.old self.new }
     {
@@ -32,9 +32,9 @@ impl Line<'_> {
     }
 
     // A number in decimal.
-    // Promise: the number's decimal digits at that place, all else as it was, and the place behind it; a place past the end where they do not
-    // fit. They read back to it (`text.Digits.reads_back`).
-    #[tactic(auto, using(crate::proofs::Puts::place_over, crate::proofs::Puts::put_over, crate::proofs::Digits::digits_some))]
+    // Promise: the number's decimal digits at that place, all else as it was, and the place behind it; a place past the end where they
+    // do not fit. They read back to it (`text.Digits.reads_back`).
+    #[tactic(auto, using(crate::proofs::Puts::puts, crate::proofs::Digits::digits_some))]
     pub fn number(&mut self, n: u64)
         ensures { Puts (digits n) self.old self.new }
     {
@@ -52,8 +52,9 @@ impl Line<'_> {
         if !self.fits(count) {
             return self.leave();
         }
-        // straight to their places: the last digit is known first.
-        // Stays: tried `for place in out[at..at + count].iter_mut().rev()`; behind an adapter of `iter_mut` the proof knows no element.
+        // straight to their places: the last digit is known first
+        // Stays: tried `for place in out[at..at + count].iter_mut().rev()`; behind an adapter of `iter_mut` the proof knows no
+        // element
         let mut m = n;
         let mut i = at + count - 1;
         while 10 <= m {
@@ -73,9 +74,9 @@ impl Line<'_> {
     }
 
     // Bytes in hexadecimal, two digits each, upper case.
-    // Promise: two hexadecimal digits for each byte at that place, all else as it was, and the place behind them; a place past the end where
-    // they do not all fit.
-    #[tactic(auto, using(crate::proofs::Puts::place_over, crate::proofs::Puts::put_over, crate::proofs::Parts::text_length))]
+    // Promise: two hexadecimal digits for each byte at that place, all else as it was, and the place behind them; a place past the end
+    // where they do not all fit.
+    #[tactic(auto, using(crate::proofs::Puts::puts, crate::proofs::Parts::text_length))]
     pub fn bytes(&mut self, bytes: &[u8])
         ensures { Puts (hex_text bytes.now) self.old self.new }
     {
@@ -89,8 +90,8 @@ impl Line<'_> {
     }
 
     // A number and a space.
-    // Promise: the number's decimal digits and a space at that place, all else as it was, and the place behind them; a place past the end where
-    // they do not fit.
+    // Promise: the number's decimal digits and a space at that place, all else as it was, and the place behind them; a place past the
+    // end where they do not fit.
     pub fn field(&mut self, n: u16)
         ensures { Puts (field_text n) self.old self.new }
     {
@@ -144,18 +145,7 @@ fn digit_count(n: u64) -> usize
     20
 }
 
-// ---- The same calls for a caller that holds the output and the place apart.
-
-// Promise: the word at that place, all else as it was, and the place behind it; a place past the end where it does not fit.
-pub fn put_word(out: &mut [u8], at: usize, word: &[u8]) -> usize
-    ensures place { result ≡ place_after word.now at out.old }
-    ensures output { out.new ≡ put_at word.now at out.old }
-{
-    let mut line = Line { out, at };
-    line.word(word);
-    line.at
-}
-
+// The number for a caller that holds the output and the place apart, as the one that puts three for each event.
 // Promise: the number's decimal digits at that place, all else as it was, and the place behind it; a place past the end where they do not
 // fit. They read back to it (`text.Digits.reads_back`).
 pub fn put_number(out: &mut [u8], at: usize, n: u64) -> usize
@@ -164,27 +154,5 @@ pub fn put_number(out: &mut [u8], at: usize, n: u64) -> usize
 {
     let mut line = Line { out, at };
     line.number(n);
-    line.at
-}
-
-// Promise: two hexadecimal digits for each byte at that place, all else as it was, and the place behind them; a place past the end where
-// they do not all fit.
-pub fn put_bytes(out: &mut [u8], at: usize, bytes: &[u8]) -> usize
-    ensures place { result ≡ place_after (hex_text bytes.now) at out.old }
-    ensures output { out.new ≡ put_at (hex_text bytes.now) at out.old }
-{
-    let mut line = Line { out, at };
-    line.bytes(bytes);
-    line.at
-}
-
-// Promise: the number's decimal digits and a space at that place, all else as it was, and the place behind them; a place past the end where
-// they do not fit.
-pub fn put_field(out: &mut [u8], at: usize, n: u16) -> usize
-    ensures place { result ≡ place_after (field_text n) at out.old }
-    ensures output { out.new ≡ put_at (field_text n) at out.old }
-{
-    let mut line = Line { out, at };
-    line.field(n);
     line.at
 }

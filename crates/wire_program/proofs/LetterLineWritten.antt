@@ -40,7 +40,8 @@ letter_length net x = go x.body
 
 pub letter_back : (net : Net) (x : Letter) (old room numbers : List ℕ) (n : ℕ) → T (net_holds net) → T (letter_holds (network_of net) x)
     → 8 ≡ length old → numbers ≡ writing_numbers (LetterValues.writing net x old)
-    → room ≡ writing_output (LetterValues.writing net x old) old → n ≡ get_or numbers 1 0 → Back (write_letter (network_of net) x) old room n
+    → room ≡ writing_output (LetterValues.writing net x old) old → n ≡ get_or numbers 1 0
+    → Back (write_letter (network_of net) x) old room n
 unfolding LetterValues.writing
 letter_back net x old room numbers n t u s p q e =
     let good = T_is (net_holds net) t in

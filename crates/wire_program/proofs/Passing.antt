@@ -1,11 +1,11 @@
 -- The ways out of `run_letters`: crate `console`'s law of feeding, for lines of letters.
-use Prim.Native.Nat.{ℕ, ◌+◌, ◌*◌, ◌-◌, ◌/◌, ◌≤◌}
-use mathlib.Core.Path.{◌≡◌, sym, ◌∙◌, subst}
+use Prim.Native.Nat.{ℕ, ◌+◌, ◌*◌, ◌-◌, ◌/◌, ◌≤◌, ◌<◌}
+use mathlib.Core.Path.{◌≡◌, refl, sym, ◌∙◌, subst}
 use Rattle.std.specs.Prelude.{None}
 use mathlib.Core.List.{List}
 use native.Mathlib.Omega.{arith}
 use lib.ListN.{length, take, drop}
-use borrow.Author.Tests.{le-ltb}
+use borrow.Author.Tests.{le-ltb, lt-ltb}
 use Rattle.hex_lines.specs.declared.HexReading.{HexReading}
 use Rattle.hex_lines.specs.HexSteps.{hex_start, read_hex, fed_hex}
 use Rattle.net.specs.declared.Net.{Net}
@@ -23,7 +23,13 @@ pub put_added : {text : List ℕ} {a b : Line} (most : ℕ) → Adds text a b �
 put_added most p few h = record { place = p.place (omega arith); output = p.output (omega arith); few = few }
 
 module _ (net : Net) (r : HexReading) (bytes old : List ℕ) where
-  module _ (out : List ℕ) (q : HexReading) (at from : ℕ) (g : Going hex_start read_hex said_by acted spoken 64 bytes old net r out net q at from)
+  pub passed_short : length old / 64 < length bytes
+      → (passed_as 10 0 r ≡ passed_by (written net r bytes old) net r bytes)
+      × ((old ≡ writing_output (written net r bytes old) old) × Counts 0 old)
+  passed_short h = simp (lt-ltb (length old) (64 * length bytes) (omega arith)) (refl, (refl, (omega arith, refl)))
+
+  module _ (out : List ℕ) (q : HexReading) (at from : ℕ)
+      (g : Going hex_start read_hex said_by acted spoken 64 bytes old net r out net q at from)
       (is : None ≡ end_from bytes from) (line : HexReading) (reads : line ≡ fed_hex q (take (length bytes - from) (drop from bytes)))
       (h : length bytes ≤ length old / 64) where
     done : Done hex_start read_hex said_by acted spoken 64 bytes old net r out net q at from g line

@@ -54,7 +54,8 @@ module _ (net : Network) (t : T (sheet_holds net)) where
   lines_same [] = refl
   lines_same (x ∷ said) = ap₂ (λ (a b : List ℕ). a ++ b) (line_same x) (lines_same said)
 
-  letters_print : (pieces : List (List ℕ)) → whole_text hex_start read_hex said_by acted spoken is_hex_begun v pieces ≡ collect (line_text net)
+  letters_print : (pieces : List (List ℕ))
+      → whole_text hex_start read_hex said_by acted spoken is_hex_begun v pieces ≡ collect (line_text net)
       (map hex_line (lines_of (joined pieces)))
   letters_print pieces =
       whole_text_lem hex_start read_hex said_by acted spoken is_hex_begun hex_not_first hex_begins hex_line hex_lines v pieces

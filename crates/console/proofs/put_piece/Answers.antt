@@ -26,7 +26,9 @@ returns c =
     let a = c.args in
     elim c.else-begun.branch [
       | else-begun-via-then-begun+else-not-is_empty w ↦
-          (let t = piece_no_room a.n a.begun a.room.now (omega arith) (grind arith) in record { size = t.0; content = t.1.0; counts = t.1.1 })
+          (let t = piece_no_room a.n a.begun a.room.now (omega arith) (grind arith) in
+          record { size = t.0; content = t.1.0; counts = t.1.1 })
       | else-begun-via-else-begun w ↦
-          (let t = piece_none a.n a.begun a.room.now (omega arith) w.if-begun.false in record { size = t.0; content = t.1.0; counts = t.1.1 })
+          (let t = piece_none a.n a.begun a.room.now (omega arith) w.if-begun.false in
+          record { size = t.0; content = t.1.0; counts = t.1.1 })
     ]

@@ -27,8 +27,8 @@ loop-stop-preserved c =
     let e = c.in-Some in
     let h = c.read_hex_bytes-read in
     let b = c.begin_hex-reading in
-    let room = going_room hex_start read_hex said_by acted spoken 64 a.bytes.now a.out.now a.net a.r l.line.out.now a.net l.reading l.line.at
-    l.from l.invariant.going e.stop e.ensures h.result h.ensures in
+    let room = going_room hex_start read_hex said_by acted spoken 64 a.bytes.now a.out.now a.net a.r l.line.out.now a.net l.reading
+    l.line.at l.from l.invariant.going e.stop e.ensures h.result h.ensures in
     record {
       same = c.put_line.ensures.text.same ∙ l.invariant.same;
       going =
@@ -45,7 +45,8 @@ returns c =
     let g = l.invariant.going in
     let none = sym c.in_default.is ∙ c.find_end.ensures in
     record {
-      answer = passed_answer a.net a.r a.bytes.now a.out.now l.line.out.now l.reading l.line.at l.from g none h.result h.ensures (omega arith);
+      answer =
+          passed_answer a.net a.r a.bytes.now a.out.now l.line.out.now l.reading l.line.at l.from g none h.result h.ensures (omega arith);
       output =
           passed_output a.net a.r a.bytes.now a.out.now l.line.out.now l.reading l.line.at l.from g none h.result h.ensures (omega arith)
           (search rules);

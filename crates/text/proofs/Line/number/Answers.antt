@@ -21,5 +21,6 @@ loop-m-preserved c =
 pub returns : goal.returns
 returns c =
     let l = c.loop-m in
-    let w = putting_all _ _ _ l.m l.i l.self.out.now l.invariant.digits _ c.digit_count-count.ensures (grind (arith, common_steps)) (omega arith) in
+    let w = putting_all _ _ _ l.m l.i l.self.out.now l.invariant.digits _ c.digit_count-count.ensures (grind (arith, common_steps))
+    (omega arith) in
     record { same = l.invariant.same; place = w.0; output = w.1 }
