@@ -91,6 +91,7 @@ pub fn step(mut s: State, kind: u32, a: u32, b: u32) -> Stepped
             marks: plan.marks,
         };
         // the later letters close up
+        // Stays: `copy_within` needs a test beside it: where no letter leaves, the place after the last may lie past the room
         let last = room.left as usize;
         for i in room.from..last {
             s.letters[i] = s.letters[i + 1];
@@ -98,11 +99,9 @@ pub fn step(mut s: State, kind: u32, a: u32, b: u32) -> Stepped
         s.letters[room.free] = room.unused;
         // new letters go to the end
         let mut post = post::begun(send);
-        for i in 0..count {
-            let at = last + i as usize;
+        for slot in s.letters[last..last + count as usize].iter_mut() {
             let subject = post::subject(post) as usize;
-            let y = post::first(post, me, told[subject]);
-            s.letters[at] = y;
+            *slot = post::first(post, me, told[subject]);
             post = post::rest(post);
         }
         s.flying = room.left + count;

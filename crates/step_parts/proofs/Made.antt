@@ -4,18 +4,17 @@ use Rattle.std.specs.Prelude.{if◌then◌else◌}
 use Prim.Native.Nat.{ℕ, zero, suc, ◌+◌, ◌≤◌, ◌<◌, min}
 use mathlib.Core.Bool.{Bool, true, false}
 use mathlib.Core.Path.{◌≡◌, refl, sym, ap, ap₂, ◌∙◌}
-use mathlib.Core.List.{List, [], ◌∷◌, ◌++◌, map, append_assoc, append-nil}
+use mathlib.Core.List.{List, [], ◌∷◌, ◌++◌, map, append-nil}
 use native.Mathlib.Decide.{ℕ_discrete, dec_lt}
-use native.Mathlib.Numerals.{add-one}
 use native.Mathlib.Omega.{arith}
 use borrow.Author.Tests.{eq-eqb, ne_eqb, lt-ltb, le-ltb, le-leb, lt-leb}
 use lib.Dec.{T, eqb, ltb, leb}
 use lib.ListN.{length, get_or, set, take, length-append, length-map}
-use lib.Seq.{set-get_or, take-suc, length-take-le}
+use lib.Seq.{set-get_or}
 use Rattle.net.specs.Sizes.{station_room, link_room, letter_room}
 use Rattle.lists.specs.Places.{without, roomed, closing}
 use Rattle.lists.proofs.Tests.{T_is, is_T}
-use Rattle.lists.proofs.Rooms.{closing_none, roomed_more, roomed_set, roomed_less}
+use Rattle.lists.proofs.Rooms.{closing_none, roomed_set, roomed_less}
 use Rattle.lists.proofs.Without.{length_without}
 use Rattle.net.specs.declared.Letter.{Letter}
 use Rattle.net.specs.declared.Net.{Net}
@@ -110,18 +109,6 @@ left_count false a xs h = refl
 -- ---- new letters at the end, one after the other
 pub posted_none : (ls new : List Letter) → roomed letter_room no_letter ls ≡ roomed letter_room no_letter (ls ++ take 0 new)
 posted_none ls new = ap (roomed letter_room no_letter) (sym (append-nil ls))
-
-pub posted_more : (ls new : List Letter) (k at : ℕ) (y : Letter) → length ls + length new ≤ letter_room → k < length new
-    → at ≡ length ls + k → y ≡ get_or new k no_letter
-    → set (roomed letter_room no_letter (ls ++ take k new)) at y ≡ roomed letter_room no_letter (ls ++ take (k + 1) new)
-posted_more ls new k at y few h p q =
-    let n : length (take k new) ≡ k = length-take-le k new (omega arith) in
-    let m : at ≡ length (ls ++ take k new) = omega (arith, p, n, length-append ls (take k new)) in
-    ap₂ (λ (i : ℕ) (x : Letter). set (roomed letter_room no_letter (ls ++ take k new)) i x) m q
-    ∙ roomed_more letter_room no_letter (ls ++ take k new) (get_or new k no_letter) (omega (arith, n, length-append ls (take k new)))
-    ∙ ap (roomed letter_room no_letter)
-    (append_assoc ls (take k new) (get_or new k no_letter ∷ [])
-    ∙ ap (λ (l : List Letter). ls ++ l) (sym (take-suc new k no_letter h) ∙ ap (λ (i : ℕ). take i new) (sym (add-one k))))
 
 -- the station as the code stores it, with this table
 abbrev pub stored : Plan → List ℕ → Station

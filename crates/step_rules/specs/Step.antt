@@ -1,7 +1,7 @@
 -- What a step of the network answers: the world's step of what the state means, laid out in zero room.
 use Rattle.std.specs.Prelude.{ℕ, eqb, if◌then◌else◌}
 use Rattle.station.specs.Events.{counting}
-use Rattle.world.specs.World.{Event, comes, fresh, refusal, after}
+use Rattle.world.specs.World.{Event, comes, refusal, after}
 use Rattle.state.specs.declared.State.{State}
 use Rattle.state.specs.State.{world_of, state_of, state_holds}
 use Rattle.step_rules.specs.declared.Stepped.{Stepped}

@@ -13,8 +13,8 @@ use Rattle.state.proofs.Tested.{placing_begins, placing_more, gathering_begins, 
 use Rattle.step_rules.specs.declared.Stepped.{Stepped}
 use Rattle.step_rules.specs.Step.{event, refusing, stepped_of}
 use Rattle.step_parts.proofs.Helpers.{placed}
-use Rattle.step_parts.proofs.Made.{Facts, stored, refused_bad, refused_event, answer_refusal, free_within}
-use Rattle.step_parts.proofs.Loops.{with_station, closes_more, puts_more}
+use Rattle.step_parts.proofs.Made.{Facts, stored, refused_bad, refused_event, answer_refusal, few_after, free_within}
+use Rattle.step_parts.proofs.Loops.{with_station, closes_more, fills_none, fills_more, fills_end}
 use Rattle.step_parts.proofs.Turned.{closing_begins, putting_begins, stays}
 use Rattle.step.proofs.step.Goals as goal
 use Rattle.step.proofs.step.Goals.{After-answer_by-answer}
@@ -131,30 +131,37 @@ bounds-s-room c =
     let z = c.if-answer-eq0.true in
     free_within (known p z) (passed p z).1
 
-pub loop-i-then-answer-eq0-init : goal.loop-i-then-answer-eq0-init
-loop-i-then-answer-eq0-init c =
-    let p = (goal.at.loop-i-then-answer-eq0-init c).After-answer_by-answer in
+pub slice_bounds-slot-items-end : goal.slice_bounds-slot-items-end
+slice_bounds-slot-items-end c =
+    let p = (goal.at.slice_bounds-slot-items-end c).After-answer_by-answer in
+    let h = few_after (known p c.if-answer-eq0.true) (passed p c.if-answer-eq0.true).1 in
+    search (rules, h)
+
+pub loop-slot-init : goal.loop-slot-init
+loop-slot-init c =
+    let p = (goal.at.loop-slot-init c).After-answer_by-answer in
     let z = c.if-answer-eq0.true in
-    putting_begins (known p z) (passed p z).1 c.loop-i.s c.begun-post.result (search rules) c.begun-post.ensures
+    fills_none (putting_begins (known p z) (passed p z).1 c.loop-i.s c.begun-post.result (search rules) c.begun-post.ensures) (search rules)
 
 pub bounds-told-subject : goal.bounds-told-subject
-bounds-told-subject c = P.subject_few c.loop-i-then-answer-eq0.post _ c.subject-subject.ensures
+bounds-told-subject c = P.subject_few c.loop-slot.post _ c.subject-subject.ensures
 
-pub loop-i-then-answer-eq0-preserved : goal.loop-i-then-answer-eq0-preserved
-loop-i-then-answer-eq0-preserved c =
-    puts_more c.loop-i-then-answer-eq0.invariant (omega arith) _ _ _ c.subject-subject.ensures c.first-y.ensures c.rest-post.ensures
+pub loop-slot-preserved : goal.loop-slot-preserved
+loop-slot-preserved c =
+    fills_more c.loop-slot.invariant (omega (arith, c.loop-slot.invariant.size, c.loop-slot-test.true)) _ _ _ c.subject-subject.ensures c.first.ensures c.rest-post.ensures
 
 -- ---- the answer
-pub returns-after-loop-i-then-answer-eq0 : goal.returns-after-loop-i-then-answer-eq0
-returns-after-loop-i-then-answer-eq0 c =
-    let p = (goal.at.returns-after-loop-i-then-answer-eq0 c).After-answer_by-answer in
+pub returns-after-loop-slot : goal.returns-after-loop-slot
+returns-after-loop-slot c =
+    let p = (goal.at.returns-after-loop-slot c).After-answer_by-answer in
     let z = c.if-answer-eq0.true in
+    let put = putting_begins (known p z) (passed p z).1 c.loop-i.s c.begun-post.result (search rules) c.begun-post.ensures in
     answered c.answer_by-answer.result z
     (stays (known p z) (passed p z).1
     (with_station c.args.s c.names_of-names.result.station (stored c.plan_at-plan.result c.kept_table-kept.result))
-    (stored c.plan_at-plan.result c.kept_table-kept.result) refl c.loop-i.s c.loop-i-then-answer-eq0.s
-    c.begun-post.result c.loop-i-then-answer-eq0.post c.loop-i.i c.loop-i-then-answer-eq0.i
-    c.loop-i.invariant c.begun-post.ensures c.loop-i-then-answer-eq0.invariant (omega arith) (omega arith)
+    (stored c.plan_at-plan.result c.kept_table-kept.result) refl c.loop-i.s _
+    c.begun-post.result c.loop-slot.post c.loop-i.i c.count-count.result
+    c.loop-i.invariant c.begun-post.ensures (fills_end put c.loop-slot.invariant (omega (arith, c.loop-slot.invariant.size, c.loop-slot-test.false))) (omega arith) refl
     c.kept_table-kept.result c.kept_table-kept.ensures refl _ refl).1
 
 pub returns-else-answer-eq0 : goal.returns-else-answer-eq0
