@@ -1,20 +1,15 @@
 -- What a turn of the loop does by a test of its own, where the step goes through a function: a table with no counter set, a sending that is
 -- not narrowed, a table that is kept as it is told.
 use Prim.Native.Nat.{ℕ}
-use mathlib.Core.Bool.{Bool, true, false}
-use mathlib.Core.Path.{◌≡◌, sym, ap, ap₂, ◌∙◌}
+use mathlib.Core.Bool.{Bool, false}
+use mathlib.Core.Path.{◌≡◌, sym, ap, ap₂}
 use mathlib.Core.List.{List}
-use lib.ListN.{length, length-set}
 use Rattle.net.specs.declared.Net.{Net}
 use Rattle.station.specs.declared.Sending.{Sending}
 use Rattle.station_plan.specs.Carrying.{told_by, kept_by, narrowed}
 
 pub told_same : (sets : Bool) (at c : ℕ) (table : List ℕ) → sets ≡ false → table ≡ told_by sets at c table
 told_same sets at c table e = sym (ap (λ (b : Bool). told_by b at c table) e)
-
-pub told_long : (sets : Bool) (at c n : ℕ) (table : List ℕ) → length table ≡ n → length (told_by sets at c table) ≡ n
-told_long true at c n table e = length-set table at c ∙ e
-told_long false at c n table e = e
 
 pub sent_same : (knows : Bool) (n : ℕ) (table : List ℕ) (x : Sending) → knows ≡ false → x ≡ narrowed knows n table x
 sent_same knows n table x e = sym (ap (λ (b : Bool). narrowed b n table x) e)

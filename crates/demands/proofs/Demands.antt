@@ -117,7 +117,8 @@ pub record Demand1 : Type 0 where
   pub many_events : Many.Demand1
   -- The reach: 11, 6, 7, else 0; beside a refusal there is no reach. It is given a copy of the state and is lent nothing.
   pub reach_number : (s : State) (a : ℕ) (c : AsksReach s a) (n : ℕ) → ((asked_in c.answer).answer ≡ n) ↔ Reach s a n
-  pub reach_refused : (s : State) (a : ℕ) (c : AsksReach s a) → ((asked_in c.answer).answer ≡ 0 → ⊥) → (asked_in c.answer).reached ≡ no_reach
+  pub reach_refused : (s : State) (a : ℕ) (c : AsksReach s a) → ((asked_in c.answer).answer ≡ 0 → ⊥)
+      → (asked_in c.answer).reached ≡ no_reach
   -- The report, which is given a copy of the state too: 11, 6, 7, 10, else 0; a refusal touches no byte of the lent output.
   pub report_number : (s : State) (a : ℕ) (old : List ℕ) (c : AsksReport s a old) (n : ℕ) → (number_in c.answer ≡ n) ↔ Report s a old n
   pub report_refused : (s : State) (a : ℕ) (old : List ℕ) (c : AsksReport s a old) → (number_in c.answer ≡ 0 → ⊥) → c.output ≡ old

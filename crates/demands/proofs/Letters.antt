@@ -206,7 +206,8 @@ module _ (net : Net) (bytes : List ℕ) (w : T (are_bytes bytes)) where
   why_read (W.taken g x h e) = ap (λ (l : List ℕ). letters_number (reading net l)) e ∙ ap letters_number (written_read net x g h)
 
   -- EACH NUMBER WHEN, AND ONLY WHEN, ITS REASON STANDS: for every answer that the reading's promise allows
-  pub letter_numbers_lem : (r : Result Letter LetterError) → letters_of r ≡ reading net bytes → (n : ℕ) → (letters_number (letters_of r) ≡ n) ↔ LetterRead net bytes n
+  pub letter_numbers_lem : (r : Result Letter LetterError) → letters_of r ≡ reading net bytes → (n : ℕ)
+      → (letters_number (letters_of r) ≡ n) ↔ LetterRead net bytes n
   letter_numbers_lem r p n = (
     (λ e. subst (LetterRead net bytes) (sym (ap letters_number p) ∙ e) (read_why (reading net bytes) refl)),
     (λ q. ap letters_number p ∙ why_read q),

@@ -250,7 +250,8 @@ copy_within-requires-else-front_closes-clause-in_bounds c =
 pub copy_within-requires-else-front_closes-clause-dest_in_bounds : goal.copy_within-requires-else-front_closes-clause-dest_in_bounds
 copy_within-requires-else-front_closes-clause-dest_in_bounds c =
     let r = c.loop-taken.invariant.running in
-    omega (arith, few_fly r, r.front, place_within (goal.at.copy_within-requires-else-front_closes-clause-dest_in_bounds c).After-event_at-e)
+    let at = goal.at.copy_within-requires-else-front_closes-clause-dest_in_bounds c in
+    omega (arith, few_fly r, r.front, place_within at.After-event_at-e)
 
 closed : (c : After-begun-post) (own : ℕ)
     (f : Facts (state_in c.args.s.net c.loop-taken.held c.loop-taken.tables c.loop-taken.room c.loop-taken.start c.loop-taken.flying)
@@ -373,8 +374,8 @@ loop-taken-preserved c =
     let count = c.count-count.result in
     let b : from + (from + count - from) ≤ length room = omega (arith, few_after f q, k.front, k.size) in
     let z = c.loop-z.invariant in
-    let posted = posts_end z (omega (arith, c.loop-z-test.false, z.size)) room start fate.left from (from + count - from) refl (omega arith) b
-    c.if-plan.send c.begun-post.ensures
+    let posted = posts_end z (omega (arith, c.loop-z-test.false, z.size)) room start fate.left from (from + count - from) refl
+    (omega arith) b c.if-plan.send c.begun-post.ensures
     ∙ ap (λ (t : List ℕ). in_flight room start fate.left ++ letters_of me t c.if-plan.send) t.mine in
     let did = turned net l.held l.tables l.room l.start l.flying f q room _ start c.if-plan-2.tables c.if-plan-3.tables k
     posted few r.held_size t u in
