@@ -107,11 +107,13 @@ module _ {A : Type 0} (first n : ℕ) (old new : List A) (d : A) (size : length 
       ∙ ap (λ (k : ℕ). get_or old k d) (omega (arith, h))
 
 -- ---- one table put among those that stand side by side
-pub table_put : (old table new : List ℕ) (i first n k : ℕ) → first ≡ min (length old) (link_room * i) → n ≡ min link_room (length old - first)
-    → k ≡ n → length table ≡ link_room → new ≡ take n table → put_mid first k old new ≡ with_table old i table
+pub table_put : (old table new : List ℕ) (i first n k : ℕ) → first ≡ min (length old) (link_room * i)
+    → n ≡ min link_room (length old - first) → k ≡ n → length table ≡ link_room → new ≡ take n table
+    → put_mid first k old new ≡ with_table old i table
 unfolding with_table
 table_put old table new i first n k f m q w is =
-    ext_get_or 0 (put_mid first k old new) (map g (below (length old))) (mid_long first k old new 0 size room ∙ sym (length_map_below g (length old)))
+    ext_get_or 0 (put_mid first k old new) (map g (below (length old)))
+    (mid_long first k old new 0 size room ∙ sym (length_map_below g (length old)))
     (λ j h. let b : j < length old = omega (arith, h, mid_long first k old new 0 size room) in
     at j b (ℕ_discrete (j / link_room) i) ∙ sym (get_or_map_below g (length old) j 0 b))
   where

@@ -10,5 +10,6 @@ use Rattle.run_rooms.proofs.moving_room.Goals as goal
 pub returns : goal.returns
 unfolding moving_in
 returns c =
-    laid moving_room no_letter c.args.letters c.default-room.result _ letter_room (search rules) c.copy_from_slice.ensures.after (omega arith)
+    laid moving_room no_letter c.args.letters c.default-room.result _ letter_room (search rules)
+    c.copy_from_slice.ensures.after (omega arith)
     ∙ ap (roomed moving_room no_letter) (by_places no_letter letter_room c.args.letters (omega arith))

@@ -7,7 +7,8 @@ loop-i-init c = tables_none _
 
 pub loop-i-preserved : goal.loop-i-preserved
 loop-i-preserved c =
-    tables_more c.loop-i.invariant (omega arith) _ _ (omega arith) (omega (arith, c.copy_from_slice.ensures.len)) c.copy_from_slice.ensures.after
+    tables_more c.loop-i.invariant (omega arith) _ _ (omega arith)
+    (omega (arith, c.copy_from_slice.ensures.len)) c.copy_from_slice.ensures.after
 
 pub returns : goal.returns
 returns c = tables_all c.loop-i.invariant (omega (arith, c.loop-i.invariant.within))
