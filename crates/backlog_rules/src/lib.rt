@@ -7,7 +7,7 @@ use tally::Tally;
 
 // What the call answers: 0, or the number of the event at which it stopped; how many events were taken before; the tally and the state
 // after these.
-// Stays: the number stands beside the state, since a refusal hands back what was taken before it (`Backlog.calls`, `Backlog.backlog_of`).
+// To do (docs/DESIGN-PASS.md, 1): an error in place of the number; the state stays beside it, since a refusal hands it back.
 #[derive(Clone, Copy)]
 pub struct Taken {
     pub answer: u8,
@@ -17,7 +17,7 @@ pub struct Taken {
 }
 
 // What the run that goes on after a refusal answers: 0, or 10 or 11 and nothing done; the tally and the state after all events.
-// Stays: the number stands beside the state, since a refusal hands back the state and the tally given (`Answers.answered_by`).
+// To do (docs/DESIGN-PASS.md, 1): an error in place of the number; the state stays beside it, since a refusal hands it back.
 #[derive(Clone, Copy)]
 pub struct Answered {
     pub answer: u8,

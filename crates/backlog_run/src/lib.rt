@@ -111,7 +111,7 @@ fn take_events(s: State, t: Tally, events: &[u32], stops: bool, trace: &mut [u64
     let mut flying = s.flying;
     let mut tally = t;
     let n = event_count(events.len());
-    // Stays: `events.chunks(3).enumerate()` is no plainer: the count is needed all the same, for the trace and for how many were taken.
+    // To do (docs/DESIGN-PASS.md, 6): `events.chunks(3).enumerate()` with a slice pattern in place of `event_at`.
     for taken in 0..n {
         // what the event names
         let e = event_at(events, taken);

@@ -44,7 +44,7 @@ pub sheet_read : (κs : Lfts 1) (a : Dens κs SheetReadKinds.ps) (z : (res_t She
     → (c : ReadsSheet a.0.now) × (c.answer ≡ z)
 sheet_read κs a z e p = (record { answer = z; promise = p }, refl)
 
--- sheet_writing::write(net, out)
+-- sheet::write(net, out)
 pub sheet_write : (κs : Lfts 1) (a : Dens κs SheetWriteKinds.ps) (z : (res_t SheetWriteKinds.r κs).Denot)
     (e : AtExit (ended_of 1 SheetWriteKinds.ps SheetWriteKinds.r) κs) → SheetWrite.Learnt κs a z e
     → (c : WritesSheet a.0 a.1.0.now) × ((c.answer ≡ z) × (c.output ≡ e.1.0.now))
@@ -56,7 +56,7 @@ pub letter_read : (κs : Lfts 1) (a : Dens κs LetterReadKinds.ps) (z : (res_t L
     → (c : ReadsLetter a.0 a.1.0.now) × (c.answer ≡ z)
 letter_read κs a z e p = (record { answer = z; promise = p }, refl)
 
--- letter_writing::write(net, letter, out)
+-- letters::write(net, letter, out)
 pub letter_write : (κs : Lfts 1) (a : Dens κs LetterWriteKinds.ps) (z : (res_t LetterWriteKinds.r κs).Denot)
     (e : AtExit (ended_of 1 LetterWriteKinds.ps LetterWriteKinds.r) κs) → LetterWrite.Learnt κs a z e
     → (c : WritesLetter a.0 a.1.0 a.1.1.0.now) × ((c.answer ≡ z) × (c.output ≡ e.1.1.0.now))
@@ -74,13 +74,13 @@ pub step : (κs : Lfts 0) (a : Dens κs StepKinds.ps) (z : (res_t StepKinds.r κ
     → (c : Steps a.0 (event a.1.0 a.1.1.0 a.1.1.1.0)) × (c.answer ≡ z)
 step κs a z e p = (record { answer = z; promise = p }, refl)
 
--- reaching::reach(s, a)
+-- report::reach(s, a)
 pub reach : (κs : Lfts 0) (a : Dens κs ReachKinds.ps) (z : (res_t ReachKinds.r κs).Denot)
     (e : AtExit (ended_of 0 ReachKinds.ps ReachKinds.r) κs) → Reach.Learnt κs a z e
     → (c : AsksReach a.0 a.1.0) × (c.answer ≡ z)
 reach κs a z e p = (record { answer = z; promise = p }, refl)
 
--- reports::report(s, a, out)
+-- report::report(s, a, out)
 pub report : (κs : Lfts 1) (a : Dens κs ReportKinds.ps) (z : (res_t ReportKinds.r κs).Denot)
     (e : AtExit (ended_of 1 ReportKinds.ps ReportKinds.r) κs) → Report.Learnt κs a z e
     → (c : AsksReport a.0 a.1.0 a.1.1.0.now) × ((c.answer ≡ z) × (c.output ≡ e.1.1.0.now))

@@ -35,7 +35,7 @@ pub record ReadsSheet (bytes : List ℕ) : Type 0 where
   pub answer : Result Net SheetError
   pub promise : SheetValues.Says answer (read_sheet bytes)
 
--- sheet_writing::write(net, out)
+-- sheet::write(net, out)
 pub record WritesSheet (net : Net) (old : List ℕ) : Type 0 where
   pub answer : Result ℕ SheetWrite.WriteError
   pub output : List ℕ
@@ -47,7 +47,7 @@ pub record ReadsLetter (net : Net) (bytes : List ℕ) : Type 0 where
   pub answer : Result Letter LetterError
   pub promise : LetterValues.letters_of answer ≡ LetterValues.reading net bytes
 
--- letter_writing::write(net, letter, out)
+-- letters::write(net, letter, out)
 pub record WritesLetter (net : Net) (x : Letter) (old : List ℕ) : Type 0 where
   pub answer : Result ℕ LetterWrite.WriteError
   pub output : List ℕ
@@ -87,12 +87,12 @@ pub record RunsAnswered (before : Tally) (s : State) (events old : List ℕ) : T
   pub promise_tally : tally ≡ (answered_by (tracing s before events old) s before events).tally
   pub promise_trace : trace ≡ writing_output (tracing s before events old) old
 
--- reaching::reach(s, a)
+-- report::reach(s, a)
 pub record AsksReach (s : State) (a : ℕ) : Type 0 where
   pub answer : Result Reached Refusal
   pub promise : asked_in answer ≡ asked_of s a
 
--- reports::report(s, a, out)
+-- report::report(s, a, out)
 pub record AsksReport (s : State) (a : ℕ) (old : List ℕ) : Type 0 where
   pub answer : Result (Unit {0}) Refusal
   pub output : List ℕ

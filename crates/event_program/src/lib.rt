@@ -22,7 +22,7 @@ use text::Line;
 // ---- events
 
 // After a piece of the input: 0 or the number that says no, how many numbers stand at the trace's front, and all that goes on from there.
-// Stays: a number beside the rest, since a refusal too hands back the state, the tally and the reading: the definition `Runs.ran_by`.
+// To do (docs/DESIGN-PASS.md, 1): an error in place of the number; the state stays beside it, since a refusal hands it back (`Runs.ran_by`).
 #[derive(Clone, Copy)]
 pub struct Ran {
     pub answer: u8,
@@ -98,6 +98,7 @@ pub fn run_lines(
 }
 
 // Answer, letters in flight, notices settled so far.
+// To do (docs/DESIGN-PASS.md, 5): on a `text::Line`; it runs for each event, so it has to be measured.
 fn put_answer(out: &mut [u8], at: usize, answer: u64, flying: u64, settled: u64) -> usize
     requires { at + 63 ≤ length out.old }
     ensures { Put (answer_text answer flying settled) 63 at out.old result out.new }

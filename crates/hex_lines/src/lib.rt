@@ -23,6 +23,7 @@ pub struct HexReading {
 }
 
 // A hexadecimal line of which no byte is read.
+// Stays: zeros written out, since the derived Default says of an array only that each place holds a default: tried, no plainer to prove.
 // Promise: equals `HexSteps.hex_start`: no digit of the line is read yet.
 #[tactic(auto, unfolding(crate::specs::HexSteps::hex_start))]
 pub fn begin_hex() -> HexReading

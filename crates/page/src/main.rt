@@ -50,7 +50,7 @@ fn make_page(rt: &(impl Input + Print), file: &[u8]) -> io::Result<()> {
     print_stations(rt, ran.state, net.stations)
 }
 
-// Stays: here and in `events` and `backlog`, since in a library it would be public with no promise: no clause can say what is printed.
+// Stays: here and in `events` and `backlog`, since in a library it would take a writer for five lines, and what a terminal takes stays unknown all the same.
 fn refuse(rt: &impl Print, number: u8) -> io::Result<()> {
     let mut out = [0u8; 4096];
     let n = console::put_refusal(number, &mut out).unwrap_or(0);
@@ -65,6 +65,7 @@ fn print_counts(rt: &impl Print, answers: Answers) -> io::Result<()> {
 
 // One buffer for each station.
 fn print_stations(rt: &impl Print, state: State, stations: u8) -> io::Result<()> {
+    // Stays: the number of a station is what `put_station` takes, so a loop by number is the plain one.
     for i in 0..stations {
         print_station(rt, state, i)?;
     }

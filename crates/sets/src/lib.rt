@@ -81,7 +81,7 @@ pub fn at_most(x: u8, most: u8) -> u8
 }
 
 // Whether both tests pass.
-// Stays: its must-fail edits (`first_is_both`, `one_is_both`) keep their names, and speak of it.
+// Stays: nothing calls it any more, but its must-fail edits (`first_is_both`, `one_is_both`) keep their names, and speak of it.
 // Promise: both tests pass.
 pub fn both(a: bool, b: bool) -> bool
     ensures { result ≡ (a && b) }

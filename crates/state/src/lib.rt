@@ -115,7 +115,7 @@ pub fn well_formed(s: State) -> bool
         least = state_rules::smaller(least, state_rules::counter_said(x.body));
     }
     // the places beyond them, from two starts at once: each joining waits for the one before it.
-    // Stays: an index for both starts; elements of one of them would leave the other an index, which is no plainer
+    // to do (docs/DESIGN-PASS.md, 6): a zip of the two parts
     let half = (MOST_LETTERS - used + 1) / 2;
     let first = used as usize;
     let second = (MOST_LETTERS - half) as usize;
@@ -134,7 +134,7 @@ pub fn well_formed(s: State) -> bool
 // ---- The state right after a sheet is read: every station down, no letter in flight.
 
 // A state just made, or the number that says no.
-// Stays: a refusal has a state beside its number, by `Beginning.begun_of` (11, with a state that no call accepts).
+// To do (docs/DESIGN-PASS.md, 1): an error in place of the number, and no state beside it (`Beginning.begun_of`).
 #[derive(Clone, Copy)]
 pub struct Begun {
     pub answer: u8,

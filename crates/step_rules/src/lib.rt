@@ -6,7 +6,7 @@ use state::State;
 use tally::Tally;
 
 // What a step answers: a number, what the event adds to the tally, and the state.
-// Stays: a refusal hands back the state that it was given beside its number (`Step.refusing`).
+// To do (docs/DESIGN-PASS.md, 1): an error in place of the number; the state stays beside it, since a refusal hands it back (`Step.refusing`).
 #[derive(Clone, Copy)]
 pub struct Stepped {
     pub answer: u8,

@@ -145,7 +145,8 @@ fn digit_count(n: u64) -> usize
     20
 }
 
-// The number for a caller that holds the output and the place apart, as the one that puts three for each event.
+// The number for a caller that holds the output and the place apart, as the one that puts three for each event. To do
+// (docs/DESIGN-PASS.md, 5): that one by a `Line` too.
 // Promise: the number's decimal digits at that place, all else as it was, and the place behind it; a place past the end where they do not
 // fit. They read back to it (`text.Digits.reads_back`).
 pub fn put_number(out: &mut [u8], at: usize, n: u64) -> usize
