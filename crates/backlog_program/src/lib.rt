@@ -20,7 +20,8 @@ use text::Line;
 
 // After a piece of the input: 0 or the number that says no, how many events were taken in all, and what goes on from there. The count has
 // 64 bits and stays at its largest value once there.
-// To do (docs/DESIGN-PASS.md, 1): an error in place of the number; the state stays beside it, since a refusal hands it back (`Runs.ran_by`).
+// To do (docs/DESIGN-PASS.md, 1): an error in place of the number; the state stays beside it, since a refusal hands it
+// back (`Runs.ran_by`).
 // Stays: no one type with `event_program::Ran`: a parameter for the count, of events taken or of the trace's numbers, is no plainer.
 #[derive(Clone, Copy)]
 pub struct Ran {

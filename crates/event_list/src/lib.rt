@@ -53,7 +53,8 @@ struct Number {
 }
 
 // One to nine digits with a certain byte behind them.
-// Stays: the bytes and a place in them, and no rest of them: the laws that docs/PROMISES.md names (`Wholes.digits_more`, `whole`) say places
+// Stays: the bytes and a place in them, and no rest of them: the laws that docs/PROMISES.md names
+// (`Wholes.digits_more`, `whole`) say places
 fn number_at(bytes: &[u8], from: usize, close: u8) -> Option<Number>
     requires { from ≤ length bytes.now }
     ensures { IfSome result (λ n. Numbered bytes.now from close n.value n.next) }

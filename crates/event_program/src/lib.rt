@@ -22,7 +22,8 @@ use text::Line;
 // ---- events
 
 // After a piece of the input: 0 or the number that says no, how many numbers stand at the trace's front, and all that goes on from there.
-// To do (docs/DESIGN-PASS.md, 1): an error in place of the number; the state stays beside it, since a refusal hands it back (`Runs.ran_by`).
+// To do (docs/DESIGN-PASS.md, 1): an error in place of the number; the state stays beside it, since a refusal hands it
+// back (`Runs.ran_by`).
 #[derive(Clone, Copy)]
 pub struct Ran {
     pub answer: u8,

@@ -22,7 +22,8 @@ pub const MOST_LETTERS: u16 = LETTER_ROOM as u16;
 pub const LARGEST_COUNTER: u16 = u16::MAX;
 
 // Link k has the ends low[k] and high[k]; unused room is zero.
-// To do (docs/DESIGN-PASS.md, 3): one array of ends; `Values.network_of`, `place_ends` and the rules of sheets are definitions over these two.
+// To do (docs/DESIGN-PASS.md, 3): one array of ends; `Values.network_of`, `place_ends` and the rules of sheets are
+// definitions over these two.
 #[derive(Debug, Clone, Copy, PartialEq, Eq)]
 pub struct Net {
     pub stations: u8,

@@ -50,7 +50,8 @@ fn make_page(rt: &(impl Input + Print), file: &[u8]) -> io::Result<()> {
     print_stations(rt, ran.state, net.stations)
 }
 
-// Stays: here and in `events` and `backlog`, since in a library it would take a writer for five lines, and what a terminal takes stays unknown all the same.
+// Stays: here and in `events` and `backlog`, since in a library it would take a writer for five lines, and what a terminal takes
+// stays unknown all the same.
 fn refuse(rt: &impl Print, number: u8) -> io::Result<()> {
     let mut out = [0u8; 4096];
     let n = console::put_refusal(number, &mut out).unwrap_or(0);

@@ -58,7 +58,8 @@ fn may_ask(good: bool, stations: u8, a: u32, condition: Condition) -> Result<(),
 }
 
 // The reach of station a by its own table. Refusals in their order: 11, 6, 7.
-// Promise: equals `Answers.asked_of` (seen by `Answers.asked_in`): 11, 6, 7, else word, ones and lowest not reached of station a's own table.
+// Promise: equals `Answers.asked_of` (seen by `Answers.asked_in`): 11, 6, 7, else word, ones and lowest not reached of
+// station a's own table.
 pub fn reach(s: State, a: u32) -> Result<Reached, Refusal>
     ensures { asked_in result ≡ asked_of s a }
 {

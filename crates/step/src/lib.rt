@@ -30,7 +30,8 @@ pub fn step(mut s: State, kind: u32, a: u32, b: u32) -> Stepped
     let net = s.net;
     let flying = s.flying;
     let owns = marks::own_words(net);
-    // To do (docs/DESIGN-PASS.md, 7): the test for 11 by a call that is lent the state; by value the call cost 0.6 µs of 3.8 (docs/DECISIONS.md)
+    // To do (docs/DESIGN-PASS.md, 7): the test for 11 by a call that is lent the state; by value the call cost 0.6 µs of 3.8
+    // (docs/DECISIONS.md)
     let framed = state::frame_holds(net, flying);
     let mut placed = true;
     let n = net.stations as usize;

@@ -6,7 +6,8 @@ use state::State;
 use tally::Tally;
 
 // What a step answers: a number, what the event adds to the tally, and the state.
-// To do (docs/DESIGN-PASS.md, 1): an error in place of the number; the state stays beside it, since a refusal hands it back (`Step.refusing`).
+// To do (docs/DESIGN-PASS.md, 1): an error in place of the number; the state stays beside it, since a refusal hands it back
+// (`Step.refusing`).
 #[derive(Clone, Copy)]
 pub struct Stepped {
     pub answer: u8,

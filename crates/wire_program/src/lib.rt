@@ -32,7 +32,8 @@ fn put_line(line: &mut Line, net: Net, r: HexReading)
 }
 
 // After a piece of the input: 0 or the number that says no, how many bytes of output there are, and the reading that goes on from there.
-// To do (docs/DESIGN-PASS.md, 1): an error in place of the number; the reading stays beside it, since a refusal hands it back (`Passing.passed_by`).
+// To do (docs/DESIGN-PASS.md, 1): an error in place of the number; the reading stays beside it, since a refusal hands it back
+// (`Passing.passed_by`).
 #[derive(Debug, Clone, Copy, PartialEq, Eq)]
 pub struct Passed {
     pub answer: u8,

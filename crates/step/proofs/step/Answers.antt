@@ -148,7 +148,8 @@ bounds-told-subject c = P.subject_few c.loop-slot.post _ c.subject-subject.ensur
 
 pub loop-slot-preserved : goal.loop-slot-preserved
 loop-slot-preserved c =
-    fills_more c.loop-slot.invariant (omega (arith, c.loop-slot.invariant.size, c.loop-slot-test.true)) _ _ _ c.subject-subject.ensures c.first.ensures c.rest-post.ensures
+    fills_more c.loop-slot.invariant (omega (arith, c.loop-slot.invariant.size, c.loop-slot-test.true)) _ _ _
+    c.subject-subject.ensures c.first.ensures c.rest-post.ensures
 
 -- ---- the answer
 pub returns-after-loop-slot : goal.returns-after-loop-slot
@@ -161,7 +162,8 @@ returns-after-loop-slot c =
     (with_station c.args.s c.names_of-names.result.station (stored c.plan_at-plan.result c.kept_table-kept.result))
     (stored c.plan_at-plan.result c.kept_table-kept.result) refl c.loop-i.s _
     c.begun-post.result c.loop-slot.post c.loop-i.i c.count-count.result
-    c.loop-i.invariant c.begun-post.ensures (fills_end put c.loop-slot.invariant (omega (arith, c.loop-slot.invariant.size, c.loop-slot-test.false))) (omega arith) refl
+    c.loop-i.invariant c.begun-post.ensures
+    (fills_end put c.loop-slot.invariant (omega (arith, c.loop-slot.invariant.size, c.loop-slot-test.false))) (omega arith) refl
     c.kept_table-kept.result c.kept_table-kept.ensures refl _ refl).1
 
 pub returns-else-answer-eq0 : goal.returns-else-answer-eq0
