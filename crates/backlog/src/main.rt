@@ -5,6 +5,8 @@
 ghost use Rattle.std.specs.Prelude.{◌≡◌, ◌==◌, IfOk, if◌then◌else◌};
 ghost use Rattle.std.specs.declared.ops.ControlFlow.TheVariants.{Break, Continue};
 
+use backlog_program::Ran;
+use inputs::TakePieces;
 use state::State;
 use std::io;
 use std::io::Input;
@@ -24,26 +26,39 @@ fn answer_backlog(rt: &(impl Input + Print), file: &[u8]) -> io::Result<()> {
     };
     // three numbers for each byte of a piece
     let mut list = [0u32; 196608];
-    let mut ran = backlog_program::begin(net);
-    // nothing is read behind an answer that is not 0
-    inputs::each_piece(
-        &mut rt.reader(),
-        &mut [0; 65536],
-        |n, room|
-            ensures { IfOk result (λ told. told ≡ (if ran.exit.answer == 0 then Continue tt else Break tt)) }
-        {
-            let size = console::put_piece(n, event_lines::is_begun(ran.reading), room);
-            ran = backlog_program::take_lines(ran, &room[..size], &mut list);
-            Ok(if ran.answer == 0 {
-                ControlFlow::Continue(())
-            } else {
-                ControlFlow::Break(())
-            })
-        },
-    )?;
+    let mut taker = Taking {
+        ran: backlog_program::begin(net),
+        list: &mut list,
+    };
+    inputs::each_piece(&mut rt.reader(), &mut [0; 65536], &mut taker)?;
+    let ran = taker.ran;
     let last = ran.state;
     print_backlog(rt, ran.taken, ran.answer, last.flying, ran.tally.settled)?;
     print_stations(rt, last)
+}
+
+// What goes on from piece to piece, and the room that each of them uses anew.
+#[derive(Drop)]
+struct Taking<'a> {
+    ran: Ran,
+    list: &'a mut [u32],
+}
+
+impl TakePieces for Taking<'_> {
+    // nothing is read behind an answer that is not 0
+    ghost takes = { λ before n room result left after.
+        IfOk result (λ told. told ≡ (if after.ran.answer == 0 then Continue tt else Break tt)) };
+
+    fn take_piece(&mut self, n: usize, room: &mut [u8]) -> io::Result<ControlFlow<()>> {
+        let size = console::put_piece(n, event_lines::is_begun(self.ran.reading), room);
+        let ran = backlog_program::take_lines(self.ran, &room[..size], self.list);
+        self.ran = ran;
+        Ok(if ran.answer == 0 {
+            ControlFlow::Continue(())
+        } else {
+            ControlFlow::Break(())
+        })
+    }
 }
 
 // Stays: here and in `events` and `page`, since in a library it would take a writer for five lines, and what a terminal takes

@@ -5,6 +5,8 @@
 ghost use Rattle.std.specs.Prelude.{◌≡◌, IfOk};
 ghost use Rattle.std.specs.declared.ops.ControlFlow.TheVariants.{Continue};
 
+use event_program::Ran;
+use inputs::TakePieces;
 use state::State;
 use std::io;
 use std::io::Input;
@@ -27,28 +29,50 @@ fn answer_events(rt: &(impl Input + Print), file: &[u8]) -> io::Result<()> {
     let mut list = [0u32; 49152];
     let mut trace = [0u64; 49152];
     let mut out = [0u8; 64512];
-    let mut ran = event_program::begin(net);
-    inputs::each_piece(
-        &mut rt.reader(),
-        &mut [0; 16384],
-        |n, room|
-            ensures { IfOk result (λ told. told ≡ Continue tt) }
-        {
-            let size = console::put_piece(n, event_lines::is_begun(ran.reading), room);
-            ran = event_program::run_lines(
-                ran.state,
-                ran.tally,
-                ran.reading,
-                &room[..size],
-                &mut list,
-                &mut trace,
-            );
-            // written before the next read, so that a pipe stays live
-            print_answers(rt, &trace[..ran.size], &mut out)?;
-            Ok(ControlFlow::Continue(()))
-        },
-    )?;
-    print_stations(rt, ran.state)
+    let mut taker = Answering {
+        rt,
+        ran: event_program::begin(net),
+        list: &mut list,
+        trace: &mut trace,
+        out: &mut out,
+    };
+    inputs::each_piece(&mut rt.reader(), &mut [0; 16384], &mut taker)?;
+    print_stations(rt, taker.ran.state)
+}
+
+// What goes on from piece to piece, and the rooms that each of them uses anew.
+#[derive(Drop)]
+struct Answering<'a, P> {
+    rt: &'a P,
+    ran: Ran,
+    list: &'a mut [u32],
+    trace: &'a mut [u64],
+    out: &'a mut [u8],
+}
+
+impl<P: Print> TakePieces for Answering<'_, P> {
+    // to the end of the input
+    ghost takes = { λ before n room result left after. IfOk result (λ told. told ≡ Continue tt) };
+
+    fn take_piece(&mut self, n: usize, room: &mut [u8]) -> io::Result<ControlFlow<()>> {
+        let ran = self.ran;
+        let size = console::put_piece(n, event_lines::is_begun(ran.reading), room);
+        let ran = event_program::run_lines(
+            ran.state,
+            ran.tally,
+            ran.reading,
+            &room[..size],
+            self.list,
+            self.trace,
+        );
+        self.ran = ran;
+        // written before the next read, so that a pipe stays live
+        let rt = self.rt;
+        let trace = &mut *self.trace;
+        let out = &mut *self.out;
+        print_answers(rt, &trace[..ran.size], out)?;
+        Ok(ControlFlow::Continue(()))
+    }
 }
 
 // Stays: here and in `page` and `backlog`, since in a library it would take a writer for five lines, and what a terminal takes

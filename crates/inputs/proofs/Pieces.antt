@@ -12,7 +12,6 @@ use Rattle.std.specs.declared.ops.ControlFlow.TheVariants.{Break, Continue}
 use mathlib.Core.Bool.{true}
 use Rattle.std.proofs.KnownBytes.{Consumes-nil, Consumes-trans, Consumes-kept}
 use Rattle.std.proofs.lemmas.Fn.{FoldsTo-push}
-use denote.Ref.{MutBor}
 use mathlib.Core.Path.{◌≡◌, refl, sym, ap, ◌∙◌, subst}
 use mathlib.Core.List.{append_assoc, append-nil}
 use native.Mathlib.Omega.{arith}
@@ -36,7 +35,7 @@ pub breaks : (x : ControlFlow (Unit {0}) (Unit {0})) → true ≡ is_some (break
 breaks (Continue u) e = cc
 breaks (Break u) e = refl
 
-module _ {F E : Type 0} (step : F → ℕ → MutBor (List ℕ) → Answer E → MutBor (List ℕ) → F → Type 0) (f : F)
+module _ {F E : Type 0} (step : F → ℕ → List ℕ → Answer E → List ℕ → F → Type 0) (f : F)
     (old : Option (List ℕ)) where
   pub record SoFar (new : Option (List ℕ)) (g : F) (i : ℕ) : Type 0 where
     pub turns : List (Turn E)
@@ -51,18 +50,17 @@ module _ {F E : Type 0} (step : F → ℕ → MutBor (List ℕ) → Answer E →
   module _ (mid : Option (List ℕ)) (g : F) (i : ℕ) (s : SoFar mid g i) where
     -- a read that fails takes nothing
     pub read_failed : (new : Option (List ℕ)) (result : Result (Unit {0}) E) → IsErr result → Keeps mid new
-        → HandsOn step f old new result
+        → HandsOn step f g old new result
     read_failed new result e k =
         record {
           turns = s.turns;
-          last = g;
           calls = s.calls;
           bytes = Consumes-kept old mid new (bytes_of s.turns) s.bytes k;
           over = on_err result (IsOver s.turns) e;
         }
 
-    pub counted_out : i ≡ 2 ^ 64 - 1 → HandsOn step f old mid (Ok tt)
-    counted_out e = record { turns = s.turns; last = g; calls = s.calls; bytes = s.bytes; over = counted (s.count ∙ e) }
+    pub counted_out : i ≡ 2 ^ 64 - 1 → HandsOn step f g old mid (Ok tt)
+    counted_out e = record { turns = s.turns; calls = s.calls; bytes = s.bytes; over = counted (s.count ∙ e) }
 
     module _ (new : Option (List ℕ)) (h : F) (t : Turn E) (took : Takes step g t h) (gone : Consumes mid new t.piece) where
       abbrev turns_now : List (Turn E)
@@ -77,16 +75,16 @@ module _ {F E : Type 0} (step : F → ℕ → MutBor (List ℕ) → Answer E →
             count = omega (arith, s.count, length-append s.turns (t ∷ []));
           }
 
-      pub all_handed : (result : Result (Unit {0}) E) → OnOk result (IsOver turns_now) → HandsOn step f old new result
+      pub all_handed : (result : Result (Unit {0}) E) → OnOk result (IsOver turns_now) → HandsOn step f h old new result
       unfolding turn_more
       all_handed result over =
-          let m = turn_more in record { turns = turns_now; last = h; calls = m.calls; bytes = m.bytes; over = over }
+          let m = turn_more in record { turns = turns_now; calls = m.calls; bytes = m.bytes; over = over }
 
-      pub call_failed : (result : Result (Unit {0}) E) → IsErr result → HandsOn step f old new result
+      pub call_failed : (result : Result (Unit {0}) E) → IsErr result → HandsOn step f h old new result
       call_failed result e = all_handed result (on_err result (IsOver turns_now) e)
 
-      pub enough : t.answer ≡ Ok (Break tt) → HandsOn step f old new (Ok tt)
+      pub enough : t.answer ≡ Ok (Break tt) → HandsOn step f h old new (Ok tt)
       enough e = all_handed (Ok tt) (told s.turns t refl e)
 
-      pub input_ended : t.piece ≡ [] → HandsOn step f old new (Ok tt)
+      pub input_ended : t.piece ≡ [] → HandsOn step f h old new (Ok tt)
       input_ended e = all_handed (Ok tt) (ended s.turns t refl e)

@@ -6,7 +6,6 @@ use Rattle.std.specs.declared.result.Result.{Result}
 use Rattle.std.specs.declared.option.Option.{Option}
 use Rattle.std.specs.declared.ops.ControlFlow.{ControlFlow}
 use Rattle.std.specs.declared.ops.ControlFlow.TheVariants.{Break}
-use denote.Ref.{MutBor}
 
 abbrev pub Answer : Type 0 → Type 0
 Answer E = Result (ControlFlow (Unit {0}) (Unit {0})) E
@@ -26,18 +25,18 @@ pub data IsOver {E : Type 0} (turns : List (Turn E)) : Type 0 where
   told : (before : List (Turn E)) (t : Turn E) → turns ≡ before ++ t ∷ [] → t.answer ≡ Ok (Break tt) → IsOver turns
   counted : length turns ≡ 2 ^ 64 - 1 → IsOver turns
 
-module _ {F E : Type 0} (step : F → ℕ → MutBor (List ℕ) → Answer E → MutBor (List ℕ) → F → Type 0) where
+module _ {F E : Type 0} (step : F → ℕ → List ℕ → Answer E → List ℕ → F → Type 0) where
   -- a call in the state f: the piece stood at the room's front
   pub record Takes (f : F) (t : Turn E) (g : F) : Type 0 where
     pub count : ℕ
-    pub room : MutBor (List ℕ)
-    pub left : MutBor (List ℕ)
-    pub front : t.piece ≡ take count room.now
+    pub room : List ℕ
+    pub left : List ℕ
+    pub front : t.piece ≡ take count room
     pub called : step f count room t.answer left g
 
-  pub record HandsOn (f : F) (old new : Option (List ℕ)) (result : Result (Unit {0}) E) : Type 0 where
+  -- from the state f to the state g
+  pub record HandsOn (f g : F) (old new : Option (List ℕ)) (result : Result (Unit {0}) E) : Type 0 where
     pub turns : List (Turn E)
-    pub last : F
-    pub calls : FoldsTo Takes f turns last
+    pub calls : FoldsTo Takes f turns g
     pub bytes : Consumes old new (bytes_of turns)
     pub over : OnOk result (IsOver turns)

@@ -4,6 +4,8 @@
 ghost use Rattle.std.specs.Prelude.{◌≡◌, IfOk};
 ghost use Rattle.std.specs.declared.ops.ControlFlow.TheVariants.{Continue};
 
+use event_program::Ran;
+use inputs::TakePieces;
 use page_program::Answers;
 use state::State;
 use std::io;
@@ -22,32 +24,49 @@ fn make_page(rt: &(impl Input + Print), file: &[u8]) -> io::Result<()> {
         Ok(net) => net,
         Err(error) => return refuse(rt, error.number()),
     };
-    let mut answers = Answers::default();
     let mut list = [0u32; 24576];
     let mut trace = [0u64; 24576];
-    let mut ran = event_program::begin(net);
-    inputs::each_piece(
-        &mut rt.reader(),
-        &mut [0; 8192],
-        |n, room|
-            ensures { IfOk result (λ told. told ≡ Continue tt) }
-        {
-            let size = console::put_piece(n, event_lines::is_begun(ran.reading), room);
-            ran = event_program::run_lines(
-                ran.state,
-                ran.tally,
-                ran.reading,
-                &room[..size],
-                &mut list,
-                &mut trace,
-            );
-            // what `events` would print for them is counted and not written
-            answers = page_program::count_answers(&trace[..ran.size], answers);
-            Ok(ControlFlow::Continue(()))
-        },
-    )?;
-    print_counts(rt, answers)?;
-    print_stations(rt, ran.state, net.stations)
+    let mut taker = Counting {
+        answers: Answers::default(),
+        ran: event_program::begin(net),
+        list: &mut list,
+        trace: &mut trace,
+    };
+    inputs::each_piece(&mut rt.reader(), &mut [0; 8192], &mut taker)?;
+    print_counts(rt, taker.answers)?;
+    print_stations(rt, taker.ran.state, net.stations)
+}
+
+// What goes on from piece to piece, and the rooms that each of them uses anew.
+#[derive(Drop)]
+struct Counting<'a> {
+    answers: Answers,
+    ran: Ran,
+    list: &'a mut [u32],
+    trace: &'a mut [u64],
+}
+
+impl TakePieces for Counting<'_> {
+    // to the end of the input
+    ghost takes = { λ before n room result left after. IfOk result (λ told. told ≡ Continue tt) };
+
+    fn take_piece(&mut self, n: usize, room: &mut [u8]) -> io::Result<ControlFlow<()>> {
+        let ran = self.ran;
+        let size = console::put_piece(n, event_lines::is_begun(ran.reading), room);
+        let ran = event_program::run_lines(
+            ran.state,
+            ran.tally,
+            ran.reading,
+            &room[..size],
+            self.list,
+            self.trace,
+        );
+        self.ran = ran;
+        // what `events` would print for them is counted and not written
+        let before = self.answers;
+        self.answers = page_program::count_answers(&self.trace[..ran.size], before);
+        Ok(ControlFlow::Continue(()))
+    }
 }
 
 // Stays: here and in `events` and `backlog`, since in a library it would take a writer for five lines, and what a terminal takes

@@ -4,6 +4,8 @@
 ghost use Rattle.std.specs.Prelude.{◌≡◌, IfOk};
 ghost use Rattle.std.specs.declared.ops.ControlFlow.TheVariants.{Continue};
 
+use hex_lines::HexReading;
+use inputs::TakePieces;
 use net::Net;
 use std::io;
 use std::io::Input;
@@ -31,20 +33,37 @@ fn print_sheet(rt: &impl Print, file: &[u8]) -> io::Result<()> {
 }
 
 fn pass_letters(rt: &(impl Input + Print), net: Net) -> io::Result<()> {
-    let mut reading = hex_lines::begin_hex();
     let mut out = [0u8; 65536];
-    inputs::each_piece(
-        &mut rt.reader(),
-        &mut [0; 1024],
-        |n, room|
-            ensures { IfOk result (λ told. told ≡ Continue tt) }
-        {
-            let size = console::put_piece(n, hex_lines::is_hex_begun(reading), room);
-            let passed = wire_program::run_letters(net, reading, &room[..size], &mut out);
-            reading = passed.reading;
-            // written before the next read, so that a pipe stays live
-            rt.write_all(&out[..passed.written])?;
-            Ok(ControlFlow::Continue(()))
-        },
-    )
+    let mut taker = Passing {
+        rt,
+        net,
+        reading: hex_lines::begin_hex(),
+        out: &mut out,
+    };
+    inputs::each_piece(&mut rt.reader(), &mut [0; 1024], &mut taker)
+}
+
+// What goes on from piece to piece, and the room that each of them uses anew.
+#[derive(Drop)]
+struct Passing<'a, P> {
+    rt: &'a P,
+    net: Net,
+    reading: HexReading,
+    out: &'a mut [u8],
+}
+
+impl<P: Print> TakePieces for Passing<'_, P> {
+    // to the end of the input
+    ghost takes = { λ before n room result left after. IfOk result (λ told. told ≡ Continue tt) };
+
+    fn take_piece(&mut self, n: usize, room: &mut [u8]) -> io::Result<ControlFlow<()>> {
+        let size = console::put_piece(n, hex_lines::is_hex_begun(self.reading), room);
+        let rt = self.rt;
+        let out = &mut *self.out;
+        let passed = wire_program::run_letters(self.net, self.reading, &room[..size], out);
+        self.reading = passed.reading;
+        // written before the next read, so that a pipe stays live
+        rt.write_all(&out[..passed.written])?;
+        Ok(ControlFlow::Continue(()))
+    }
 }
