@@ -85,9 +85,11 @@ pub record Demand1 : Type 0 where
   -- A sheet read has the number n exactly if document 01's list gives n for its bytes: 1, 2, 3, 4, 5 field by field, else 0.
   pub sheet_read : (bytes : List ℕ) → T (are_bytes bytes) → (c : ReadsSheet bytes) (n : ℕ)
       → (SheetValues.number_of c.answer ≡ n) ↔ SheetRead bytes n
-  -- A sheet refused gives no network: the value that stands for none is zero throughout, and every call refuses it with 11.
+  -- A sheet refused gives no network: the answer holds none, whatever it is; and the value that stands for none in the definitions is zero
+  -- throughout, which every call refuses with 11.
   pub sheet_refused : (bytes : List ℕ) → T (are_bytes bytes) → (c : ReadsSheet bytes) → (SheetValues.number_of c.answer ≡ 0 → ⊥)
-      → (SheetValues.net_in c.answer ≡ SheetValues.zero_net) × BadNet (SheetValues.net_in c.answer)
+      → ((net : Net) → c.answer ≡ Ok net → ⊥)
+      × (SheetValues.net_in c.answer ≡ SheetValues.zero_net) × BadNet (SheetValues.net_in c.answer)
   -- A sheet written: 11 for a network that breaks the sheet rules or has unused room not zero, 10 for a short output, else 0.
   pub sheet_written : (net : Net) (old : List ℕ) (c : WritesSheet net old) (n : ℕ)
       → (Sheet.wrote_number c.answer ≡ n) ↔ SheetWritten net old n
@@ -115,10 +117,10 @@ pub record Demand1 : Type 0 where
       → (c.answer ≡ refusing c.answer.answer s) × (c.tally ≡ before)
   -- The same of the two calls over many events.
   pub many_events : Many.Demand1
-  -- The reach: 11, 6, 7, else 0; beside a refusal there is no reach. It is given a copy of the state and is lent nothing.
+  -- The reach: 11, 6, 7, else 0; a refusal's answer holds no reach. It is given a copy of the state and is lent nothing.
   pub reach_number : (s : State) (a : ℕ) (c : AsksReach s a) (n : ℕ) → ((asked_in c.answer).answer ≡ n) ↔ Reach s a n
   pub reach_refused : (s : State) (a : ℕ) (c : AsksReach s a) → ((asked_in c.answer).answer ≡ 0 → ⊥)
-      → (asked_in c.answer).reached ≡ no_reach
+      → ((r : Reached) → c.answer ≡ Ok r → ⊥) × ((asked_in c.answer).reached ≡ no_reach)
   -- The report, which is given a copy of the state too: 11, 6, 7, 10, else 0; a refusal touches no byte of the lent output.
   pub report_number : (s : State) (a : ℕ) (old : List ℕ) (c : AsksReport s a old) (n : ℕ) → (number_in c.answer ≡ n) ↔ Report s a old n
   pub report_refused : (s : State) (a : ℕ) (old : List ℕ) (c : AsksReport s a old) → (number_in c.answer ≡ 0 → ⊥) → c.output ≡ old
@@ -130,7 +132,8 @@ pub demand1 : Demand1
 demand1 =
     record {
       sheet_read = λ bytes b c. sheet_numbers bytes b c.answer c.promise;
-      sheet_refused = λ bytes b c. refused_none bytes b c.answer c.promise;
+      sheet_refused = λ bytes b c h.
+          let none = refused_none bytes b c.answer c.promise h in (λ net e. h (ap SheetValues.number_of e), none.0, none.1);
       sheet_written = λ net old c. Written.sheet_write_numbers net old c.answer c.promise;
       sheet_output = λ net old c. Written.sheet_write_keeps net old c.answer c.promise c.output c.promise_output;
       letter_read = λ net bytes b c. letter_numbers_lem net bytes b c.answer c.promise;
@@ -147,7 +150,10 @@ demand1 =
       );
       many_events = Many.demand1;
       reach_number = λ s a c. States.reach_numbers s a (asked_in c.answer) c.promise;
-      reach_refused = λ s a c. States.reach_none s a (asked_in c.answer) c.promise;
+      reach_refused = λ s a c h. (
+        λ r e. h (ap (λ (q : Result Reached Refusal). (asked_in q).answer) e),
+        States.reach_none s a (asked_in c.answer) c.promise h,
+      );
       report_number = λ s a old c. States.report_numbers s a old (number_in c.answer) c.promise;
       report_refused = λ s a old c. States.report_keeps s a old (number_in c.answer) c.promise c.output c.promise_output;
       rules_number = λ w e n. States.rules_numbers w e n;
