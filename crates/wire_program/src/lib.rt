@@ -97,7 +97,8 @@ fn put_file(line: &mut Line, file: &[u8])
         Ok(net) => put_network(line, net),
         Err(error) => {
             line.word(b"sheet ");
-            put_number_line(line, error.number());
+            line.number(error.number() as u64);
+            line.word(b"\n"); // a refused sheet has no more
         }
     }
 }

@@ -2,7 +2,7 @@ use mathlib.Core.Path.{ap, ◌∙◌, subst}
 use mathlib.Core.List.{List, ◌++◌}
 use Prim.Native.Nat.{ℕ, ◌≤◌}
 use lib.ListN.{length}
-use Rattle.text.proofs.Lines.{adds_put, adds_more, adds_same}
+use Rattle.text.proofs.Lines.{adds_put, adds_more, adds_same, adds_then}
 use Rattle.console.specs.Sheets.{refusal_text}
 use Rattle.wire_program.specs.Line.{sheet_word, sheet_most}
 use Rattle.wire_program.proofs.Written.{opened_good, opened_refused, sheet_few, refused_few}
@@ -20,10 +20,11 @@ returns-in-Ok c =
     }
 
 pub returns-in-Err : goal.returns-in-Err
+unfolding refusal_text
 returns-in-Err c =
     let same = ap (λ (n : ℕ). sheet_word ++ refusal_text n) c.number.ensures
     ∙ opened_refused c.args.file.now c.in-Err.error c.in-Err.ensures in
     record {
-      text = adds_same same (adds_more (adds_put c.word.ensures) c.put_number_line.ensures.text);
+      text = adds_same same (adds_more (adds_put c.word.ensures) (adds_then (adds_put c.number-in-Err.ensures) c.word-in-Err.ensures));
       few = subst (λ (l : List ℕ). length l ≤ sheet_most) same (refused_few c.number.result c.number.type_inv);
     }
