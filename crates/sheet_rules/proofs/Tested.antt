@@ -1,11 +1,10 @@
 -- The sheet rules, as the code tests them.
-use Rattle.std.specs.Prelude.{Option, None, Some, if◌then◌else◌}
+use Rattle.std.specs.Prelude.{Option, if◌then◌else◌}
 use Prim.Native.Nat.{ℕ, zero, suc, ◌+◌, ◌-◌, ◌≤◌, ◌<◌, min}
 use mathlib.Core.Bool.{Bool, true, false, ◌&&◌}
 use mathlib.Core.Path.{◌≡◌, sym, ap, ap₂, ◌∙◌, subst, subst⁻¹}
 use mathlib.Core.List.{List}
 use native.Mathlib.Decide.{dec_lt}
-use native.Mathlib.Numerals.{add-one}
 use native.Mathlib.Omega.{arith}
 use lib.Dec.{T, ltb}
 use lib.ListN.{length, get_or, drop, length-drop}
@@ -19,17 +18,12 @@ use Rattle.net.specs.Network.{Ends, ends}
 use Rattle.net.specs.Values.{network_of, place_ends, link_count, is_zero}
 use Rattle.sheet_rules.specs.Rules.{precedes, ends_hold, link_holds, sheet_holds}
 use Rattle.sheet_rules.specs.Values.{net_holds}
-use Rattle.sheet_rules.specs.Steps.{follows, place_test}
+use Rattle.sheet_rules.specs.Steps.{before_at, follows, place_test}
 use Rattle.net.specs.Sizes.{station_room, link_room}
 use Rattle.net.proofs.ValueLaws.{stations_of, links_of_lem, ends_of}
 use Rattle.sheet_rules.proofs.Rules.{after}
 
 -- ---- the links, one after the other
--- the ends of the link before k, if there is one
-abbrev pub before_at : Net → ℕ → Option (ℕ × ℕ)
-before_at net zero = None
-before_at net (suc k) = Some (get_or net.low k 0, get_or net.high k 0)
-
 module _ (net : Net) where
   link_is : (k : ℕ) → k < link_count net
       → link_holds (network_of net) k ≡ follows (min net.stations station_room) (before_at net k) (get_or net.low k 0) (get_or net.high k 0)
@@ -69,9 +63,6 @@ module _ (net : Net) where
           let l : link_count net ≤ k = omega arith in
           let g : net.links ≤ k = omega arith in
           simp (le-ltb k (link_count net) l, le-ltb k net.links g)
-
-  pub before_more : (k : ℕ) → Some (get_or net.low k 0, get_or net.high k 0) ≡ before_at net (k + 1)
-  before_more k = ap (before_at net) (sym (add-one k))
 
   -- ---- the whole network
   pub few_stations : net.stations < 1 → false ≡ net_holds net

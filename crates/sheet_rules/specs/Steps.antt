@@ -1,5 +1,13 @@
 -- What the private steps of the code answer.
 use Rattle.std.specs.Prelude.{ℕ, Bool, true, ◌&&◌, ◌||◌, Option, None, Some, eqb, ltb, if◌then◌else◌}
+use Prim.Native.Nat.{zero, suc}
+use lib.ListN.{get_or}
+use Rattle.net.specs.declared.Net.{Net}
+
+-- the ends of the link before place k, if there is one
+abbrev pub before_at : Net → ℕ → Option (ℕ × ℕ)
+before_at net zero = None
+before_at net (suc k) = Some (get_or net.low k 0, get_or net.high k 0)
 
 -- ends that come after those of the link before, if there is one
 abbrev pub rises : Option (ℕ × ℕ) → ℕ → ℕ → Bool
