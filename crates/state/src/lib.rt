@@ -2,7 +2,7 @@
 // Inner doors: the calls are in docs/CALLS.md.
 #![tactic(auto)]
 
-ghost use Rattle.std.specs.Prelude.{◌≡◌, true, ◌&&◌, ◌||◌, min, ◌≤◌, leb, eqb, if◌then◌else◌};
+ghost use Rattle.std.specs.Prelude.{◌≡◌, true, ◌&&◌, ◌||◌, length, min, replicate, ◌≤◌, leb, eqb, if◌then◌else◌};
 ghost use Rattle.sheet_rules.specs.Values.{net_holds};
 ghost use Rattle.state.specs.State.{is_request, is_no_letter, place_test, state_holds, Fits, Sized};
 ghost use Rattle.net.specs.Values.{network_of};
@@ -161,6 +161,13 @@ fn down_station(net: Net) -> Station
     }
 }
 
+// Each of these stations becomes the one that is given.
+fn fill_stations(stations: &mut [Station], down: Station)
+    ensures { stations.new ≡ replicate (length stations.old) down }
+{
+    stations.fill(down);
+}
+
 // The state with every station down and no letter in flight; 11 for a bad network, with a state that no call accepts.
 // Promise: equals `Beginning.begun_of`: 0 and the state in which every station is down and no letter is in flight; 11 for a bad network,
 // with a state that no call accepts.
@@ -184,7 +191,7 @@ pub fn fresh(net: Net) -> Begun
     }
     let down = down_station(net);
     let n = net.stations as usize;
-    stations[..n].fill(down);
+    fill_stations(&mut stations[..n], down);
     Begun {
         answer: 0,
         state: State {

@@ -97,8 +97,9 @@ fn put_file(line: &mut Line, file: &[u8])
         Ok(net) => put_network(line, net),
         Err(error) => {
             line.word(b"sheet ");
+            // Stays: no call of `put_number_line`, so that an edit can end this line alone by a space (`no_newline_in_refusal`)
             line.number(error.number() as u64);
-            line.word(b"\n"); // a refused sheet has no more
+            line.word(b"\n"); // where a refused sheet's line ends
         }
     }
 }

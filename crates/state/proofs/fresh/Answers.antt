@@ -15,8 +15,8 @@ pub slice_bounds-stations-end : goal.slice_bounds-stations-end
 slice_bounds-stations-end c =
     good_stations c.args.net c.keeps_sheet_rules.result c.keeps_sheet_rules.ensures c.if-not-keeps_sheet_rules.false
 
-pub slice_bounds-fill-end : goal.slice_bounds-fill-end
-slice_bounds-fill-end c =
+pub slice_bounds-fill_stations-end : goal.slice_bounds-fill_stations-end
+slice_bounds-fill_stations-end c =
     let few = good_stations c.args.net c.keeps_sheet_rules.result c.keeps_sheet_rules.ensures c.if-not-keeps_sheet_rules.false in
     omega (
       arith,
@@ -33,4 +33,4 @@ returns c =
     let room : c.args.net.stations ≤ length old = omega (arith, few, length-replicate station_room c.no_station-nobody.result) in
     begun_good c.args.net _ c.keeps_sheet_rules.ensures _ _ c.no_station-nobody.ensures u
     _ _ c.args.net.stations c.if-not-keeps_sheet_rules.false refl c.down_station-down.ensures
-    (filled_with c.down_station-down.result old _ c.args.net.stations room (c.fill.ensures.after (λ y e. e)))
+    (filled_with c.down_station-down.result old _ c.args.net.stations room c.fill_stations.ensures)
