@@ -45,6 +45,7 @@ pub trait TakePieces {
     ghost takes: { Self → ℕ → List ℕ → Answer Error → List ℕ → Self → Type 0 };
 
     // Takes the piece of so many bytes at the room's front; none, where the input ends. It may break off: then no further piece comes.
+    // Promise: what the call comes to is one of what `takes` says, at every count and room.
     fn take_piece(&mut self, n: usize, room: &mut [u8]) -> io::Result<ControlFlow<()>>
         ensures { takes self.old n room.old result room.new self.new };
 }
