@@ -13,7 +13,7 @@ use net::{MOST_LINKS, MOST_STATIONS, Net};
 fn link_follows(stations: u8, before: Option<(u8, u8)>, low: u8, high: u8) -> bool
     ensures { result ≡ follows stations before low high }
 {
-    // Stays: it leaves at the first test that fails; as one `&&` it was computed without jumps, and `wire` took up to 1.4 times the time on letters
+    // Stays: it leaves at the first test that fails; as one `&&`, without jumps, `wire` took an eighth more time on letters
     if high <= low || stations <= high {
         return false;
     }
