@@ -182,11 +182,12 @@ fn replied_words(w: Words, k: u8) -> Words
 fn plan_answer(settled: u64, here: Here) -> Plan
     ensures { result ≡ done_plan 0 here.marks (effect_act here.condition here.link here.counter Answers) (counting settled 0 0) }
 {
+    let after = requested_words(here.marks, here.link); // named once: to name it twice computes it twice
     let down = !counters::is_even(here.counter);
     let others = sets::put(u64::MAX, here.link, false);
     Plan {
         condition: here.condition,
-        marks: requested_words(here.marks, here.link),
+        marks: after,
         knows: down,
         sends: Sending {
             requests: 0,
@@ -197,12 +198,7 @@ fn plan_answer(settled: u64, here: Here) -> Plan
             link: here.link,
         },
         counts: counted(settled, 0),
-        ..turning(
-            here.condition,
-            requested_words(here.marks, here.link),
-            0,
-            false,
-        )
+        ..turning(here.condition, after, 0, false)
     }
 }
 
