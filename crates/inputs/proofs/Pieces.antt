@@ -1,7 +1,7 @@
 -- The turns so far, one turn more, and each way out.
-use Rattle.std.specs.Prelude.{ℕ, ◌+◌, List, [], ◌∷◌, ◌++◌, length, Ok, Err, OnOk}
+use Rattle.std.specs.Prelude.{ℕ, ◌+◌, ◌-◌, ◌^◌, List, [], ◌∷◌, ◌++◌, length, Ok, Err, OnOk}
 use Rattle.std.specs.List.{FoldsTo}
-use Rattle.std.specs.Io.KnownBytes.{Consumes}
+use Rattle.std.specs.Io.KnownBytes.{Consumes, Keeps}
 use Rattle.std.specs.declared.result.Result.{Result}
 use Rattle.std.specs.declared.option.Option.{Option}
 use Rattle.std.specs.Result.{IsErr}
@@ -10,13 +10,13 @@ use Rattle.std.specs.ControlFlow.{break_value}
 use Rattle.std.specs.declared.ops.ControlFlow.{ControlFlow}
 use Rattle.std.specs.declared.ops.ControlFlow.TheVariants.{Break, Continue}
 use mathlib.Core.Bool.{true}
-use Rattle.std.proofs.KnownBytes.{Consumes-nil, Consumes-trans}
+use Rattle.std.proofs.KnownBytes.{Consumes-nil, Consumes-trans, Consumes-kept}
 use Rattle.std.proofs.lemmas.Fn.{FoldsTo-push}
 use mathlib.Core.Path.{◌≡◌, refl, sym, ap, ◌∙◌, subst}
 use mathlib.Core.List.{append_assoc, append-nil}
 use native.Mathlib.Omega.{arith}
 use lib.ListN.{length-append}
-use Rattle.inputs.specs.Pieces.{Turn, Answer, Takes, HandsOn, IsOver, ended, told, bytes_of}
+use Rattle.inputs.specs.Pieces.{Turn, Answer, Takes, HandsOn, IsOver, ended, told, counted, bytes_of}
 
 pub bytes_more : {E : Type 0} (turns : List (Turn E)) (t : Turn E) → bytes_of turns ++ t.piece ≡ bytes_of (turns ++ t ∷ [])
 unfolding bytes_of
@@ -48,6 +48,20 @@ module _ {F E : Type 0} (step : F → ℕ → List ℕ → Answer E → List ℕ
       record { turns = []; calls = refl; bytes = subst (Consumes old old) (sym (none_yet E)) (Consumes-nil old); count = refl }
 
   module _ (mid : Option (List ℕ)) (g : F) (i : ℕ) (s : SoFar mid g i) where
+    -- a read that fails takes nothing
+    pub read_failed : (new : Option (List ℕ)) (result : Result (Unit {0}) E) → IsErr result → Keeps mid new
+        → HandsOn step f g old new result
+    read_failed new result e k =
+        record {
+          turns = s.turns;
+          calls = s.calls;
+          bytes = Consumes-kept old mid new (bytes_of s.turns) s.bytes k;
+          over = on_err result (IsOver s.turns) e;
+        }
+
+    pub counted_out : i ≡ 2 ^ 64 - 1 → HandsOn step f g old mid (Ok tt)
+    counted_out e = record { turns = s.turns; calls = s.calls; bytes = s.bytes; over = counted (s.count ∙ e) }
+
     module _ (new : Option (List ℕ)) (h : F) (t : Turn E) (took : Takes step g t h) (gone : Consumes mid new t.piece) where
       abbrev turns_now : List (Turn E)
       turns_now = s.turns ++ t ∷ []

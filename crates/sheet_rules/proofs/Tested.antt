@@ -1,10 +1,11 @@
 -- The sheet rules, as the code tests them.
-use Rattle.std.specs.Prelude.{Option, if◌then◌else◌}
+use Rattle.std.specs.Prelude.{Option, Some, if◌then◌else◌}
 use Prim.Native.Nat.{ℕ, zero, suc, ◌+◌, ◌-◌, ◌≤◌, ◌<◌, min}
 use mathlib.Core.Bool.{Bool, true, false, ◌&&◌}
 use mathlib.Core.Path.{◌≡◌, sym, ap, ap₂, ◌∙◌, subst, subst⁻¹}
 use mathlib.Core.List.{List}
 use native.Mathlib.Decide.{dec_lt}
+use native.Mathlib.Numerals.{add-one}
 use native.Mathlib.Omega.{arith}
 use lib.Dec.{T, ltb}
 use lib.ListN.{length, get_or, drop, length-drop}
@@ -63,6 +64,10 @@ module _ (net : Net) where
           let l : link_count net ≤ k = omega arith in
           let g : net.links ≤ k = omega arith in
           simp (le-ltb k (link_count net) l, le-ltb k net.links g)
+
+  -- behind place k, the link before is that at k
+  pub before_more : (k : ℕ) → Some (get_or net.low k 0, get_or net.high k 0) ≡ before_at net (k + 1)
+  before_more k = ap (before_at net) (sym (add-one k))
 
   -- ---- the whole network
   pub few_stations : net.stations < 1 → false ≡ net_holds net
